@@ -1,0 +1,26 @@
+# Targets: see `make help`. The toolchain is the Rattle kit; its command is rt.
+.DEFAULT_GOAL := help
+.PHONY: help run test check fmt
+
+help:
+	@echo "make run    what is proved so far, in one line"
+	@echo "make test   the whole gate, from nothing; its last line is 'N passed, 0 failed'"
+	@echo "make check  prove what changed since the last check"
+	@echo "make fmt    put every .rt and .antt file into the layout"
+
+# Every target that needs the kit asks for it here, so that a newcomer reads what is missing.
+.PHONY: kit
+kit:
+	@command -v rt >/dev/null || { echo "make: the command 'rt' is missing: it comes with the Rattle kit (rattle-kit-5)"; exit 1; }
+
+run: kit
+	@rt check >/dev/null 2>&1 && echo "proved so far: $$(scripts/proved)" || { echo "make run: the proofs do not check; 'make check' says why"; exit 1; }
+
+test: kit
+	@scripts/gate
+
+check: kit
+	@rt check
+
+fmt: kit
+	@rt fmt

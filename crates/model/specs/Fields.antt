@@ -1,0 +1,210 @@
+-- Fields of books and tables (document 01, "Fields"), read in file order with refusals 2 to 9 and 11. One reading serves both
+-- kinds of file. Names, rows and state fields are lists of bytes; what a state field means is in Tables. Assumes nothing.
+use mathlib.Core.Bool.{Bool, true, false, _&&_, _||_, not, cond}
+use mathlib.Core.List.{List, [], _∷_, _++_}
+use Prim.Native.Nat.{ℕ, zero, suc, _+_, _*_}
+use lib.Dec.{eqb, ltb, leb}
+use lib.ListN.{length, getD, take, drop}
+use Rattle.model.specs.Lists.{all, before, lastOr}
+use Rattle.model.specs.Limits.{name-limit, name-bytes, book-rows, row-limit, state-limit, setting-limit, when, firstOf}
+use Rattle.model.specs.Limits.{cut-off, misplaced, unfinished, bad-name, name-order, too-many, bad-class, bad-row, bad-state}
+
+-- a class: kind 0 context, with k and h; 1 seen set; 2 last names, with j
+pub record Class : Type 0 where
+  pub kind : ℕ
+  pub first : ℕ
+  pub second : ℕ
+
+abbrev pub class-of : ℕ → ℕ → ℕ → Class
+class-of kind first second = record { kind = kind; first = first; second = second }
+
+-- the class of a book without a class field: context, k = 2, h = 1
+abbrev pub default-class : Class
+default-class = class-of 0 2 1
+
+-- context: k from 1 to 8, h from 1 to k
+abbrev pub contextOk : ℕ → ℕ → Bool
+contextOk k h = (leb 1 k && leb k setting-limit) && (leb 1 h && leb h k)
+
+-- the settings that go with a kind
+abbrev pub settingsOk : ℕ → ℕ → ℕ → Bool
+settingsOk kind x y =
+    (eqb kind 0 && contextOk x y)
+    || ((eqb kind 1 && (eqb x 0 && eqb y 0)) || (eqb kind 2 && (leb x setting-limit && eqb y 0)))
+
+-- a class field's bytes: kind and two settings
+abbrev pub classOk : List ℕ → Bool
+classOk body = eqb (length body) 3 && settingsOk (getD body 0 0) (getD body 1 0) (getD body 2 0)
+
+abbrev pub classFrom : List ℕ → Class
+classFrom body = class-of (getD body 0 0) (getD body 1 0) (getD body 2 0)
+
+-- a name's first byte: an ASCII letter, `_` or `:`
+abbrev pub startsName : ℕ → Bool
+startsName b = ((leb 65 b && leb b 90) || (leb 97 b && leb b 122)) || (eqb b 95 || eqb b 58)
+
+-- a later byte of a name: also a digit, `.` or `-`
+abbrev pub continuesName : ℕ → Bool
+continuesName b = startsName b || ((leb 48 b && leb b 57) || (eqb b 46 || eqb b 45))
+
+-- which names are allowed
+unfoldable pub nameOk : List ℕ → Bool
+nameOk [] = false
+nameOk (b ∷ bs) = leb (length (b ∷ bs)) name-bytes && (startsName b && all continuesName bs)
+
+-- each entry is the number of one of n names
+unfoldable pub allBelow : ℕ → List ℕ → Bool
+allBelow n [] = true
+allBelow n (x ∷ xs) = ltb x n && allBelow n xs
+
+-- arcs of three bytes, a name's number and a two-byte target, the names ascending strictly from `next` on and below n
+-- (the first argument counts down and is at least the number of bytes)
+unfoldable pub arcsOk : ℕ → ℕ → ℕ → List ℕ → Bool
+arcsOk zero n next s = true
+arcsOk (suc f) n next [] = true
+arcsOk (suc f) n next (a ∷ s) = leb 2 (length s) && ((ltb a n && leb next a) && arcsOk f n (suc a) (drop 2 s))
+
+-- a state field's bytes: 1 accepting or 0 not, then its arcs
+unfoldable pub stateOk : ℕ → List ℕ → Bool
+stateOk n [] = false
+stateOk n (b ∷ s) = leb b 1 && arcsOk (length s) n 0 s
+
+-- the two kinds of file
+abbrev pub FileKind : Type 0
+FileKind = Bool
+
+abbrev pub book : FileKind
+book = false
+
+abbrev pub table : FileKind
+table = true
+
+-- a file as read so far: its place in the order (0 a name is due, 1 names met, 2 the class met, 3 rows or states met), its
+-- names, its class, and its items: a book's rows or a table's state fields
+pub record File : Type 0 where
+  pub stage : ℕ
+  pub names : List (List ℕ)
+  pub class-is : Class
+  pub items : List (List ℕ)
+
+abbrev pub file : ℕ → List (List ℕ) → Class → List (List ℕ) → File
+file stage names class items = record { stage = stage; names = names; class-is = class; items = items }
+
+-- a file of which nothing is read yet; a book that names no class keeps the one given here
+abbrev pub unread : Class → File
+unread class = file 0 [] class []
+
+-- which mark may come next: 01 name, 02 class (at most one in a book, exactly one in a table), 03 row, 04 state
+abbrev pub mayCome : FileKind → ℕ → ℕ → Bool
+mayCome kind stage mark =
+    (eqb mark 1 && leb stage 1)
+    || ((eqb mark 2 && eqb stage 1) || cond kind (eqb mark 4 && leb 2 stage) (eqb mark 3 && leb 1 stage))
+
+-- the name stands above the last one before it, if there is one
+unfoldable pub above : List (List ℕ) → List ℕ → Bool
+above [] b = true
+above (n ∷ names) b = before (lastOr n names) b
+
+-- one more name: 5, 6 and 7, 0 for no fault
+unfoldable pub nameFault : File → List ℕ → ℕ
+nameFault f body =
+    firstOf (when (not (nameOk body)) bad-name)
+    (firstOf (when (not (above (f .names) body)) name-order)
+    (when (leb name-limit (length (f .names))) too-many))
+
+-- a class: 8
+unfoldable pub classFault : List ℕ → ℕ
+classFault body = when (not (classOk body)) bad-class
+
+-- a row's bytes over n names: at most so many entries, each a name's number
+abbrev pub rowOk : ℕ → List ℕ → Bool
+rowOk n body = leb (length body) row-limit && allBelow n body
+
+-- one more row: 7 and 9
+unfoldable pub rowFault : File → List ℕ → ℕ
+rowFault f body =
+    firstOf (when (leb book-rows (length (f .items))) too-many)
+    (when (not (rowOk (length (f .names)) body)) bad-row)
+
+-- one more state: 7 and 11
+unfoldable pub stateFault : File → List ℕ → ℕ
+stateFault f body =
+    firstOf (when (leb state-limit (length (f .items))) too-many)
+    (when (not (stateOk (length (f .names)) body)) bad-state)
+
+-- the mark decides how a field is read: one choice for each of 01 to 04, the last also for every other mark
+abbrev pub byMark : {A : Type 0} → ℕ → A → A → A → A → A
+byMark mark name class row state = cond (eqb mark 1) name (cond (eqb mark 2) class (cond (eqb mark 3) row state))
+
+-- a field judged by the refusals that concern it, in ascending number
+unfoldable pub fieldFault : FileKind → File → ℕ → List ℕ → ℕ
+fieldFault kind f mark body =
+    firstOf (when (not (mayCome kind (f .stage) mark)) misplaced)
+    (byMark mark (nameFault f body) (classFault body) (rowFault f body) (stateFault f body))
+
+-- the file with one field more
+unfoldable pub withField : File → ℕ → List ℕ → File
+withField f mark body =
+    let item = file 3 (f .names) (f .class-is) (f .items ++ (body ∷ [])) in
+    byMark mark
+    (file 1 (f .names ++ (body ∷ [])) (f .class-is) (f .items))
+    (file 2 (f .names) (classFrom body) (f .items))
+    item
+    item
+
+-- what reading gives: a refusal's number, or 0 and the file
+pub record Read : Type 0 where
+  pub number : ℕ
+  pub file-is : File
+
+abbrev pub refused : ℕ → Read
+refused n = record { number = n; file-is = unread default-class }
+
+abbrev pub accepted-file : File → Read
+accepted-file f = record { number = 0; file-is = f }
+
+-- the length that a field states, high byte first
+abbrev pub statedLength : List ℕ → ℕ
+statedLength s = 256 * getD s 1 0 + getD s 2 0
+
+-- the field at the front, its mark and length included, runs past the end
+abbrev pub runsPast : List ℕ → Bool
+runsPast s = ltb (length s) 3 || ltb (length s) (3 + statedLength s)
+
+-- the body of the field at the front, and what comes after that field
+abbrev pub bodyOf : List ℕ → List ℕ
+bodyOf s = take (statedLength s) (drop 3 s)
+
+abbrev pub afterField : List ℕ → List ℕ
+afterField s = drop (3 + statedLength s) s
+
+-- the end of the input: a row or a state must have come
+abbrev pub atEnd : File → Read
+atEnd f = cond (eqb (f .stage) 3) (accepted-file f) (refused unfinished)
+
+-- fields read one after the other, the first failure being the result (the first argument counts down and is more than the
+-- number of bytes)
+unfoldable pub readFrom : ℕ → FileKind → File → List ℕ → Read
+readFrom zero kind f s = refused cut-off
+readFrom (suc l) kind f s =
+    elim (eqb (length s) 0) [
+      | true ↦ atEnd f
+      | false ↦
+          elim (runsPast s) [
+            | true ↦ refused cut-off
+            | false ↦
+                let body = bodyOf s in
+                let fault = fieldFault kind f (getD s 0 0) body in
+                elim (eqb fault 0) [
+                  | true ↦ readFrom l kind (withField f (getD s 0 0) body) (afterField s)
+                  | false ↦ refused fault
+                ]
+          ]
+    ]
+
+-- a whole file, with the class that a book has if it names none
+unfoldable pub readWith : Class → FileKind → List ℕ → Read
+readWith class kind s = readFrom (suc (length s)) kind (unread class) s
+
+abbrev pub readFields : FileKind → List ℕ → Read
+readFields kind s = readWith default-class kind s

@@ -1,0 +1,75 @@
+-- The listing (document 01, "Worked days"): the text that the listing program prints for a book, as bytes. Assumes nothing.
+use mathlib.Core.Bool.{Bool, true, false, cond}
+use mathlib.Core.List.{List, [], _∷_, _++_, flatMap}
+use Prim.Native.Nat.{ℕ, zero, suc, _+_, _/_, _%_}
+use lib.Dec.{eqb, ltb}
+use lib.ListN.{length, getD}
+use Rattle.model.specs.Limits.{input-limit, bad-sizes, when, firstOf}
+use Rattle.model.specs.Fields.{File}
+use Rattle.model.specs.Tables.{Arc, State}
+use Rattle.model.specs.Quotients.{bookStates}
+use Rattle.model.specs.Calls.{bookOf, bookFault, joinsOf}
+
+-- the decimal digits of a number (the first argument counts down and is at least the number of digits less one)
+unfoldable pub digits : ℕ → ℕ → List ℕ
+digits zero n = (48 + n % 10) ∷ []
+digits (suc f) n = elim (ltb n 10) [ true ↦ (48 + n) ∷ [] | false ↦ digits f (n / 10) ++ ((48 + n % 10) ∷ []) ]
+
+-- every number in a listing is below 65,536
+abbrev pub decimal : ℕ → List ℕ
+decimal n = digits 4 n
+
+-- one byte each: newline, space, `+`, `-`, `>`
+abbrev pub newline : List ℕ
+newline = 10 ∷ []
+
+abbrev pub space : List ℕ
+space = 32 ∷ []
+
+-- an arc: a space, its name, `>`, its target
+unfoldable pub arcText : List (List ℕ) → Arc → List ℕ
+arcText names a = space ++ (getD names (a .name) [] ++ (62 ∷ decimal (a .to)))
+
+-- a state line: number, `+` accepting or `-` not, then each arc
+unfoldable pub stateLine : List (List ℕ) → ℕ → State → List ℕ
+stateLine names i s =
+    decimal i ++ (space ++ (cond (s .accepts) 43 45 ∷ (flatMap (arcText names) (s .arcs) ++ newline)))
+
+-- the lines of the states from number i on
+unfoldable pub stateLines : List (List ℕ) → ℕ → List State → List ℕ
+stateLines names i [] = []
+stateLines names i (s ∷ states) = stateLine names i s ++ stateLines names (suc i) states
+
+-- the word `states` and a space
+abbrev pub states-word : List ℕ
+states-word = 115 ∷ (116 ∷ (97 ∷ (116 ∷ (101 ∷ (115 ∷ (32 ∷ []))))))
+
+-- the word `joins` between two spaces
+abbrev pub joins-word : List ℕ
+joins-word = 32 ∷ (106 ∷ (111 ∷ (105 ∷ (110 ∷ (115 ∷ (32 ∷ []))))))
+
+-- the word `refused` and a space
+abbrev pub refused-word : List ℕ
+refused-word = 114 ∷ (101 ∷ (102 ∷ (117 ∷ (115 ∷ (101 ∷ (100 ∷ (32 ∷ [])))))))
+
+-- `states N joins M`, then a line for each state
+unfoldable pub listing : List (List ℕ) → List State → ℕ → List ℕ
+listing names states joins =
+    (states-word ++ (decimal (length states) ++ (joins-word ++ (decimal joins ++ newline))))
+    ++ stateLines names 0 states
+
+-- `refused N`
+unfoldable pub refusalText : ℕ → List ℕ
+refusalText n = refused-word ++ (decimal n ++ newline)
+
+-- the refusal that a listing comes to: 1, the fields', 10
+unfoldable pub listingFault : List ℕ → ℕ
+listingFault s = firstOf (when (ltb input-limit (length s)) bad-sizes) (bookFault s)
+
+-- what is printed for the bytes of a book
+unfoldable pub listingOf : List ℕ → List ℕ
+listingOf s =
+    elim (eqb (listingFault s) 0) [
+      | true ↦ listing (bookOf s .names) (bookStates (bookOf s)) (joinsOf (bookOf s))
+      | false ↦ refusalText (listingFault s)
+    ]

@@ -1,0 +1,151 @@
+-- Tables: deterministic automata as lists of states, written as fields, read back from them, checked for first-met numbering,
+-- and walked (document 01, "Fields" and "Walking a row"). State 0 is the start. Assumes nothing.
+use mathlib.Core.Bool.{Bool, true, false, _&&_, not, cond}
+use mathlib.Core.List.{List, [], _∷_, _++_, map, flatMap}
+use Prim.Native.Nat.{ℕ, zero, suc, _+_, _-_, _*_, _/_, _%_, _^_}
+use lib.Dec.{eqb, ltb}
+use lib.ListN.{length, getD, take, drop}
+use Rattle.model.specs.Limits.{when}
+use Rattle.model.specs.Fields.{Class}
+
+-- an arc out of a state: a name's number and the number of the target state
+pub record Arc : Type 0 where
+  pub name : ℕ
+  pub to : ℕ
+
+abbrev pub arc : ℕ → ℕ → Arc
+arc name to = record { name = name; to = to }
+
+-- a state: whether it accepts, and its arcs in ascending name number
+pub record State : Type 0 where
+  pub accepts : Bool
+  pub arcs : List Arc
+
+abbrev pub state : Bool → List Arc → State
+state accepts arcs = record { accepts = accepts; arcs = arcs }
+
+-- ---- written
+
+-- a number below 65,536 as two bytes, high byte first
+abbrev pub twoBytes : ℕ → List ℕ
+twoBytes n = n / 256 ∷ (n % 256 ∷ [])
+
+-- a field: its mark, its length, its bytes
+unfoldable pub fieldBytes : ℕ → List ℕ → List ℕ
+fieldBytes mark body = mark ∷ (twoBytes (length body) ++ body)
+
+unfoldable pub nameFields : List (List ℕ) → List ℕ
+nameFields names = flatMap (fieldBytes 1) names
+
+unfoldable pub classField : Class → List ℕ
+classField c = fieldBytes 2 (c .kind ∷ (c .first ∷ (c .second ∷ [])))
+
+unfoldable pub arcBytes : List Arc → List ℕ
+arcBytes arcs = flatMap (λ (a : Arc). a .name ∷ twoBytes (a .to)) arcs
+
+-- a state field's bytes
+unfoldable pub stateBody : State → List ℕ
+stateBody s = when (s .accepts) 1 ∷ arcBytes (s .arcs)
+
+unfoldable pub stateFields : List State → List ℕ
+stateFields states = flatMap (λ (s : State). fieldBytes 4 (stateBody s)) states
+
+-- a table's file: every name, the class, the states
+unfoldable pub tableBytes : List (List ℕ) → Class → List State → List ℕ
+tableBytes names class states = nameFields names ++ (classField class ++ stateFields states)
+
+-- ---- read
+
+-- arcs of three bytes (the first argument counts down and is at least the number of bytes)
+unfoldable pub arcsIn : ℕ → List ℕ → List Arc
+arcsIn zero s = []
+arcsIn (suc f) [] = []
+arcsIn (suc f) (a ∷ s) = arc a (256 * getD s 0 0 + getD s 1 0) ∷ arcsIn f (drop 2 s)
+
+-- what a state field means
+unfoldable pub stateIn : List ℕ → State
+stateIn [] = state false []
+stateIn (b ∷ s) = state (eqb b 1) (arcsIn (length s) s)
+
+unfoldable pub statesIn : List (List ℕ) → List State
+statesIn bodies = map stateIn bodies
+
+-- ---- numbered first-met
+
+-- how many states are met after these arcs, m being met before: a target is a state met already, or the next new one.
+-- 0 for a target that is neither
+unfoldable pub metByArcs : ℕ → List Arc → ℕ
+metByArcs m [] = m
+metByArcs m (a ∷ arcs) =
+    elim (ltb (a .to) m) [
+      | true ↦ metByArcs m arcs
+      | false ↦ elim (eqb (a .to) m) [ true ↦ metByArcs (suc m) arcs | false ↦ 0 ]
+    ]
+
+-- the same over the states from number i on, each of which must have been met when its turn comes
+unfoldable pub metByStates : ℕ → ℕ → List State → ℕ
+metByStates i m [] = m
+metByStates i m (s ∷ states) =
+    elim (ltb i m) [ true ↦ metByStates (suc i) (metByArcs m (s .arcs)) states | false ↦ 0 ]
+
+-- every arc leads to a state, every state is met, and they are numbered in the order in which they are met, state 0 first
+unfoldable pub isFirstMet : List State → Bool
+isFirstMet states = eqb (metByStates 0 1 states) (length states)
+
+-- ---- walked
+
+-- a state that does not accept and has no arc: what stands past the end of a table
+abbrev pub no-state : State
+no-state = state false []
+
+-- the target of the arc with this name plus 1, or 0 where there is no such arc
+unfoldable pub targetIn : ℕ → List Arc → ℕ
+targetIn n [] = 0
+targetIn n (a ∷ arcs) = elim (eqb n (a .name)) [ true ↦ suc (a .to) | false ↦ targetIn n arcs ]
+
+-- a walk (a run of the automaton): the number of the state reached, and the steps taken
+pub record Walk : Type 0 where
+  pub at-state : ℕ
+  pub taken : ℕ
+
+abbrev pub walk-at : ℕ → ℕ → Walk
+walk-at q n = record { at-state = q; taken = n }
+
+-- the walk goes on by these names as far as there are arcs
+unfoldable pub walkFrom : List State → ℕ → ℕ → List ℕ → Walk
+walkFrom states q n [] = walk-at q n
+walkFrom states q n (x ∷ xs) =
+    let t = targetIn x (getD states q no-state .arcs) in
+    elim (eqb t 0) [ true ↦ walk-at q n | false ↦ walkFrom states (t - 1) (suc n) xs ]
+
+unfoldable pub walk : List State → List ℕ → Walk
+walk states row = walkFrom states 0 0 row
+
+-- the state that a row's walk reaches
+unfoldable pub reachedState : List State → List ℕ → State
+reachedState states row = getD states (walk states row .at-state) no-state
+
+-- a row is admitted: all names walked, and the last state accepts
+unfoldable pub admits : List State → List ℕ → Bool
+admits states row = eqb (walk states row .taken) (length row) && reachedState states row .accepts
+
+-- how a walk ends: 1 admitted, 2 on the way (all names walked, the last state not accepting), 3 stops (a name has no arc)
+unfoldable pub outcome : List State → List ℕ → ℕ
+outcome states row =
+    cond (ltb (walk states row .taken) (length row)) 3 (cond (reachedState states row .accepts) 1 2)
+
+-- the longest beginning of the row that can be walked
+unfoldable pub longestBeginning : List State → List ℕ → List ℕ
+longestBeginning states row = take (walk states row .taken) row
+
+-- names of arcs as a set of 64 bits, bit n for name n
+unfoldable pub nameSet : List Arc → ℕ
+nameSet [] = 0
+nameSet (a ∷ arcs) = 2 ^ (a .name) + nameSet arcs
+
+-- the names with an arc from the state reached, as a set, and how many they are
+unfoldable pub nextNames : List State → List ℕ → ℕ
+nextNames states row = nameSet (reachedState states row .arcs)
+
+unfoldable pub nextCount : List State → List ℕ → ℕ
+nextCount states row = length (reachedState states row .arcs)
