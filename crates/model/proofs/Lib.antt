@@ -1,0 +1,19 @@
+-- Why the claims of specs/ hold, one file for each step of the argument. Assumes nothing.
+pub mod Tests
+pub mod Lists
+pub mod Notions
+pub mod Groups
+pub mod Transitions
+pub mod Rules
+pub mod Sound
+pub mod Complete
+pub mod Functions
+pub mod Trees
+pub mod Ends
+pub mod Arcs
+pub mod FirstMet
+pub mod Admits
+pub mod Numbering
+pub mod Writable
+pub mod WritableStates
+pub mod Reading

@@ -1,0 +1,38 @@
+-- Written fields are read back, and read fields are written as they stood. Assumes nothing.
+use mathlib.Core.Path.{_≡_, refl, sym, ap, _∙_, subst}
+use mathlib.Core.List.{List, [], _∷_, _++_, map, List·Memᴰ as In}
+use Prim.Native.Nat.{ℕ, zero, suc, _≤_, _<_}
+use lib.ListN.{length}
+use Rattle.model.specs.Limits.{input-limit, row-limit}
+use Rattle.model.specs.Fields.{File, file, table, readFields, accepted-file}
+use Rattle.model.specs.Tables.{State, stateBody, statesIn, tableBytes}
+use Rattle.model.specs.Calls.{bookOf, tableFault, rewritten}
+use Rattle.model.specs.Claims.{Accepted, AllBytes}
+use Rattle.model.proofs.Writable.{Writable}
+
+-- an accepted book has a row
+pub accepted-has-row : (s : List ℕ) → Accepted s → (r : List ℕ) × In r (bookOf s .items)
+accepted-has-row s ok = ?
+
+-- entries of its rows are numbers of its names
+pub accepted-entries : (s : List ℕ) → Accepted s → (r : List ℕ) → In r (bookOf s .items) → (a : ℕ) → In a r → a < length (bookOf s .names)
+accepted-entries s ok r m a n = ?
+
+-- a table with the book's names and class, and states that can be written, is read back
+pub reads-written :
+    (s : List ℕ) (states : List State) → Accepted s → Writable (length (bookOf s .names)) states →
+    readFields table (tableBytes (bookOf s .names) (bookOf s .class-is) states)
+    ≡ accepted-file (file 3 (bookOf s .names) (bookOf s .class-is) (map stateBody states))
+reads-written s states ok w = ?
+
+pub states-read : (n : ℕ) (states : List State) → Writable n states → statesIn (map stateBody states) ≡ states
+states-read n states w = ?
+
+pub written-length :
+    (s : List ℕ) (states : List State) → Accepted s → Writable (length (bookOf s .names)) states →
+    length (tableBytes (bookOf s .names) (bookOf s .class-is) states) ≤ input-limit
+written-length s states ok w = ?
+
+-- an accepted table is rewritten to the same bytes
+pub rewrites-same : (s work : List ℕ) → AllBytes s → tableFault s work ≡ 0 → rewritten s ≡ s
+rewrites-same s work bytes ok = ?
