@@ -17,3 +17,6 @@ pub mod Numbering
 pub mod Writable
 pub mod WritableStates
 pub mod Reading
+pub mod Joined
+pub mod InTheClass
+pub mod Demands

@@ -1,0 +1,151 @@
+-- Demand 3, whole, and that tables read back as written and are rewritten to the same bytes: `demands`. Assumes nothing.
+use mathlib.Core.Path.{_≡_, refl, sym, ap, _∙_, subst}
+use mathlib.Core.Logic.{_↔_, ⊎-elim}
+use mathlib.Core.Bool.{Bool, true, false, _||_, not, false≢true}
+use mathlib.Core.List.{List, [], _∷_, _++_, map, append-assoc, List·Memᴰ as In, List·Memᴰ·head as here, Memᴰ·append-left, Memᴰ·append-right}
+use Prim.Native.Nat.{ℕ, zero, suc, _≤_, _<_}
+use native.Mathlib.Omega.{arith}
+use lib.Dec.{eqb, ltb}
+use lib.ListN.{length}
+use borrow.Author.Tests.{ltb-false, le-ltb}
+use Rattle.model.specs.Limits.{state-limit, input-limit, work-bytes, when, firstOf}
+use Rattle.model.specs.Limits.{bad-sizes, tree-too-large, bad-numbering}
+use Rattle.model.specs.Lists.{hasRow}
+use Rattle.model.specs.Fields.{File, file, Class, Read, table, book, readFields, accepted-file}
+use Rattle.model.specs.Tables.{State, stateBody, statesIn, isFirstMet, tableBytes, admits}
+use Rattle.model.specs.Classes.{Word, InClass}
+use Rattle.model.specs.Joinings.{Step, treeOf, apart, transitionsOf, isFull, isFullJoining, afterSteps, joinedGroups}
+use Rattle.model.specs.Quotients.{statesOf, bookStates, bookTable, tableAfter}
+use Rattle.model.specs.Calls.{bookOf, bookFault, sizesFault, tableOf, tableFault, tableStates}
+use Rattle.model.specs.Claims.{Accepted, allAmong, SameBook, Admitted, Demand-3, Same-bytes, Reads-back, Demands}
+use Rattle.model.proofs.Tests.{Tells, tells-hasRow, tells-all}
+use Rattle.model.proofs.Notions.{Tree, Fits, Deterministic, _▸_}
+use Rattle.model.proofs.Trees.{treeOf-tree, node-begins-row}
+use Rattle.model.proofs.Ends.{joined-full, joined-is-full-joining}
+use Rattle.model.proofs.Joined.{Joined, joining-joined, joinedGroups-joined, joined-deterministic, joined-states}
+use Rattle.model.proofs.InTheClass.{Admits, admits-row, admits-in-class, admits-smallest}
+use Rattle.model.proofs.Writable.{Writable}
+use Rattle.model.proofs.WritableStates.{states-writable}
+use Rattle.model.proofs.Reading.{accepted-has-row, accepted-entries, reads-written, states-read, written-length, rewrites-same}
+
+-- ---- what an accepted book and a like book give
+
+-- the first refusal of two is none
+none-first : (a b : ℕ) → firstOf a b ≡ 0 → a ≡ 0
+none-first zero b e = refl
+none-first (suc a) b e = e
+
+none-second : (a b : ℕ) → firstOf a b ≡ 0 → b ≡ 0
+none-second zero b e = e
+none-second (suc a) b e = let z : ⊥ = omega arith in absurd z
+
+not-when : (b : Bool) (n : ℕ) → when b (suc n) ≡ 0 → b ≡ false
+not-when true n e = let z : ⊥ = omega arith in absurd z
+not-when false n e = refl
+
+accepted-tree : (s : List ℕ) → Accepted s → length (treeOf (bookOf s .items)) ≤ state-limit
+unfolding bookFault
+accepted-tree s ok =
+    let size = length (treeOf (bookOf s .items)) in
+    let refusal = when (ltb state-limit size) tree-too-large in
+    ltb-false state-limit size (not-when (ltb state-limit size) 9 (none-second (readFields book s .number) refusal ok))
+
+all-there : (rows others : List Word) → allAmong rows others ≡ true → (r : Word) → In r rows → In r others
+unfolding allAmong
+all-there rows others e = tells-all (λ r. tells-hasRow r others) rows .fact e
+
+same-rows : (f g : File) → SameBook f g → (r : Word) → In r (f .items) ↔ In r (g .items)
+same-rows f g same r =
+    (all-there (f .items) (g .items) (same .rows-there) r, all-there (g .items) (f .items) (same .rows-back) r)
+
+-- ---- demand 3
+
+-- every full joining of a book like f has f's table
+table-any-order :
+    (f g : File) (steps : List Step) → SameBook f g → isFullJoining (g .class-is) (g .items) steps ≡ true →
+    tableAfter g steps ≡ bookTable f
+unfolding tableAfter bookTable bookStates
+table-any-order f g steps same full =
+    let c : Class = f .class-is in
+    let groups : List ℕ = afterSteps (apart (treeOf (g .items))) steps in
+    let joined : Joined c (g .items) groups =
+          subst (λ (d : Class). Joined d (g .items) groups) (sym (same .class-same)) (joining-joined (g .class-is) (g .items) steps full) in
+    let states : statesOf (g .items) (treeOf (g .items)) groups ≡ bookStates f =
+          joined-states c (g .items) (f .items) groups (joinedGroups c (f .items))
+          (λ r. (same-rows f g same r .1, same-rows f g same r .0)) joined (joinedGroups-joined c (f .items)) in
+    ap (λ (ss : List State). tableBytes (g .names) (g .class-is) ss) states
+    ∙ ap (λ (d : Class). tableBytes (g .names) d (bookStates f)) (sym (same .class-same))
+    ∙ ap (λ (ns : List (List ℕ)). tableBytes ns c (bookStates f)) (sym (same .names-same))
+
+-- a book's own table is that of one of its full joinings
+table-of-joining : (f : File) → (steps : List Step) × (isFullJoining (f .class-is) (f .items) steps ≡ true) × (tableAfter f steps ≡ bookTable f)
+unfolding tableAfter bookTable bookStates
+table-of-joining f =
+    let j = joined-is-full-joining (f .class-is) (f .items) in
+    (j .0,
+    j .1,
+    ap (λ (gs : List ℕ). tableBytes (f .names) (f .class-is) (statesOf (f .items) (treeOf (f .items)) gs)) (j .2))
+
+table-same : (f g : File) → SameBook f g → bookTable f ≡ bookTable g
+table-same f g same =
+    let j = table-of-joining g in
+    sym (table-any-order f g (j .0) same (j .1)) ∙ j .2
+
+-- the book's own joining
+joined : (f : File) → Joined (f .class-is) (f .items) (joinedGroups (f .class-is) (f .items))
+joined f = joinedGroups-joined (f .class-is) (f .items)
+
+pub demand-3 : Demand-3
+unfolding bookStates
+demand-3 =
+    record {
+      any-order = λ s t steps ok-s ok-t same full. table-any-order (bookOf s) (bookOf t) steps same full;
+      same-table = λ s t ok-s ok-t same. table-same (bookOf s) (bookOf t) same;
+      full = λ s ok. joined-full (bookOf s .class-is) (bookOf s .items);
+      rows-admitted = λ s r ok m.
+        let f = bookOf s in
+        admits-row (f .class-is) (f .items) (joinedGroups (f .class-is) (f .items)) (joined f) r
+        (tells-hasRow r (f .items) .fact m);
+      in-class = λ s ok.
+        let f = bookOf s in
+        admits-in-class (f .class-is) (f .items) (joinedGroups (f .class-is) (f .items)) (joined f);
+      smallest = λ s l ok l-in-class holds r e.
+        let f = bookOf s in
+        let first-row = accepted-has-row s ok in
+        admits-smallest (f .class-is) (f .items) (joinedGroups (f .class-is) (f .items)) (joined f) l l-in-class
+        (λ q m. holds q (tells-hasRow q (f .items) .test m)) (first-row .0) (first-row .1) r e
+    }
+
+-- ---- tables read back
+
+-- what build writes can be read
+book-writable : (s : List ℕ) → Accepted s → Writable (length (bookOf s .names)) (bookStates (bookOf s))
+unfolding bookStates
+book-writable s ok =
+    let f = bookOf s in
+    let groups = joinedGroups (f .class-is) (f .items) in
+    states-writable (f .items) (treeOf (f .items)) groups (length (f .names)) (treeOf-tree (f .items)) (joined f .fits)
+    (joined-deterministic (f .class-is) (f .items) groups (joined f)) (accepted-tree s ok) (name-below s ok)
+  where
+    name-below : (s : List ℕ) → Accepted s → (w : Word) (a : ℕ) → In (w ▸ a) (treeOf (bookOf s .items)) → a < length (bookOf s .names)
+    name-below s ok w a m =
+        let first-row = accepted-has-row s ok in
+        let b = node-begins-row (bookOf s .items) (first-row .0) (first-row .1) (w ▸ a) m in
+        accepted-entries s ok ((w ▸ a) ++ b .0) (b .1) a (Memᴰ·append-left (b .0) (Memᴰ·append-right w (here refl)))
+
+pub reads-back : Reads-back
+reads-back = record { accepted-again = again; same-states = states }
+  where
+    readAs : (s : List ℕ) → Accepted s → Read
+    readAs s ok = accepted-file (file 3 (bookOf s .names) (bookOf s .class-is) (map stateBody (bookStates (bookOf s))))
+    states : (s : List ℕ) → Accepted s → tableStates (bookTable (bookOf s)) ≡ bookStates (bookOf s)
+    states s ok = ?states
+    again : (s work : List ℕ) → Accepted s → work-bytes ≤ length work → tableFault (bookTable (bookOf s)) work ≡ 0
+    again s work ok long = ?again
+
+pub same-bytes : Same-bytes
+same-bytes = record { rewrites = rewrites-same }
+
+-- all that is claimed
+pub demands : Demands
+demands = record { third = demand-3; same-bytes = same-bytes; reads-back = reads-back }
