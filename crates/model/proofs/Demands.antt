@@ -69,10 +69,10 @@ table-any-order f g steps same full =
     let c : Class = f .class-is in
     let groups : List ℕ = afterSteps (apart (treeOf (g .items))) steps in
     let joined : Joined c (g .items) groups =
-          subst (λ (d : Class). Joined d (g .items) groups) (sym (same .class-same)) (joining-joined (g .class-is) (g .items) steps full) in
+    subst (λ (d : Class). Joined d (g .items) groups) (sym (same .class-same)) (joining-joined (g .class-is) (g .items) steps full) in
     let states : statesOf (g .items) (treeOf (g .items)) groups ≡ bookStates f =
-          joined-states c (g .items) (f .items) groups (joinedGroups c (f .items))
-          (λ r. (same-rows f g same r .1, same-rows f g same r .0)) joined (joinedGroups-joined c (f .items)) in
+    joined-states c (g .items) (f .items) groups (joinedGroups c (f .items))
+    (λ r. (same-rows f g same r .1, same-rows f g same r .0)) joined (joinedGroups-joined c (f .items)) in
     ap (λ (ss : List State). tableBytes (g .names) (g .class-is) ss) states
     ∙ ap (λ (d : Class). tableBytes (g .names) d (bookStates f)) (sym (same .class-same))
     ∙ ap (λ (ns : List (List ℕ)). tableBytes ns c (bookStates f)) (sym (same .names-same))
@@ -81,10 +81,11 @@ table-any-order f g steps same full =
 table-of-joining : (f : File) → (steps : List Step) × (isFullJoining (f .class-is) (f .items) steps ≡ true) × (tableAfter f steps ≡ bookTable f)
 unfolding tableAfter bookTable bookStates
 table-of-joining f =
-    let j = joined-is-full-joining (f .class-is) (f .items) in
-    (j .0,
-    j .1,
-    ap (λ (gs : List ℕ). tableBytes (f .names) (f .class-is) (statesOf (f .items) (treeOf (f .items)) gs)) (j .2))
+    let j = joined-is-full-joining (f .class-is) (f .items) in (
+      j .0,
+      j .1,
+      ap (λ (gs : List ℕ). tableBytes (f .names) (f .class-is) (statesOf (f .items) (treeOf (f .items)) gs)) (j .2),
+    )
 
 table-same : (f g : File) → SameBook f g → bookTable f ≡ bookTable g
 table-same f g same =
@@ -103,17 +104,17 @@ demand-3 =
       same-table = λ s t ok-s ok-t same. table-same (bookOf s) (bookOf t) same;
       full = λ s ok. joined-full (bookOf s .class-is) (bookOf s .items);
       rows-admitted = λ s r ok m.
-        let f = bookOf s in
-        admits-row (f .class-is) (f .items) (joinedGroups (f .class-is) (f .items)) (joined f) r
-        (tells-hasRow r (f .items) .fact m);
+          let f = bookOf s in
+          admits-row (f .class-is) (f .items) (joinedGroups (f .class-is) (f .items)) (joined f) r
+          (tells-hasRow r (f .items) .fact m);
       in-class = λ s ok.
-        let f = bookOf s in
-        admits-in-class (f .class-is) (f .items) (joinedGroups (f .class-is) (f .items)) (joined f);
+          let f = bookOf s in
+          admits-in-class (f .class-is) (f .items) (joinedGroups (f .class-is) (f .items)) (joined f);
       smallest = λ s l ok l-in-class holds r e.
-        let f = bookOf s in
-        let first-row = accepted-has-row s ok in
-        admits-smallest (f .class-is) (f .items) (joinedGroups (f .class-is) (f .items)) (joined f) l l-in-class
-        (λ q m. holds q (tells-hasRow q (f .items) .test m)) (first-row .0) (first-row .1) r e
+          let f = bookOf s in
+          let first-row = accepted-has-row s ok in
+          admits-smallest (f .class-is) (f .items) (joinedGroups (f .class-is) (f .items)) (joined f) l l-in-class
+          (λ q m. holds q (tells-hasRow q (f .items) .test m)) (first-row .0) (first-row .1) r e;
     }
 
 -- ---- tables read back
@@ -133,15 +134,41 @@ book-writable s ok =
         let b = node-begins-row (bookOf s .items) (first-row .0) (first-row .1) (w ▸ a) m in
         accepted-entries s ok ((w ▸ a) ++ b .0) (b .1) a (Memᴰ·append-left (b .0) (Memᴰ·append-right w (here refl)))
 
+read-table :
+    (s : List ℕ) → Accepted s →
+    readFields table (bookTable (bookOf s))
+    ≡ accepted-file (file 3 (bookOf s .names) (bookOf s .class-is) (map stateBody (bookStates (bookOf s))))
+unfolding bookTable
+read-table s ok = reads-written s (bookStates (bookOf s)) ok (book-writable s ok)
+
+read-states : (s : List ℕ) → Accepted s → tableStates (bookTable (bookOf s)) ≡ bookStates (bookOf s)
+unfolding tableStates tableOf
+read-states s ok =
+    ap (λ (r : Read). statesIn (r .file-is .items)) (read-table s ok)
+    ∙ states-read (length (bookOf s .names)) (bookStates (bookOf s)) (book-writable s ok)
+
+table-length : (s : List ℕ) → Accepted s → length (bookTable (bookOf s)) ≤ input-limit
+unfolding bookTable
+table-length s ok = written-length s (bookStates (bookOf s)) ok (book-writable s ok)
+
+-- no refusal where there is no fault
+no-fault : (a b : Bool) (n : ℕ) → a ≡ false → b ≡ false → when (a || b) n ≡ 0
+no-fault a b n p q = rw (p, q)
+
+read-no-fault : (s work : List ℕ) → Accepted s → work-bytes ≤ length work → tableFault (bookTable (bookOf s)) work ≡ 0
+unfolding tableFault sizesFault
+read-no-fault s work ok long =
+    let bytes : List ℕ = bookTable (bookOf s) in
+    let short : length bytes ≤ input-limit = table-length s ok in
+    let sizes : when (ltb input-limit (length bytes) || ltb (length work) work-bytes) bad-sizes ≡ 0 =
+    no-fault (ltb input-limit (length bytes)) (ltb (length work) work-bytes) bad-sizes
+    (le-ltb input-limit (length bytes) short) (le-ltb (length work) work-bytes long) in
+    let number : readFields table bytes .number ≡ 0 = ap (λ (r : Read). r .number) (read-table s ok) in
+    let numbered : isFirstMet (tableStates bytes) ≡ true = ap isFirstMet (read-states s ok) ∙ book-writable s ok .first-met in
+    rw (sizes, number, numbered)
+
 pub reads-back : Reads-back
-reads-back = record { accepted-again = again; same-states = states }
-  where
-    readAs : (s : List ℕ) → Accepted s → Read
-    readAs s ok = accepted-file (file 3 (bookOf s .names) (bookOf s .class-is) (map stateBody (bookStates (bookOf s))))
-    states : (s : List ℕ) → Accepted s → tableStates (bookTable (bookOf s)) ≡ bookStates (bookOf s)
-    states s ok = ?states
-    again : (s work : List ℕ) → Accepted s → work-bytes ≤ length work → tableFault (bookTable (bookOf s)) work ≡ 0
-    again s work ok long = ?again
+reads-back = record { accepted-again = read-no-fault; same-states = read-states }
 
 pub same-bytes : Same-bytes
 same-bytes = record { rewrites = rewrites-same }

@@ -50,10 +50,11 @@ module _ (c : Class) (rows : List Word) (groups : List ℕ) (joined : Joined c r
   pub admits-row : (r : Word) → In r rows → Admits rows groups r
   admits-row r m =
       let node : In r (treeOf rows) = row-node rows r m in
-      told r .test
-      (groupAt (treeOf rows) groups r,
-      walks-down (treeOf rows) groups (treeOf-tree rows) [] r node,
-      tells-accepts rows (treeOf rows) groups (groupAt (treeOf rows) groups r) .test (r, node, refl, m))
+      told r .test (
+        groupAt (treeOf rows) groups r,
+        walks-down (treeOf rows) groups (treeOf-tree rows) [] r node,
+        tells-accepts rows (treeOf rows) groups (groupAt (treeOf rows) groups r) .test (r, node, refl, m),
+      )
 
   -- a walk from a group ends in a group
   walks-in : (x y : ℕ) (p : Word) → In x groups → Walks (automaton rows groups) x p y → In y groups
@@ -76,12 +77,13 @@ module _ (c : Class) (rows : List Word) (groups : List ℕ) (joined : Joined c r
       let h = told (u ++ v) .fact e in
       let cut = walks-split (automaton rows groups) (start rows groups) (h .0) u v (h .1) in
       let here-too : cut .0 ≡ z =
-            walks-unique (automaton rows groups) (joined-deterministic c rows groups joined) (start rows groups) (cut .0) z u (cut .1) f in
-      told (w ++ v) .test
-      (h .0,
-      walks-append (automaton rows groups) (start rows groups) z (h .0) w v g
-      (subst (λ (q : ℕ). Walks (automaton rows groups) q v (h .0)) here-too (cut .2)),
-      h .2)
+      walks-unique (automaton rows groups) (joined-deterministic c rows groups joined) (start rows groups) (cut .0) z u (cut .1) f in
+      told (w ++ v) .test (
+        h .0,
+        walks-append (automaton rows groups) (start rows groups) z (h .0) w v g
+            (subst (λ (q : ℕ). Walks (automaton rows groups) q v (h .0)) here-too (cut .2)),
+        h .2,
+      )
 
   one-group-tails :
       (u w : Word) (z : ℕ) → Walks (automaton rows groups) (start rows groups) u z →
@@ -103,7 +105,7 @@ module _ (c : Class) (rows : List Word) (groups : List ℕ) (joined : Joined c r
       let cut = walks-split (automaton rows groups) (start rows groups) (h .0) u (a ++ w) (h .1) in
       let body = walks-split (automaton rows groups) (cut .0) (h .0) a w (cut .2) in
       let whole : Walks (automaton rows groups) (cut .0) (take i a ++ drop i a) (body .0) =
-            subst (λ (p : Word). Walks (automaton rows groups) (cut .0) p (body .0)) (sym (take-append-drop i a)) (body .1) in
+      subst (λ (p : Word). Walks (automaton rows groups) (cut .0) p (body .0)) (sym (take-append-drop i a)) (body .1) in
       let halves = walks-split (automaton rows groups) (cut .0) (body .0) (take i a) (drop i a) whole in
       record {
         before-it = cut .0;
@@ -111,13 +113,13 @@ module _ (c : Class) (rows : List Word) (groups : List ℕ) (joined : Joined c r
         after-it = body .0;
         way-there = cut .1;
         way-in = halves .1;
-        way-out = halves .2
+        way-out = halves .2;
       }
 
   pub admits-contextual : eqb (c .kind) 0 ≡ true → Contextual (c .first) (c .second) (Admits rows groups)
   admits-contextual kind =
       record {
-        equal-tails = λ u1 u2 a w1 w2 i size low high e1 e2. meet u1 u2 a i size low high (place u1 a w1 i e1) (place u2 a w2 i e2)
+        equal-tails = λ u1 u2 a w1 w2 i size low high e1 e2. meet u1 u2 a i size low high (place u1 a w1 i e1) (place u2 a w2 i e2);
       }
     where
       meet :
@@ -131,26 +133,26 @@ module _ (c : Class) (rows : List Word) (groups : List ℕ) (joined : Joined c r
           let front : length (take i a) ≡ i = length-take-le i a fits-in in
           let rear : length (drop i a) ≡ length a - i = length-drop i a in
           let one : x .at-it ≡ y .at-it =
-                full-equal c rows (treeOf rows) groups (joined .full) (x .at-it) (y .at-it)
-                (walks-in (x .before-it) (x .at-it) (take i a) x-in (x .way-in))
-                (walks-in (y .before-it) (y .at-it) (take i a) y-in (y .way-in))
-                (Ruled.by-context kind
-                (record {
-                  p = take i a;
-                  q = drop i a;
-                  low = omega arith;
-                  size = omega arith;
-                  from-x = x .before-it;
-                  from-y = y .before-it;
-                  to-x = x .after-it;
-                  to-y = y .after-it;
-                  from-x-in = x-in;
-                  from-y-in = y-in;
-                  into-x = x .way-in;
-                  into-y = y .way-in;
-                  out-of-x = x .way-out;
-                  out-of-y = y .way-out
-                })) in
+          full-equal c rows (treeOf rows) groups (joined .full) (x .at-it) (y .at-it)
+          (walks-in (x .before-it) (x .at-it) (take i a) x-in (x .way-in))
+          (walks-in (y .before-it) (y .at-it) (take i a) y-in (y .way-in))
+          (Ruled.by-context kind
+          (record {
+            p = take i a;
+            q = drop i a;
+            low = omega arith;
+            size = omega arith;
+            from-x = x .before-it;
+            from-y = y .before-it;
+            to-x = x .after-it;
+            to-y = y .after-it;
+            from-x-in = x-in;
+            from-y-in = y-in;
+            into-x = x .way-in;
+            into-y = y .way-in;
+            out-of-x = x .way-out;
+            out-of-y = y .way-out;
+          })) in
           one-group-tails (u1 ++ take i a) (u2 ++ take i a) (y .at-it)
           (subst (λ (z : ℕ). Walks ts (start rows groups) (u1 ++ take i a) z) one
           (walks-append ts (start rows groups) (x .before-it) (x .at-it) u1 (take i a) (x .way-there) (x .way-in)))
@@ -174,9 +176,9 @@ module _ (c : Class) (rows : List Word) (groups : List ℕ) (joined : Joined c r
       let node : In (v ▸ a) (treeOf rows) = subst (λ (b : ℕ). In (v ▸ b) (treeOf rows)) name-v (t .2) in
       let v-node : In v (treeOf rows) = treeOf-tree rows .parent v a node in
       let end : f .0 ≡ groupAt (treeOf rows) groups (v ▸ a) =
-            to-v ∙ ap (λ (b : ℕ). groupAt (treeOf rows) groups (v ▸ b)) name-v in
+      to-v ∙ ap (λ (b : ℕ). groupAt (treeOf rows) groups (v ▸ b)) name-v in
       let on : Walks (automaton rows groups) (groupAt (treeOf rows) groups (v ▸ a)) p x =
-            subst (λ (z : ℕ). Walks (automaton rows groups) z p x) end (f .2) in
+      subst (λ (z : ℕ). Walks (automaton rows groups) z p x) end (f .2) in
       let agree : fOf c v ≡ fOf c u = members-agree c rows groups joined kind .related v u v-node m (sym from-v) .same-f in
       f-walked kind p (v ▸ a) x node on
       ∙ ap (fOf c) (append-assoc v (a ∷ []) p)
@@ -198,11 +200,11 @@ module _ (c : Class) (rows : List Word) (groups : List ℕ) (joined : Joined c r
   meet-by-f kind (a ∷ v) w z x y g h e wx zy xg yh ga ha =
       let ts = automaton rows groups in
       let on-x : Walks ts (start rows groups) (w ▸ a) (xg .0) =
-            walks-append ts (start rows groups) x (xg .0) w (a ∷ []) wx (xg .0, xg .1, refl) in
+      walks-append ts (start rows groups) x (xg .0) w (a ∷ []) wx (xg .0, xg .1, refl) in
       let on-y : Walks ts (start rows groups) (z ▸ a) (yh .0) =
-            walks-append ts (start rows groups) y (yh .0) z (a ∷ []) zy (yh .0, yh .1, refl) in
+      walks-append ts (start rows groups) y (yh .0) z (a ∷ []) zy (yh .0, yh .1, refl) in
       let one : xg .0 ≡ yh .0 =
-            meet-by-f kind v (w ▸ a) (z ▸ a) (xg .0) (yh .0) g h (f-append c w z (a ∷ []) e) on-x on-y (xg .2) (yh .2) ga ha in
+      meet-by-f kind v (w ▸ a) (z ▸ a) (xg .0) (yh .0) g h (f-append c w z (a ∷ []) e) on-x on-y (xg .2) (yh .2) ga ha in
       full-equal c rows (treeOf rows) groups (joined .full) x y
       (walks-in (start rows groups) x w start-in wx) (walks-in (start rows groups) y z start-in zy)
       (Ruled.by-back kind
@@ -240,9 +242,9 @@ module _ (c : Class) (rows : List Word) (groups : List ℕ) (joined : Joined c r
       let h = told r .fact e in
       let end = tells-accepts rows nodes groups (h .0) .fact (h .2) in
       let inside : Inside nodes groups (TailsEqual l) =
-            joined .inside (TailsEqual l) (tails-closed c rows nodes l in-class holds (node-begins-row rows first-row m)) in
+      joined .inside (TailsEqual l) (tails-closed c rows nodes l in-class holds (node-begins-row rows first-row m)) in
       let way : Ways nodes (TailsEqual l) [] r (end .0) =
-            walks-ways nodes groups (TailsEqual l) (treeOf-tree rows) inside r [] (end .0) (treeOf-tree rows .root) (end .1)
-            (subst (λ (g : ℕ). Walks (transitionsOf nodes groups) (start rows groups) r g) (sym (end .2)) (h .1)) in
+      walks-ways nodes groups (TailsEqual l) (treeOf-tree rows) inside r [] (end .0) (treeOf-tree rows .root) (end .1)
+      (subst (λ (g : ℕ). Walks (transitionsOf nodes groups) (start rows groups) r g) (sym (end .2)) (h .1)) in
       let same : TailsEqual l r (end .0) = ways-tails l nodes r [] (end .0) way in
       subst l (append-nil r) (same .tails [] .1 (subst l (sym (append-nil (end .0))) (holds (end .0) (end .3))))

@@ -50,7 +50,7 @@ module _ (R : Word → Word → Type 0) (nodes nodes′ : List Word) (there′ :
         into-u = ways-there (x .p) (x .from-u) u (x .into-u);
         into-w = ways-there (x .p) (x .from-w) w (x .into-w);
         out-of-u = ways-there (x .q) u (x .to-u) (x .out-of-u);
-        out-of-w = ways-there (x .q) w (x .to-w) (x .out-of-w)
+        out-of-w = ways-there (x .q) w (x .to-w) (x .out-of-w);
       }
 
 pub closed-there :
@@ -64,7 +64,7 @@ closed-there c rows rows′ nodes nodes′ R n r closed =
       fork = λ u w a e m m′. closed .fork u w a e (n (u ▸ a) m) (n (w ▸ a) m′);
       context = λ k u w x. closed .context k u w (context-there R nodes nodes′ n c u w x);
       ends = λ k u w x y e mu mw mx my p q rx ry. closed .ends k u w x y e (n u mu) (n w mw) (n x mx) (n y my) p q (r x rx) (r y ry);
-      back = λ k u w x y a e mu mw mx my p q ma mb z. closed .back k u w x y a e (n u mu) (n w mw) (n x mx) (n y my) p q (n (x ▸ a) ma) (n (y ▸ a) mb) z
+      back = λ k u w x y a e mu mw mx my p q ma mb z. closed .back k u w x y a e (n u mu) (n w mw) (n x mx) (n y my) p q (n (x ▸ a) ma) (n (y ▸ a) mb) z;
     }
 
 -- ---- full joinings
@@ -83,11 +83,11 @@ joining-joined c rows steps e =
     let nodes = treeOf rows in
     let start : Fits nodes (apart nodes) = apart-fits nodes in
     let parts : (allOpen c rows nodes (apart nodes) steps ≡ true) × (isFull c rows nodes (afterSteps (apart nodes) steps) ≡ true) =
-          tells-and (itself (allOpen c rows nodes (apart nodes) steps)) (itself (isFull c rows nodes (afterSteps (apart nodes) steps))) .fact e in
+    tells-and (itself (allOpen c rows nodes (apart nodes) steps)) (itself (isFull c rows nodes (afterSteps (apart nodes) steps))) .fact e in
     record {
       fits = after-fits nodes (apart nodes) steps start;
       full = parts .1;
-      inside = λ R closed. sound c rows nodes R (treeOf-tree rows) closed (apart nodes) steps start (parts .0) (apart-inside c rows nodes R closed)
+      inside = λ R closed. sound c rows nodes R (treeOf-tree rows) closed (apart nodes) steps start (parts .0) (apart-inside c rows nodes R closed);
     }
   where
     itself : (b : Bool) → Tells b (b ≡ true)
@@ -130,7 +130,7 @@ joined-states c rows rows′ groups groups′ same j j′ =
       same-nodes = λ w. (go w, back w);
       same-rows = same;
       inside = j .inside (Ker nodes′ groups′) (closed-there c rows rows′ nodes nodes′ (Ker nodes′ groups′) go (λ r. same r .0) (joined-closed c rows′ groups′ j′));
-      inside′ = j′ .inside (Ker nodes groups) (closed-there c rows′ rows nodes′ nodes (Ker nodes groups) back (λ r. same r .1) (joined-closed c rows groups j))
+      inside′ = j′ .inside (Ker nodes groups) (closed-there c rows′ rows nodes′ nodes (Ker nodes groups) back (λ r. same r .1) (joined-closed c rows groups j));
     })
 
 -- ---- the joining law
@@ -151,7 +151,7 @@ closed-deterministic c rows nodes groups tree closed x a y z m n =
     let node-s : In (s .0 ▸ a) nodes = subst (λ (b : ℕ). In (s .0 ▸ b) nodes) (sym name-s) (s .2) in
     let node-t : In (t .0 ▸ a) nodes = subst (λ (b : ℕ). In (t .0 ▸ b) nodes) (sym name-t) (t .2) in
     let one : Ker nodes groups (s .0) (t .0) =
-          record { left-node = tree .parent (s .0) a node-s; right-node = tree .parent (t .0) a node-t; one-group = sym from-s ∙ from-t } in
+    record { left-node = tree .parent (s .0) a node-s; right-node = tree .parent (t .0) a node-t; one-group = sym from-s ∙ from-t } in
     to-s
     ∙ ap (λ (b : ℕ). groupAt nodes groups (s .0 ▸ b)) (sym name-s)
     ∙ closed .fork (s .0) (t .0) a one node-s node-t .one-group
@@ -178,5 +178,5 @@ joining-law c rows nodes groups tree fits same inside closed =
       same-nodes = same;
       same-rows = λ r. (λ m. m, λ m. m);
       inside = inside;
-      inside′ = j .inside (Ker nodes groups) (closed-there c rows rows (treeOf rows) nodes (Ker nodes groups) (λ w. same w .1) (λ r m. m) closed)
+      inside′ = j .inside (Ker nodes groups) (closed-there c rows rows (treeOf rows) nodes (Ker nodes groups) (λ w. same w .1) (λ r m. m) closed);
     })
