@@ -4,6 +4,7 @@ pub mod Lists
 pub mod Notions
 pub mod Groups
 pub mod Transitions
+pub mod Routes
 pub mod Rules
 pub mod Sound
 pub mod Complete
