@@ -2,55 +2,20 @@
 -- groups. Assumes nothing.
 use mathlib.Core.Path.{_≡_, refl, sym, ap, _∙_, subst}
 use mathlib.Core.Logic.{_⊎_, inl, inr, ⊎-elim}
-use mathlib.Core.Bool.{Bool, true, false, _||_, cond}
 use mathlib.Core.List.{List, [], _∷_, map, List·Memᴰ as In, List·Memᴰ·head as here, List·Memᴰ·tail as there}
 use mathlib.Core.List.{List·Memᴰ·not-nil, List·Memᴰ·cases-cons, Memᴰ·cast}
 use Prim.Native.Nat.{ℕ, zero, suc, _≤_, _<_}
 use native.Mathlib.Omega.{arith}
-use lib.Dec.{eqb, ltb}
 use lib.ListN.{length, length-map}
 use Rattle.model.specs.Classes.{Word}
 use Rattle.model.specs.Lists.{numbersFrom}
 use Rattle.model.specs.Joinings.{apart, groupAt, groupsIn, mergedTo, merged, memberOf, groupAccepts}
-use Rattle.model.proofs.Tests.{Tells, tells-eqb, tells-same, tells-and, tells-or, tells-any, tells-by, tells-isIn, tells-hasRow}
-use Rattle.model.proofs.Tests.{told-false, decided, eq-dec, word-dec}
+use Rattle.model.proofs.Tests.{Tells, tells-eqb, tells-and, tells-any, tells-by, tells-isIn, tells-hasRow, decided, eq-dec}
 use Rattle.model.proofs.Lists.{Distinct, map-in, distinct-length, distinct-shorter}
+use Rattle.model.proofs.GroupCases.{groupAt-first, groupAt-later, first-or-later, no-groups, fits-rest}
+use Rattle.model.proofs.GroupCases.{memberOf-first, memberOf-later}
+use Rattle.model.proofs.GroupCases.{lower, lower-cases, told-either, merged-either, merged-neither, groupsIn-kept, groupsIn-new}
 use Rattle.model.proofs.Notions.{Fits}
-
--- ---- one node after another
-
--- the group of the first node
-pub groupAt-first :
-    (node : Word) (nodes : List Word) (g : ℕ) (groups : List ℕ) (w : Word) → w ≡ node →
-    groupAt (node ∷ nodes) (g ∷ groups) w ≡ g
-unfolding groupAt
-groupAt-first node nodes g groups w e =
-    ap (λ (b : Bool). elim b as (λ z. ℕ) [ true ↦ g | false ↦ groupAt nodes groups w ]) (tells-same w node .test e)
-
--- the group of another node
-pub groupAt-later :
-    (node : Word) (nodes : List Word) (g : ℕ) (groups : List ℕ) (w : Word) → (w ≡ node → ⊥) →
-    groupAt (node ∷ nodes) (g ∷ groups) w ≡ groupAt nodes groups w
-unfolding groupAt
-groupAt-later node nodes g groups w d =
-    ap (λ (b : Bool). elim b as (λ z. ℕ) [ true ↦ g | false ↦ groupAt nodes groups w ]) (told-false (tells-same w node) d)
-
--- a node of a longer list of nodes is the first, or is another one and stands later
-first-or-later : (node w : Word) (nodes : List Word) → In w (node ∷ nodes) → (w ≡ node) ⊎ ((w ≡ node → ⊥) × In w nodes)
-first-or-later node w nodes m = go (word-dec w node) (List·Memᴰ·cases-cons m)
-  where
-    go : (w ≡ node) ⊎ (w ≡ node → ⊥) → (w ≡ node) ⊎ In w nodes → (w ≡ node) ⊎ ((w ≡ node → ⊥) × In w nodes)
-    go (inl e) n = inl e
-    go (inr d) (inl e) = absurd (d e)
-    go (inr d) (inr n) = inr (d, n)
-
-no-groups : (node : Word) (nodes : List Word) → Fits (node ∷ nodes) [] → ⊥
-no-groups node nodes fits = let e : zero ≡ suc (length nodes) = fits .lengths in omega arith
-
-pub fits-rest : (node : Word) (nodes : List Word) (g : ℕ) (groups : List ℕ) → Fits (node ∷ nodes) (g ∷ groups) → Fits nodes groups
-fits-rest node nodes g groups fits =
-    let e : suc (length groups) ≡ suc (length nodes) = fits .lengths in
-    record { lengths = omega arith }
 
 -- ---- the groups at the start
 
@@ -64,6 +29,7 @@ pub apart-fits : (nodes : List Word) → Fits nodes (apart nodes)
 unfolding apart
 apart-fits nodes = record { lengths = length-numbersFrom (length nodes) 0 }
 
+-- numbered from i on, no node has a group below i
 low-groups : (nodes : List Word) (i : ℕ) (w : Word) → In w nodes → i ≤ groupAt nodes (numbersFrom (length nodes) i) w
 unfolding numbersFrom
 low-groups [] i w m = absurd (List·Memᴰ·not-nil m)
@@ -75,6 +41,7 @@ low-groups (node ∷ nodes) i w m = go (first-or-later node w nodes m) (λ n. lo
     go (inl e) again = omega (arith, groupAt-first node nodes i (numbersFrom (length nodes) (suc i)) w e)
     go (inr r) again = omega (arith, groupAt-later node nodes i (numbersFrom (length nodes) (suc i)) w (r .0), again (r .1))
 
+-- and no two nodes have the same
 single-from :
     (nodes : List Word) (i : ℕ) (u w : Word) → In u nodes → In w nodes →
     groupAt nodes (numbersFrom (length nodes) i) u ≡ groupAt nodes (numbersFrom (length nodes) i) w → u ≡ w
@@ -115,6 +82,7 @@ pub merged-fits : (nodes : List Word) (groups : List ℕ) (x y : ℕ) → Fits n
 unfolding merged
 merged-fits nodes groups x y fits = record { lengths = length-map groups (mergedTo x y) ∙ fits .lengths }
 
+-- the group of a node after a merge
 pub groupAt-merged :
     (nodes : List Word) (groups : List ℕ) (x y : ℕ) (w : Word) → Fits nodes groups → In w nodes →
     groupAt nodes (merged x y groups) w ≡ mergedTo x y (groupAt nodes groups w)
@@ -136,29 +104,6 @@ groupAt-merged (node ∷ nodes) (g ∷ groups) x y w fits m =
     go (inr r) again =
         groupAt-later node nodes (mergedTo x y g) rest w (r .0) ∙ again (r .1)
         ∙ sym (ap (mergedTo x y) (groupAt-later node nodes g groups w (r .0)))
-
--- the one of two numbers that stays
-lower : ℕ → ℕ → ℕ
-lower x y = cond (ltb x y) x y
-
-lower-cases : (x y : ℕ) → (lower x y ≡ x) ⊎ (lower x y ≡ y)
-unfolding lower
-lower-cases x y = go (ltb x y)
-  where
-    go : (b : Bool) → (cond b x y ≡ x) ⊎ (cond b x y ≡ y)
-    go true = inl refl
-    go false = inr refl
-
-told-either : (x y g : ℕ) → Tells (eqb g x || eqb g y) ((g ≡ x) ⊎ (g ≡ y))
-told-either x y g = tells-or (tells-eqb g x) (tells-eqb g y)
-
-merged-either : (x y g : ℕ) → (g ≡ x) ⊎ (g ≡ y) → mergedTo x y g ≡ lower x y
-unfolding mergedTo lower
-merged-either x y g h = ap (λ (b : Bool). cond b (cond (ltb x y) x y) g) (told-either x y g .test h)
-
-merged-neither : (x y g : ℕ) → ((g ≡ x) ⊎ (g ≡ y) → ⊥) → mergedTo x y g ≡ g
-unfolding mergedTo
-merged-neither x y g h = ap (λ (b : Bool). cond b (cond (ltb x y) x y) g) (told-false (told-either x y g) h)
 
 -- what a group that a merge leaves was before: the two are one group, or each is x or y
 pub mergedTo-cases :
@@ -188,22 +133,11 @@ group-in [] groups w fits m = absurd (List·Memᴰ·not-nil m)
 group-in (node ∷ nodes) [] w fits m = absurd (no-groups node nodes fits)
 group-in (node ∷ nodes) (g ∷ groups) w fits m =
     ⊎-elim (λ e. here (groupAt-first node nodes g groups w e))
-    (λ r. there (Memᴰ·cast (groupAt-later node nodes g groups w (r .0)) (group-in nodes groups w (fits-rest node nodes g groups fits) (r .1))))
+    (λ r. there
+    (Memᴰ·cast (groupAt-later node nodes g groups w (r .0)) (group-in nodes groups w (fits-rest node nodes g groups fits) (r .1))))
     (first-or-later node w nodes m)
 
-memberOf-first :
-    (w : Word) (nodes : List Word) (x : ℕ) (groups : List ℕ) (g : ℕ) → g ≡ x → memberOf (w ∷ nodes) (x ∷ groups) g ≡ w
-unfolding memberOf
-memberOf-first w nodes x groups g e =
-    ap (λ (b : Bool). elim b as (λ z. Word) [ true ↦ w | false ↦ memberOf nodes groups g ]) (tells-eqb g x .test e)
-
-memberOf-later :
-    (w : Word) (nodes : List Word) (x : ℕ) (groups : List ℕ) (g : ℕ) → (g ≡ x → ⊥) →
-    memberOf (w ∷ nodes) (x ∷ groups) g ≡ memberOf nodes groups g
-unfolding memberOf
-memberOf-later w nodes x groups g d =
-    ap (λ (b : Bool). elim b as (λ z. Word) [ true ↦ w | false ↦ memberOf nodes groups g ]) (told-false (tells-eqb g x) d)
-
+-- a group's first state is a node of that group
 pub member-of :
     (nodes : List Word) (groups : List ℕ) (g : ℕ) → Distinct nodes → Fits nodes groups → In g groups →
     In (memberOf nodes groups g) nodes × (groupAt nodes groups (memberOf nodes groups g) ≡ g)
@@ -229,6 +163,7 @@ member-of (node ∷ nodes) (x ∷ groups) g d fits m =
         subst MemberOf (sym (memberOf-later node nodes x groups g k))
         (there (r .0), groupAt-later node nodes x groups (memberOf nodes groups g) (λ p. d .0 (Memᴰ·cast (sym p) (r .0))) ∙ r .1)
 
+-- a group accepts exactly when one of its nodes is a row
 pub tells-accepts :
     (rows nodes : List Word) (groups : List ℕ) (g : ℕ) →
     Tells (groupAccepts rows nodes groups g) ((w : Word) × In w nodes × (groupAt nodes groups w ≡ g) × In w rows)
@@ -239,17 +174,6 @@ tells-accepts rows nodes groups g =
     (λ h. (h .0, h .1, (h .2, h .3)))
 
 -- ---- the different groups
-
--- what the different groups are when one group more comes in front
-groupsIn-kept : (g : ℕ) (groups : List ℕ) → In g (groupsIn groups) → groupsIn (g ∷ groups) ≡ groupsIn groups
-unfolding groupsIn
-groupsIn-kept g groups m =
-    ap (λ (b : Bool). cond b (groupsIn groups) (g ∷ groupsIn groups)) (tells-isIn g (groupsIn groups) .test m)
-
-groupsIn-new : (g : ℕ) (groups : List ℕ) → (In g (groupsIn groups) → ⊥) → groupsIn (g ∷ groups) ≡ g ∷ groupsIn groups
-unfolding groupsIn
-groupsIn-new g groups d =
-    ap (λ (b : Bool). cond b (groupsIn groups) (g ∷ groupsIn groups)) (told-false (tells-isIn g (groupsIn groups)) d)
 
 -- the different groups are the groups, each once
 pub in-groupsIn : (groups : List ℕ) (g : ℕ) → In g groups → In g (groupsIn groups)

@@ -71,7 +71,9 @@ transitionsInto-in nodes groups ((x ∷ v) ∷ ws) t m =
       dropLast (x ∷ v),
       lastOr x v,
       here (last-split x v),
-      e ∙ ap (λ (z : Word). transition (groupAt nodes groups (dropLast (x ∷ v))) (lastOr x v) (groupAt nodes groups z)) (sym (last-split x v)),
+      e
+          ∙ ap (λ (z : Word). transition (groupAt nodes groups (dropLast (x ∷ v))) (lastOr x v) (groupAt nodes groups z))
+          (sym (last-split x v)),
     ))
     (λ n. let r = transitionsInto-in nodes groups ws t n in (r .0, r .1, there (r .2), r .3))
     (List·Memᴰ·cases-cons m)
