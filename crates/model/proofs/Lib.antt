@@ -2,8 +2,11 @@
 pub mod Tests
 pub mod Lists
 pub mod Notions
+pub mod GroupCases
 pub mod Groups
 pub mod Transitions
+pub mod Routes
+pub mod Contexts
 pub mod Rules
 pub mod Sound
 pub mod Complete

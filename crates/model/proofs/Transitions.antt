@@ -1,39 +1,125 @@
 -- Arcs between groups by their nodes, and walks between groups. Assumes nothing.
-use mathlib.Core.Path.{_≡_, refl, sym, ap, _∙_, subst}
-use mathlib.Core.Logic.{_⊎_, inl, inr, ⊎-elim}
-use mathlib.Core.List.{List, [], _∷_, _++_, dropLast, append-assoc, append-nil, List·Memᴰ as In, List·Memᴰ·head as here, List·Memᴰ·tail as there}
-use Prim.Native.Nat.{ℕ, zero, suc}
-use lib.ListN.{length}
+use mathlib.Core.Path.{_≡_, refl, sym, ap, ap₂, _∙_, subst}
+use mathlib.Core.Logic.{⊎-elim}
+use mathlib.Core.List.{List, [], _∷_, _++_, dropLast, append-assoc, append-nil}
+use mathlib.Core.List.{List·Memᴰ as In, List·Memᴰ·head as here, List·Memᴰ·tail as there, List·Memᴰ·not-nil, List·Memᴰ·cases-cons, Memᴰ·cast}
+use mathlib.Core.List.{head-eq-of-cons-eq, tail-eq-of-cons-eq, cons≢nil}
+use Prim.Native.Nat.{ℕ}
 use Rattle.model.specs.Classes.{Word}
 use Rattle.model.specs.Lists.{lastOr}
 use Rattle.model.specs.Joinings.{Transition, transition, transitionsInto, transitionsOf, groupAt}
-use Rattle.model.proofs.Notions.{Tree, Fits, Walks, _▸_, Deterministic}
+use Rattle.model.proofs.Notions.{Tree, Walks, _▸_, Deterministic}
+
+-- ---- a word that is not empty, as a word with one name more
+
+last-split : (x : ℕ) (w : Word) → dropLast (x ∷ w) ▸ lastOr x w ≡ x ∷ w
+unfolding lastOr
+last-split x [] = refl
+last-split x (y ∷ w) = ap (λ (v : Word). x ∷ v) (last-split y w)
+
+dropLast-snoc : (w : Word) (a : ℕ) → dropLast (w ▸ a) ≡ w
+dropLast-snoc [] a = refl
+dropLast-snoc (x ∷ []) a = refl
+dropLast-snoc (x ∷ y ∷ w) a = ap (λ (v : Word). x ∷ v) (dropLast-snoc (y ∷ w) a)
+
+lastOr-snoc : (x : ℕ) (w : Word) (a : ℕ) → lastOr x (w ▸ a) ≡ a
+unfolding lastOr
+lastOr-snoc x [] a = refl
+lastOr-snoc x (y ∷ w) a = lastOr-snoc y w a
+
+-- ---- arcs
+
+-- the arc that the tree's arc into the word x w becomes
+abbrev arcInto : List Word → List ℕ → ℕ → Word → Transition
+arcInto nodes groups x w = transition (groupAt nodes groups (dropLast (x ∷ w))) (lastOr x w) (groupAt nodes groups (x ∷ w))
+
+in-transitionsInto :
+    (nodes : List Word) (groups : List ℕ) (ws : List Word) (x : ℕ) (w : Word) → In (x ∷ w) ws →
+    In (arcInto nodes groups x w) (transitionsInto nodes groups ws)
+unfolding transitionsInto
+in-transitionsInto nodes groups [] x w m = absurd (List·Memᴰ·not-nil m)
+in-transitionsInto nodes groups ([] ∷ ws) x w m =
+    ⊎-elim (λ e. absurd (cons≢nil e)) (λ n. in-transitionsInto nodes groups ws x w n) (List·Memᴰ·cases-cons m)
+in-transitionsInto nodes groups ((y ∷ v) ∷ ws) x w m =
+    ⊎-elim (λ e. here (ap₂ (arcInto nodes groups) (head-eq-of-cons-eq e) (tail-eq-of-cons-eq e)))
+    (λ n. there (in-transitionsInto nodes groups ws x w n))
+    (List·Memᴰ·cases-cons m)
 
 -- each tree arc is an arc between the groups of its ends
 pub in-transitions :
     (nodes : List Word) (groups : List ℕ) (w : Word) (a : ℕ) → In (w ▸ a) nodes →
     In (transition (groupAt nodes groups w) a (groupAt nodes groups (w ▸ a))) (transitionsOf nodes groups)
-in-transitions nodes groups w a m = ?
+unfolding transitionsOf lastOr
+in-transitions nodes groups [] a m = in-transitionsInto nodes groups nodes a [] m
+in-transitions nodes groups (x ∷ w) a m =
+    Memᴰ·cast
+    (ap₂ (λ (v : Word) (b : ℕ). transition (groupAt nodes groups v) b (groupAt nodes groups (x ∷ (w ▸ a))))
+    (sym (dropLast-snoc (x ∷ w) a)) (sym (lastOr-snoc x w a)))
+    (in-transitionsInto nodes groups nodes x (w ▸ a) m)
+
+transitionsInto-in :
+    (nodes : List Word) (groups : List ℕ) (ws : List Word) (t : Transition) → In t (transitionsInto nodes groups ws) →
+    (w : Word) × (a : ℕ) × In (w ▸ a) ws × (t ≡ transition (groupAt nodes groups w) a (groupAt nodes groups (w ▸ a)))
+unfolding transitionsInto
+transitionsInto-in nodes groups [] t m = absurd (List·Memᴰ·not-nil m)
+transitionsInto-in nodes groups ([] ∷ ws) t m =
+    let r = transitionsInto-in nodes groups ws t m in
+    (r .0, r .1, there (r .2), r .3)
+transitionsInto-in nodes groups ((x ∷ v) ∷ ws) t m =
+    ⊎-elim
+    (λ e. (
+      dropLast (x ∷ v),
+      lastOr x v,
+      here (last-split x v),
+      e
+          ∙ ap (λ (z : Word). transition (groupAt nodes groups (dropLast (x ∷ v))) (lastOr x v) (groupAt nodes groups z))
+          (sym (last-split x v)),
+    ))
+    (λ n. let r = transitionsInto-in nodes groups ws t n in (r .0, r .1, there (r .2), r .3))
+    (List·Memᴰ·cases-cons m)
 
 -- and there is no other
 pub transitions-in :
     (nodes : List Word) (groups : List ℕ) (t : Transition) → In t (transitionsOf nodes groups) →
     (w : Word) × (a : ℕ) × In (w ▸ a) nodes × (t ≡ transition (groupAt nodes groups w) a (groupAt nodes groups (w ▸ a)))
-transitions-in nodes groups t m = ?
+unfolding transitionsOf
+transitions-in nodes groups t m = transitionsInto-in nodes groups nodes t m
+
+-- ---- walks
 
 pub walks-append :
     (ts : List Transition) (x z y : ℕ) (p q : Word) → Walks ts x p z → Walks ts z q y → Walks ts x (p ++ q) y
-walks-append ts x z y p q f g = ?
+walks-append ts x z y [] q f g = subst (λ (k : ℕ). Walks ts k q y) (sym f) g
+walks-append ts x z y (a ∷ p) q f g = (f .0, f .1, walks-append ts (f .0) z y p q (f .2) g)
 
 pub walks-split : (ts : List Transition) (x y : ℕ) (p q : Word) → Walks ts x (p ++ q) y → (z : ℕ) × Walks ts x p z × Walks ts z q y
-walks-split ts x y p q f = ?
+walks-split ts x y [] q f = (x, refl, f)
+walks-split ts x y (a ∷ p) q f =
+    let r = walks-split ts (f .0) y p q (f .2) in
+    (r .0, (f .0, f .1, r .1), r .2)
 
 pub walks-unique :
     (ts : List Transition) → Deterministic ts → (x y z : ℕ) (p : Word) → Walks ts x p y → Walks ts x p z → y ≡ z
-walks-unique ts det x y z p f g = ?
+walks-unique ts det x y z [] f g = sym f ∙ g
+walks-unique ts det x y z (a ∷ p) f g =
+    walks-unique ts det (f .0) y z p (f .2) (subst (λ (k : ℕ). Walks ts k p z) (det x a (g .0) (f .0) (g .1) (f .1)) (g .2))
+
+-- with a node what it goes on from
+pub beginning-in : (nodes : List Word) → Tree nodes → (u p : Word) → In (u ++ p) nodes → In u nodes
+beginning-in nodes tree u [] m = subst (λ (w : Word). In w nodes) (append-nil u) m
+beginning-in nodes tree u (a ∷ p) m =
+    tree .parent u a
+    (beginning-in nodes tree (u ▸ a) p (subst (λ (w : Word). In w nodes) (sym (append-assoc u (a ∷ []) p)) m))
 
 -- the tree's own way from a node down to another is walked between their groups
 pub walks-down :
     (nodes : List Word) (groups : List ℕ) → Tree nodes → (u p : Word) → In (u ++ p) nodes →
     Walks (transitionsOf nodes groups) (groupAt nodes groups u) p (groupAt nodes groups (u ++ p))
-walks-down nodes groups tree u p m = ?
+walks-down nodes groups tree u [] m = ap (groupAt nodes groups) (sym (append-nil u))
+walks-down nodes groups tree u (a ∷ p) m =
+    let n : In ((u ▸ a) ++ p) nodes = subst (λ (w : Word). In w nodes) (sym (append-assoc u (a ∷ []) p)) m in (
+      groupAt nodes groups (u ▸ a),
+      in-transitions nodes groups u a (beginning-in nodes tree (u ▸ a) p n),
+      subst (λ (w : Word). Walks (transitionsOf nodes groups) (groupAt nodes groups (u ▸ a)) p (groupAt nodes groups w))
+          (append-assoc u (a ∷ []) p) (walks-down nodes groups tree (u ▸ a) p n),
+    )
