@@ -1,15 +1,15 @@
 -- A table admits a word exactly when the joined automaton goes by it from the root's group to an accepting group. In order: the
--- state of a group met, the target of its arc of a name, the walk by a word. Assumes nothing.
+-- target by a name among renumbered arcs, the state of a group met, the walk by one name and by a word. Assumes nothing.
 use mathlib.Core.Path.{_≡_, refl, sym, ap, _∙_, subst}
 use mathlib.Core.Logic.{_⊎_, inl, inr, ⊎-elim}
 use mathlib.Core.Bool.{Bool, true, false, _&&_}
 use mathlib.Core.List.{List, [], _∷_, map, List·Memᴰ as In, List·Memᴰ·head as here, List·Memᴰ·tail as there}
 use mathlib.Core.List.{List·Memᴰ·not-nil, List·Memᴰ·cases-cons}
-use Prim.Native.Nat.{ℕ, zero, suc, _+_, _-_, _≤_, _<_}
+use Prim.Native.Nat.{ℕ, suc, _+_, _-_, _<_}
 use native.Mathlib.Omega.{arith}
 use lib.Dec.{eqb, eqb·suc-zero}
 use lib.ListN.{length, getD}
-use borrow.Author.Tests.{eqb-true, eqb-false, eq-eqb, ne-eqb}
+use borrow.Author.Tests.{eq-eqb, ne-eqb}
 use Rattle.model.specs.Classes.{Word}
 use Rattle.model.specs.Lists.{indexIn}
 use Rattle.model.specs.Tables.{Arc, arc, State, no-state, targetIn, Walk, walk-at, walkFrom, walk, reachedState, admits}
@@ -21,21 +21,7 @@ use Rattle.model.proofs.Transitions.{walks-unique}
 use Rattle.model.proofs.Arcs.{arcsOutOf-in, in-arcsOutOf}
 use Rattle.model.proofs.FirstMet.{index-here, index-there, met-root, root-met, met-closed}
 
--- what a list becomes at the place of x is what x becomes
-pub map-at-index :
-    {A : Type 0} (f : ℕ → A) (d : A) (xs : List ℕ) (x : ℕ) → In x xs → getD (map f xs) (indexIn x xs) d ≡ f x
-map-at-index f d [] x m = absurd (List·Memᴰ·not-nil m)
-map-at-index {A} f d (y ∷ ys) x m = go (eq-dec x y) (map-at-index f d ys x) (List·Memᴰ·cases-cons m)
-  where
-    at : ℕ → A
-    at i = getD (map f (y ∷ ys)) i d
-
-    go :
-        (x ≡ y) ⊎ (x ≡ y → ⊥) → (In x ys → getD (map f ys) (indexIn x ys) d ≡ f x) → (x ≡ y) ⊎ In x ys →
-        getD (map f (y ∷ ys)) (indexIn x (y ∷ ys)) d ≡ f x
-    go (inl e) again n = ap at (index-here x y ys e) ∙ ap f (sym e)
-    go (inr no-head) again (inl e) = absurd (no-head e)
-    go (inr no-head) again (inr n) = ap at (index-there x y ys no-head) ∙ again n
+-- ---- the target by a name
 
 -- the target by a name among renumbered arcs: that of an arc that is there, or none
 pub data Target (met : List ℕ) (arcs : List Arc) (a : ℕ) : Type 0 where
@@ -66,6 +52,50 @@ target met (b ∷ arcs) a = go (eq-dec a (b .name)) (target met arcs a)
         no-group
         (λ y m. ⊎-elim (λ e. other (ap (λ (z : Arc). z .name) e)) (λ n. none y n) (List·Memᴰ·cases-cons m))
         (targetIn-there a new (renumbered met arcs) other ∙ t)
+
+-- ---- the state of a group met
+
+-- what a list becomes at the place of x is what x becomes
+pub map-at-index :
+    {A : Type 0} (f : ℕ → A) (d : A) (xs : List ℕ) (x : ℕ) → In x xs → getD (map f xs) (indexIn x xs) d ≡ f x
+map-at-index f d [] x m = absurd (List·Memᴰ·not-nil m)
+map-at-index {A} f d (y ∷ ys) x m = go (eq-dec x y) (map-at-index f d ys x) (List·Memᴰ·cases-cons m)
+  where
+    at : ℕ → A
+    at i = getD (map f (y ∷ ys)) i d
+
+    go :
+        (x ≡ y) ⊎ (x ≡ y → ⊥) → (In x ys → getD (map f ys) (indexIn x ys) d ≡ f x) → (x ≡ y) ⊎ In x ys →
+        getD (map f (y ∷ ys)) (indexIn x (y ∷ ys)) d ≡ f x
+    go (inl e) again n = ap at (index-here x y ys e) ∙ ap f (sym e)
+    go (inr no-head) again (inl e) = absurd (no-head e)
+    go (inr no-head) again (inr n) = ap at (index-there x y ys no-head) ∙ again n
+
+module _ (rows nodes : List Word) (groups : List ℕ) where
+  pub state-of-met :
+      (g : ℕ) → In g (metGroups nodes groups) →
+      getD (statesOf rows nodes groups) (indexIn g (metGroups nodes groups)) no-state
+      ≡ stateOf rows nodes groups (metGroups nodes groups) g
+  unfolding statesOf
+  state-of-met g m =
+      map-at-index (stateOf rows nodes groups (metGroups nodes groups)) no-state (metGroups nodes groups) g m
+
+  target-of-met :
+      (g a : ℕ) → In g (metGroups nodes groups) →
+      targetIn a (getD (statesOf rows nodes groups) (indexIn g (metGroups nodes groups)) no-state .arcs)
+      ≡ targetIn a (renumbered (metGroups nodes groups) (arcsOutOf g (transitionsOf nodes groups)))
+  unfolding stateOf
+  target-of-met g a m = ap (λ (s : State). targetIn a (s .arcs)) (state-of-met g m)
+
+  -- the state of a group met accepts exactly when the group does
+  accepts-of-met :
+      (g : ℕ) → In g (metGroups nodes groups) →
+      Tells (getD (statesOf rows nodes groups) (indexIn g (metGroups nodes groups)) no-state .accepts)
+      (groupAccepts rows nodes groups g ≡ true)
+  unfolding stateOf
+  accepts-of-met g m =
+      let same = ap (λ (s : State). s .accepts) (state-of-met g m) in
+      record { fact = λ e. sym same ∙ e; test = λ e. same ∙ e }
 
 -- ---- one name walked
 
@@ -100,21 +130,6 @@ pub data Walked (ts : List Transition) (states : List State) (met : List ℕ) (g
 module _
     (rows nodes : List Word) (groups : List ℕ) (tree : Tree nodes) (fits : Fits nodes groups)
     (det : Deterministic (transitionsOf nodes groups)) where
-  pub state-of-met :
-      (g : ℕ) → In g (metGroups nodes groups) →
-      getD (statesOf rows nodes groups) (indexIn g (metGroups nodes groups)) no-state
-      ≡ stateOf rows nodes groups (metGroups nodes groups) g
-  unfolding statesOf
-  state-of-met g m =
-      map-at-index (stateOf rows nodes groups (metGroups nodes groups)) no-state (metGroups nodes groups) g m
-
-  target-of-met :
-      (g a : ℕ) → In g (metGroups nodes groups) →
-      targetIn a (getD (statesOf rows nodes groups) (indexIn g (metGroups nodes groups)) no-state .arcs)
-      ≡ targetIn a (renumbered (metGroups nodes groups) (arcsOutOf g (transitionsOf nodes groups)))
-  unfolding stateOf
-  target-of-met g a m = ap (λ (s : State). targetIn a (s .arcs)) (state-of-met g m)
-
   walked :
       (r : Word) (g n : ℕ) → In g (metGroups nodes groups) →
       Walked (transitionsOf nodes groups) (statesOf rows nodes groups) (metGroups nodes groups) g n r
@@ -151,24 +166,14 @@ module _
           Walked ts states met g n (a ∷ r)
       go (to-group y k e) again =
           let t : In (transition g a y) ts = arcsOutOf-in g a y ts k in
-          further y t (walk-goes states (indexIn g met) n a r (indexIn y met) (target-of-met g a m ∙ e))
+          further y t (walk-goes states (indexIn g met) n a r (indexIn y met) (target-of-met rows nodes groups g a m ∙ e))
           (again y (met-closed nodes groups tree fits det g a y m t))
       go (no-group none e) again =
           let fewer : n < n + suc (length r) = omega arith in
           stopped
           (λ z w. none (w .0) (in-arcsOutOf g a (w .0) ts det (w .1)))
           (subst (λ (v : Walk). v .taken < n + suc (length r))
-          (sym (walk-stops states (indexIn g met) n a r (target-of-met g a m ∙ e))) fewer)
-
-  -- the state of a group met accepts exactly when the group does
-  accepts-of-met :
-      (g : ℕ) → In g (metGroups nodes groups) →
-      Tells (getD (statesOf rows nodes groups) (indexIn g (metGroups nodes groups)) no-state .accepts)
-      (groupAccepts rows nodes groups g ≡ true)
-  unfolding stateOf
-  accepts-of-met g m =
-      let same = ap (λ (s : State). s .accepts) (state-of-met g m) in
-      record { fact = λ e. sym same ∙ e; test = λ e. same ∙ e }
+          (sym (walk-stops states (indexIn g met) n a r (target-of-met rows nodes groups g a m ∙ e))) fewer)
 
 -- the test of `admits` once the walk is known
 abbrev admitsBy : List State → Word → Walk → Bool
@@ -211,7 +216,7 @@ tells-admits rows nodes groups tree fits det r =
         let all : 0 + length r ≡ length r = omega arith in
         subst (λ (v : Walk). Tells (admitsBy states r v) Goes) (sym e ∙ from-root)
         (tells-by
-        (tells-and (tells-eqb (0 + length r) (length r)) (accepts-of-met rows nodes groups tree fits det y m))
+        (tells-and (tells-eqb (0 + length r) (length r)) (accepts-of-met rows nodes groups y m))
         (λ both. (y, w, both .1))
         (λ h. (
           all,
