@@ -1,12 +1,14 @@
--- The arcs out of a group: exactly the automaton's, in strictly ascending names. Assumes nothing.
-use mathlib.Core.Path.{_≡_, refl, sym, ap, _∙_, subst}
+-- The arcs out of a group: exactly the automaton's, in strictly ascending names. First one arc put among others, then all
+-- arcs of a group, then that ascending arcs are known by their elements. Assumes nothing.
+use mathlib.Core.Path.{_≡_, refl, sym, ap, ap₂, _∙_, subst}
 use mathlib.Core.Logic.{_⊎_, inl, inr, ⊎-elim}
-use mathlib.Core.Bool.{Bool, true, false, cond}
-use mathlib.Core.List.{List, [], _∷_, _++_, List·Memᴰ as In, List·Memᴰ·head as here, List·Memᴰ·tail as there}
-use Prim.Native.Nat.{ℕ, zero, suc, _≤_, _<_}
+use mathlib.Core.Bool.{Bool, true, false, cond, false≢true}
+use mathlib.Core.List.{List, [], _∷_, List·Memᴰ as In, List·Memᴰ·head as here, List·Memᴰ·tail as there}
+use mathlib.Core.List.{List·Memᴰ·not-nil, List·Memᴰ·cases-cons, List·Memᴰ·eq-of-singleton, Memᴰ·cast}
+use Prim.Native.Nat.{ℕ, suc, _≤_}
 use native.Mathlib.Omega.{arith}
 use lib.Dec.{eqb, ltb}
-use lib.ListN.{length}
+use borrow.Author.Tests.{eqb-true, eqb-false, eq-eqb, ltb-true, ltb-false}
 use Rattle.model.specs.Tables.{Arc, arc}
 use Rattle.model.specs.Joinings.{Transition, transition}
 use Rattle.model.specs.Quotients.{putArc, arcsOutOf}
@@ -17,18 +19,175 @@ abbrev pub Ascending : ℕ → List Arc → Type 0
 Ascending next [] = Unit {0}
 Ascending next (a ∷ arcs) = (next ≤ a .name) × Ascending (suc (a .name)) arcs
 
+pub ascending-low : (next : ℕ) (arcs : List Arc) (z : Arc) → Ascending next arcs → In z arcs → next ≤ z .name
+ascending-low next [] z p m = absurd (List·Memᴰ·not-nil m)
+ascending-low next (a ∷ arcs) z p m = go (ascending-low (suc (a .name)) arcs z (p .1)) (List·Memᴰ·cases-cons m)
+  where
+    go : (In z arcs → suc (a .name) ≤ z .name) → (z ≡ a) ⊎ In z arcs → next ≤ z .name
+    go again (inl e) = subst (λ (x : Arc). next ≤ x .name) (sym e) (p .0)
+    go again (inr n) =
+        let low : suc (a .name) ≤ z .name = again n in
+        let first : next ≤ a .name = p .0 in
+        omega arith
+
+-- ---- one arc put among others
+
+putArc-ascending :
+    (n to next : ℕ) (arcs : List Arc) → Ascending next arcs → next ≤ n → Ascending next (putArc n to arcs)
+unfolding putArc
+putArc-ascending n to next [] p h = (h, tt)
+putArc-ascending n to next (a ∷ arcs) p h =
+    go (eqb n (a .name)) refl (ltb n (a .name)) refl (putArc-ascending n to (suc (a .name)) arcs (p .1))
+  where
+    go :
+        (b : Bool) → eqb n (a .name) ≡ b → (c : Bool) → ltb n (a .name) ≡ c →
+        (suc (a .name) ≤ n → Ascending (suc (a .name)) (putArc n to arcs)) →
+        Ascending next
+        (elim b [ true ↦ a ∷ arcs | false ↦ elim c [ true ↦ arc n to ∷ (a ∷ arcs) | false ↦ a ∷ putArc n to arcs ] ])
+    go true e c f again = p
+    go false e true f again = (h, (ltb-true n (a .name) f, p .1))
+    go false e false f again =
+        let below : a .name ≤ n = ltb-false n (a .name) f in
+        let other : n ≡ a .name → ⊥ = eqb-false n (a .name) e in
+        (p .0, again (omega arith))
+
+putArc-in : (n to : ℕ) (arcs : List Arc) (z : Arc) → In z (putArc n to arcs) → (z ≡ arc n to) ⊎ In z arcs
+unfolding putArc
+putArc-in n to [] z m = inl (List·Memᴰ·eq-of-singleton m)
+putArc-in n to (a ∷ arcs) z m = go (eqb n (a .name)) (ltb n (a .name)) (putArc-in n to arcs z) m
+  where
+    go :
+        (b c : Bool) → (In z (putArc n to arcs) → (z ≡ arc n to) ⊎ In z arcs) →
+        In z (elim b [ true ↦ a ∷ arcs | false ↦ elim c [ true ↦ arc n to ∷ (a ∷ arcs) | false ↦ a ∷ putArc n to arcs ] ]) →
+        (z ≡ arc n to) ⊎ In z (a ∷ arcs)
+    go true c again k = inr k
+    go false true again k = List·Memᴰ·cases-cons k
+    go false false again k =
+        ⊎-elim (λ e. inr (here e)) (λ r. ⊎-elim (λ e. inl e) (λ q. inr (there q)) (again r)) (List·Memᴰ·cases-cons k)
+
+-- what was there stays
+in-putArc : (n to : ℕ) (arcs : List Arc) (z : Arc) → In z arcs → In z (putArc n to arcs)
+unfolding putArc
+in-putArc n to [] z m = absurd (List·Memᴰ·not-nil m)
+in-putArc n to (a ∷ arcs) z m = go (eqb n (a .name)) (ltb n (a .name)) (in-putArc n to arcs z)
+  where
+    go :
+        (b c : Bool) → (In z arcs → In z (putArc n to arcs)) →
+        In z (elim b [ true ↦ a ∷ arcs | false ↦ elim c [ true ↦ arc n to ∷ (a ∷ arcs) | false ↦ a ∷ putArc n to arcs ] ])
+    go true c again = m
+    go false true again = there m
+    go false false again = ⊎-elim (λ e. here e) (λ q. there (again q)) (List·Memᴰ·cases-cons m)
+
+-- the new arc is there, if no other of its name was
+new-in-putArc :
+    (n to : ℕ) (arcs : List Arc) → ((y : ℕ) → In (arc n y) arcs → y ≡ to) → In (arc n to) (putArc n to arcs)
+unfolding putArc
+new-in-putArc n to [] only = here refl
+new-in-putArc n to (a ∷ arcs) only =
+    go (eqb n (a .name)) refl (ltb n (a .name)) (new-in-putArc n to arcs (λ y m. only y (there m)))
+  where
+    go :
+        (b : Bool) → eqb n (a .name) ≡ b → (c : Bool) → In (arc n to) (putArc n to arcs) →
+        In (arc n to)
+        (elim b [ true ↦ a ∷ arcs | false ↦ elim c [ true ↦ arc n to ∷ (a ∷ arcs) | false ↦ a ∷ putArc n to arcs ] ])
+    go true e c again =
+        let name : n ≡ a .name = eqb-true n (a .name) e in
+        let target : a .to ≡ to = only (a .to) (here (ap (λ (k : ℕ). arc k (a .to)) name)) in
+        here (ap₂ arc name (sym target))
+    go false e true again = here refl
+    go false e false again = there again
+
+-- ---- the arcs out of a group
+
 pub arcsOutOf-ascending : (g : ℕ) (ts : List Transition) → Ascending 0 (arcsOutOf g ts)
-arcsOutOf-ascending g ts = ?
+unfolding arcsOutOf
+arcsOutOf-ascending g [] = tt
+arcsOutOf-ascending g (t ∷ ts) = go (eqb (t .from) g) (arcsOutOf-ascending g ts)
+  where
+    go :
+        (b : Bool) → Ascending 0 (arcsOutOf g ts) →
+        Ascending 0 (cond b (putArc (t .name) (t .to) (arcsOutOf g ts)) (arcsOutOf g ts))
+    go true again = putArc-ascending (t .name) (t .to) 0 (arcsOutOf g ts) again (omega arith)
+    go false again = again
 
 pub arcsOutOf-in : (g a y : ℕ) (ts : List Transition) → In (arc a y) (arcsOutOf g ts) → In (transition g a y) ts
-arcsOutOf-in g a y ts m = ?
+unfolding arcsOutOf
+arcsOutOf-in g a y [] m = absurd (List·Memᴰ·not-nil m)
+arcsOutOf-in g a y (t ∷ ts) m = go (eqb (t .from) g) refl (arcsOutOf-in g a y ts) m
+  where
+    go :
+        (b : Bool) → eqb (t .from) g ≡ b → (In (arc a y) (arcsOutOf g ts) → In (transition g a y) ts) →
+        In (arc a y) (cond b (putArc (t .name) (t .to) (arcsOutOf g ts)) (arcsOutOf g ts)) → In (transition g a y) (t ∷ ts)
+    go true e again k =
+        let from : g ≡ t .from = sym (eqb-true (t .from) g e) in
+        ⊎-elim
+        (λ p. here (ap₂ (λ (x : ℕ) (z : Arc). transition x (z .name) (z .to)) from p))
+        (λ q. there (again q))
+        (putArc-in (t .name) (t .to) (arcsOutOf g ts) (arc a y) k)
+    go false e again k = there (again k)
 
 pub in-arcsOutOf :
     (g a y : ℕ) (ts : List Transition) → Deterministic ts → In (transition g a y) ts → In (arc a y) (arcsOutOf g ts)
-in-arcsOutOf g a y ts det m = ?
+unfolding arcsOutOf
+in-arcsOutOf g a y [] det m = absurd (List·Memᴰ·not-nil m)
+in-arcsOutOf g a y (t ∷ ts) det m =
+    go (eqb (t .from) g) refl (in-arcsOutOf g a y ts (λ x b v w p q. det x b v w (there p) (there q)))
+    (List·Memᴰ·cases-cons m)
+  where
+    go :
+        (b : Bool) → eqb (t .from) g ≡ b → (In (transition g a y) ts → In (arc a y) (arcsOutOf g ts)) →
+        (transition g a y ≡ t) ⊎ In (transition g a y) ts →
+        In (arc a y) (cond b (putArc (t .name) (t .to) (arcsOutOf g ts)) (arcsOutOf g ts))
+    go true e again (inl p) =
+        let name : a ≡ t .name = ap (λ (z : Transition). z .name) p in
+        let to : y ≡ t .to = ap (λ (z : Transition). z .to) p in
+        let only : (z : ℕ) → In (arc (t .name) z) (arcsOutOf g ts) → z ≡ t .to =
+        λ z k. det g (t .name) z (t .to) (there (arcsOutOf-in g (t .name) z ts k))
+        (here (ap (λ (x : ℕ). transition x (t .name) (t .to)) (sym (eqb-true (t .from) g e)))) in
+        Memᴰ·cast (ap₂ arc name to) (new-in-putArc (t .name) (t .to) (arcsOutOf g ts) only)
+    go true e again (inr q) = in-putArc (t .name) (t .to) (arcsOutOf g ts) (arc a y) (again q)
+    go false e again (inl p) =
+        absurd (false≢true (sym e ∙ eq-eqb (t .from) g (sym (ap (λ (z : Transition). z .from) p))))
+    go false e again (inr q) = again q
+
+-- ---- ascending arcs by their elements
+
+-- of two lists that hold one another's elements, the first elements are one
+heads-equal :
+    (next : ℕ) (x y : Arc) (xs ys : List Arc) → Ascending next (x ∷ xs) → Ascending next (y ∷ ys) →
+    (x ≡ y) ⊎ In x ys → (y ≡ x) ⊎ In y xs → x ≡ y
+heads-equal next x y xs ys p q (inl e) n = e
+heads-equal next x y xs ys p q (inr m) (inl e) = sym e
+heads-equal next x y xs ys p q (inr m) (inr n) =
+    let over : suc (y .name) ≤ x .name = ascending-low (suc (y .name)) ys x (q .1) m in
+    let under : suc (x .name) ≤ y .name = ascending-low (suc (x .name)) xs y (p .1) n in
+    let z : ⊥ = omega arith in
+    absurd z
+
+-- what the second list holds of the first one's later elements stands after its head
+tail-in :
+    (next : ℕ) (x y : Arc) (xs ys : List Arc) → Ascending next (x ∷ xs) → x ≡ y → ((a : Arc) → In a (x ∷ xs) → In a (y ∷ ys)) →
+    (a : Arc) → In a xs → In a ys
+tail-in next x y xs ys p e f a m = go (List·Memᴰ·cases-cons (f a (there m)))
+  where
+    go : (a ≡ y) ⊎ In a ys → In a ys
+    go (inl i) =
+        let over : suc (x .name) ≤ a .name = ascending-low (suc (x .name)) xs a (p .1) m in
+        let name : a .name ≡ x .name = ap (λ (z : Arc). z .name) (i ∙ sym e) in
+        let z : ⊥ = omega arith in
+        absurd z
+    go (inr n) = n
 
 -- ascending arcs with the same elements are the same list
 pub ascending-equal :
     (next : ℕ) (xs ys : List Arc) → Ascending next xs → Ascending next ys → ((a : Arc) → In a xs → In a ys) →
     ((a : Arc) → In a ys → In a xs) → xs ≡ ys
-ascending-equal next xs ys p q f g = ?
+ascending-equal next [] [] p q f g = refl
+ascending-equal next [] (y ∷ ys) p q f g = absurd (List·Memᴰ·not-nil (g y (here refl)))
+ascending-equal next (x ∷ xs) [] p q f g = absurd (List·Memᴰ·not-nil (f x (here refl)))
+ascending-equal next (x ∷ xs) (y ∷ ys) p q f g =
+    let e : x ≡ y =
+    heads-equal next x y xs ys p q (List·Memᴰ·cases-cons (f x (here refl))) (List·Memᴰ·cases-cons (g y (here refl))) in
+    let q′ : Ascending (suc (x .name)) ys = subst (λ (z : Arc). Ascending (suc (z .name)) ys) (sym e) (q .1) in
+    ap₂ (λ (z : Arc) (zs : List Arc). z ∷ zs) e
+    (ascending-equal (suc (x .name)) xs ys (p .1) q′ (tail-in next x y xs ys p e f) (tail-in next y x ys xs q (sym e) g))

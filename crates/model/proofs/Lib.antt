@@ -14,6 +14,7 @@ pub mod Functions
 pub mod Trees
 pub mod Ends
 pub mod Arcs
+pub mod Meeting
 pub mod FirstMet
 pub mod Admits
 pub mod Numbering
