@@ -13,6 +13,7 @@ pub mod Ends
 pub mod Arcs
 pub mod FirstMet
 pub mod Admits
+pub mod Paired
 pub mod Numbering
 pub mod Writable
 pub mod WritableStates
