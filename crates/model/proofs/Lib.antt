@@ -16,5 +16,7 @@ pub mod Admits
 pub mod Paired
 pub mod Numbering
 pub mod Writable
+pub mod MetOrder
+pub mod ArcCount
 pub mod WritableStates
 pub mod Reading
