@@ -17,8 +17,11 @@ pub mod Arcs
 pub mod Meeting
 pub mod FirstMet
 pub mod Admits
+pub mod Paired
 pub mod Numbering
 pub mod Writable
+pub mod MetOrder
+pub mod ArcCount
 pub mod WritableStates
 pub mod Reading
 pub mod Joined
