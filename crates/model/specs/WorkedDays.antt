@@ -1,19 +1,19 @@
--- The worked days (document 01): twelve days over four names, each with what its book comes to, written out; the example book
--- of the listing; and one test that compares everything written here with what the definitions compute. The test's theorem is
--- in proofs/WorkedDays.antt. Byte values of names and text are hexadecimal, sets of names binary (s l d b from the left).
--- Assumes nothing.
+-- The worked days (document 01): twelve days over four names, and two more, each with what its book comes to, written out; the
+-- example book of the listing; and one test that compares everything written here with what the definitions compute. The test's
+-- theorem is in proofs/WorkedDays.antt. Byte values of names and text are hexadecimal, sets of names binary (s l d b from the
+-- left). Assumes nothing.
 use mathlib.Core.Bool.{Bool, true, false, _&&_}
 use mathlib.Core.List.{List, [], _∷_, _++_, map, flatMap}
 use Prim.Native.Nat.{ℕ, zero, suc}
 use lib.Dec.{eqb}
 use lib.ListN.{length, getD}
 use Rattle.model.specs.Lists.{all, filterBy, numbersFrom, same}
-use Rattle.model.specs.Fields.{Class, class-of, File, file, book, readFields}
-use Rattle.model.specs.Tables.{State, no-state, walk, admits, outcome, longestBeginning, nextNames, nextCount}
+use Rattle.model.specs.Fields.{Class, class-of, File, file, table, readFields}
+use Rattle.model.specs.Tables.{State, no-state, isFirstMet, walk, admits, outcome, longestBeginning, nextNames, nextCount}
 use Rattle.model.specs.Classes.{Word}
-use Rattle.model.specs.Joinings.{treeOf, joinedGroups}
-use Rattle.model.specs.Quotients.{bookStates, bookTable}
-use Rattle.model.specs.Calls.{bookOf, bookFault, joinsOf}
+use Rattle.model.specs.Joinings.{Step, step, treeOf, joinedGroups, isFullJoining}
+use Rattle.model.specs.Quotients.{bookTable, tableAfter}
+use Rattle.model.specs.Calls.{bookOf, bookFault, joinsOf, tableStates}
 use Rattle.model.specs.Listing.{listingOf}
 
 -- ---- the names
@@ -80,14 +80,16 @@ abbrev pub remark : Word → ℕ → ℕ → Word → ℕ → ℕ → Remark
 remark row ends taken beginning next count =
     record { row = row; ends = ends; taken = taken; beginning = beginning; next-names = next; next-count = count }
 
--- a day: its class and rows; the states of its prefix tree, and for each the group that the joining leaves it in, which goes by
--- its first state; how many states and joins there are; the table's bytes, a field a line; the accepting states; all rows of at
--- most four names that are admitted, shorter ones first, then by the first different entry; walks worth a remark
+-- a day: its class and rows; the states of its prefix tree, and for each the group that it ends in, which goes by its first
+-- state; the steps of one full joining, here the last open step each time; how many states and joins there are; the table's
+-- bytes, a field a line; the accepting states; all rows of at most four names that are admitted, shorter ones first, then by the
+-- first different entry; walks worth a remark
 pub record Day : Type 0 where
   pub class-is : Class
   pub rows : List Word
   pub tree : List Word
   pub groups : List ℕ
+  pub joining : List Step
   pub tree-states : ℕ
   pub table-states : ℕ
   pub joins : ℕ
@@ -106,6 +108,7 @@ P1 =
       rows = [] ∷ [];
       tree = [] ∷ [];
       groups = 0 ∷ [];
+      joining = [];
       tree-states = 1;
       table-states = 1;
       joins = 0;
@@ -128,6 +131,7 @@ P2 =
       rows = (s ∷ s ∷ []) ∷ [];
       tree = [] ∷ (s ∷ []) ∷ (s ∷ s ∷ []) ∷ [];
       groups = 0 ∷ 1 ∷ 1 ∷ [];
+      joining = step 2 1 ∷ [];
       tree-states = 3;
       table-states = 2;
       joins = 1;
@@ -152,6 +156,7 @@ P3 =
       rows = (s ∷ s ∷ []) ∷ [];
       tree = [] ∷ (s ∷ []) ∷ (s ∷ s ∷ []) ∷ [];
       groups = 0 ∷ 1 ∷ 2 ∷ [];
+      joining = [];
       tree-states = 3;
       table-states = 3;
       joins = 0;
@@ -178,6 +183,7 @@ P4 =
       tree =
           [] ∷ (b ∷ []) ∷ (b ∷ l ∷ []) ∷ (b ∷ l ∷ d ∷ []) ∷ (b ∷ s ∷ []) ∷ (b ∷ s ∷ l ∷ []) ∷ (b ∷ s ∷ l ∷ d ∷ []) ∷ [];
       groups = 0 ∷ 1 ∷ 2 ∷ 3 ∷ 4 ∷ 2 ∷ 3 ∷ [];
+      joining = step 6 3 ∷ step 5 2 ∷ [];
       tree-states = 7;
       table-states = 5;
       joins = 2;
@@ -206,6 +212,7 @@ P5 =
       tree =
           [] ∷ (b ∷ []) ∷ (b ∷ l ∷ []) ∷ (b ∷ l ∷ d ∷ []) ∷ (b ∷ s ∷ []) ∷ (b ∷ s ∷ l ∷ []) ∷ (b ∷ s ∷ l ∷ d ∷ []) ∷ [];
       groups = 0 ∷ 1 ∷ 2 ∷ 3 ∷ 4 ∷ 5 ∷ 3 ∷ [];
+      joining = step 6 3 ∷ [];
       tree-states = 7;
       table-states = 6;
       joins = 1;
@@ -234,6 +241,7 @@ P6 =
       tree =
           [] ∷ (b ∷ []) ∷ (b ∷ s ∷ []) ∷ (b ∷ s ∷ l ∷ []) ∷ (d ∷ []) ∷ (d ∷ s ∷ []) ∷ (d ∷ s ∷ l ∷ []) ∷ (b ∷ s ∷ b ∷ []) ∷ [];
       groups = 0 ∷ 1 ∷ 2 ∷ 3 ∷ 4 ∷ 2 ∷ 3 ∷ 7 ∷ [];
+      joining = step 6 3 ∷ step 5 2 ∷ [];
       tree-states = 8;
       table-states = 6;
       joins = 2;
@@ -262,6 +270,7 @@ P7 =
       tree =
           [] ∷ (b ∷ []) ∷ (b ∷ s ∷ []) ∷ (b ∷ s ∷ l ∷ []) ∷ (d ∷ []) ∷ (d ∷ s ∷ []) ∷ (d ∷ s ∷ l ∷ []) ∷ (b ∷ s ∷ b ∷ []) ∷ [];
       groups = 0 ∷ 1 ∷ 2 ∷ 3 ∷ 4 ∷ 5 ∷ 3 ∷ 7 ∷ [];
+      joining = step 6 3 ∷ [];
       tree-states = 8;
       table-states = 7;
       joins = 1;
@@ -290,6 +299,7 @@ P8 =
       rows = (s ∷ []) ∷ (s ∷ s ∷ []) ∷ [];
       tree = [] ∷ (s ∷ []) ∷ (s ∷ s ∷ []) ∷ [];
       groups = 0 ∷ 1 ∷ 1 ∷ [];
+      joining = step 2 1 ∷ [];
       tree-states = 3;
       table-states = 2;
       joins = 1;
@@ -313,6 +323,7 @@ P9 =
       rows = (s ∷ []) ∷ (s ∷ s ∷ []) ∷ [];
       tree = [] ∷ (s ∷ []) ∷ (s ∷ s ∷ []) ∷ [];
       groups = 0 ∷ 0 ∷ 0 ∷ [];
+      joining = step 2 1 ∷ step 1 0 ∷ [];
       tree-states = 3;
       table-states = 1;
       joins = 2;
@@ -335,6 +346,7 @@ P10 =
       rows = (s ∷ []) ∷ (s ∷ s ∷ []) ∷ [];
       tree = [] ∷ (s ∷ []) ∷ (s ∷ s ∷ []) ∷ [];
       groups = 0 ∷ 1 ∷ 1 ∷ [];
+      joining = step 2 1 ∷ [];
       tree-states = 3;
       table-states = 2;
       joins = 1;
@@ -358,6 +370,7 @@ P11 =
       rows = (b ∷ s ∷ []) ∷ (s ∷ b ∷ []) ∷ [];
       tree = [] ∷ (b ∷ []) ∷ (b ∷ s ∷ []) ∷ (s ∷ []) ∷ (s ∷ b ∷ []) ∷ [];
       groups = 0 ∷ 1 ∷ 2 ∷ 3 ∷ 2 ∷ [];
+      joining = step 4 2 ∷ [];
       tree-states = 5;
       table-states = 4;
       joins = 1;
@@ -385,6 +398,7 @@ P12 =
       rows = (s ∷ s ∷ []) ∷ (s ∷ s ∷ []) ∷ [];
       tree = [] ∷ (s ∷ []) ∷ (s ∷ s ∷ []) ∷ [];
       groups = 0 ∷ 1 ∷ 2 ∷ [];
+      joining = [];
       tree-states = 3;
       table-states = 3;
       joins = 0;
@@ -402,8 +416,71 @@ P12 =
           remark (s ∷ s ∷ s ∷ []) stops 2 (s ∷ s ∷ []) 0b0000 0 ∷ [];
     }
 
+-- the twelve days that document 01 marks P
 abbrev pub workedDays : List Day
 workedDays = P1 ∷ P2 ∷ P3 ∷ P4 ∷ P5 ∷ P6 ∷ P7 ∷ P8 ∷ P9 ∷ P10 ∷ P11 ∷ P12 ∷ []
+
+-- ---- two days more, for joins that go astray and change none of the twelve
+
+-- Q1: seen set, bs and sbb: sb and bs have the same seen set, and that alone joins nothing
+abbrev pub Q1 : Day
+Q1 =
+    record {
+      class-is = class-of 1 0 0;
+      rows = (b ∷ s ∷ []) ∷ (s ∷ b ∷ b ∷ []) ∷ [];
+      tree =
+          [] ∷ (b ∷ []) ∷ (b ∷ s ∷ []) ∷ (s ∷ []) ∷ (s ∷ b ∷ []) ∷ (s ∷ b ∷ b ∷ []) ∷ [];
+      groups = 0 ∷ 1 ∷ 2 ∷ 3 ∷ 4 ∷ 2 ∷ [];
+      joining = step 5 2 ∷ [];
+      tree-states = 6;
+      table-states = 5;
+      joins = 1;
+      table-bytes =
+          names-written
+          ++ (2 ∷ 0 ∷ 3 ∷ 1 ∷ 0 ∷ 0 ∷ [])
+          ++ (4 ∷ 0 ∷ 7 ∷ 0 ∷ 0 ∷ 0 ∷ 1 ∷ 3 ∷ 0 ∷ 2 ∷ [])
+          ++ (4 ∷ 0 ∷ 4 ∷ 0 ∷ 3 ∷ 0 ∷ 3 ∷ [])
+          ++ (4 ∷ 0 ∷ 4 ∷ 0 ∷ 0 ∷ 0 ∷ 4 ∷ [])
+          ++ (4 ∷ 0 ∷ 1 ∷ 1 ∷ [])
+          ++ (4 ∷ 0 ∷ 4 ∷ 0 ∷ 0 ∷ 0 ∷ 3 ∷ []);
+      accepting = 3 ∷ [];
+      admitted-rows = (b ∷ s ∷ []) ∷ (s ∷ b ∷ b ∷ []) ∷ [];
+      remarks =
+          remark (s ∷ b ∷ []) on-the-way 2 (s ∷ b ∷ []) 0b0001 1 ∷
+          remark (s ∷ b ∷ b ∷ []) admitted 3 (s ∷ b ∷ b ∷ []) 0b0000 0 ∷ [];
+    }
+
+-- Q2: seen set, s, ss, sbd and ssbl: s and ss join, and so their targets by b, which no rule joins by itself
+abbrev pub Q2 : Day
+Q2 =
+    record {
+      class-is = class-of 1 0 0;
+      rows = (s ∷ []) ∷ (s ∷ s ∷ []) ∷ (s ∷ b ∷ d ∷ []) ∷ (s ∷ s ∷ b ∷ l ∷ []) ∷ [];
+      tree =
+          [] ∷ (s ∷ []) ∷ (s ∷ s ∷ []) ∷ (s ∷ b ∷ []) ∷ (s ∷ b ∷ d ∷ []) ∷ (s ∷ s ∷ b ∷ []) ∷ (s ∷ s ∷ b ∷ l ∷ []) ∷ [];
+      groups = 0 ∷ 1 ∷ 1 ∷ 3 ∷ 4 ∷ 3 ∷ 6 ∷ [];
+      joining = step 2 1 ∷ step 5 3 ∷ [];
+      tree-states = 7;
+      table-states = 5;
+      joins = 2;
+      table-bytes =
+          names-written
+          ++ (2 ∷ 0 ∷ 3 ∷ 1 ∷ 0 ∷ 0 ∷ [])
+          ++ (4 ∷ 0 ∷ 4 ∷ 0 ∷ 3 ∷ 0 ∷ 1 ∷ [])
+          ++ (4 ∷ 0 ∷ 7 ∷ 1 ∷ 0 ∷ 0 ∷ 2 ∷ 3 ∷ 0 ∷ 1 ∷ [])
+          ++ (4 ∷ 0 ∷ 7 ∷ 0 ∷ 1 ∷ 0 ∷ 3 ∷ 2 ∷ 0 ∷ 4 ∷ [])
+          ++ (4 ∷ 0 ∷ 1 ∷ 1 ∷ [])
+          ++ (4 ∷ 0 ∷ 1 ∷ 1 ∷ []);
+      accepting = 1 ∷ 3 ∷ 4 ∷ [];
+      admitted-rows = (s ∷ []) ∷ (s ∷ s ∷ []) ∷ (s ∷ b ∷ d ∷ []) ∷ (s ∷ b ∷ l ∷ []) ∷ (s ∷ s ∷ s ∷ []) ∷ (s ∷ s ∷ b ∷ d ∷ []) ∷
+          (s ∷ s ∷ b ∷ l ∷ []) ∷ (s ∷ s ∷ s ∷ s ∷ []) ∷ [];
+      remarks =
+          remark (s ∷ b ∷ []) on-the-way 2 (s ∷ b ∷ []) 0b0110 2 ∷
+          remark (s ∷ b ∷ l ∷ []) admitted 3 (s ∷ b ∷ l ∷ []) 0b0000 0 ∷ [];
+    }
+
+abbrev pub furtherDays : List Day
+furtherDays = Q1 ∷ Q2 ∷ []
 
 -- ---- the example book of the listing
 
@@ -469,19 +546,24 @@ remarkHolds states r =
 abbrev pub bookOfDay : Day → File
 bookOfDay day = file 3 meal-names (day .class-is) (day .rows)
 
--- everything written down of the day is what the definitions compute
+-- everything written down of the day is what the definitions compute; its walks are over the table's bytes, read back
 unfoldable pub dayHolds : Day → Bool
 dayHolds day =
-    let states = bookStates (bookOfDay day) in
+    let written = bookTable (bookOfDay day) in
+    let states = tableStates written in
     sameRows (treeOf (day .rows)) (day .tree)
     && same (joinedGroups (day .class-is) (day .rows)) (day .groups)
     && eqb (length (treeOf (day .rows))) (day .tree-states)
     && eqb (length states) (day .table-states)
     && eqb (joinsOf (bookOfDay day)) (day .joins)
-    && same (bookTable (bookOfDay day)) (day .table-bytes)
+    && same written (day .table-bytes)
+    && eqb (readFields table written .number) 0
+    && isFirstMet states
     && same (acceptingIn states) (day .accepting)
     && sameRows (filterBy (admits states) shortRows) (day .admitted-rows)
     && all (remarkHolds states) (day .remarks)
+    && isFullJoining (day .class-is) (day .rows) (day .joining)
+    && same (tableAfter (bookOfDay day) (day .joining)) (day .table-bytes)
 
 -- the file is the example book: all read, one name, the class, one row
 unfoldable pub isExample : File → Bool
@@ -500,9 +582,10 @@ exampleHolds =
     && same (listingOf example-book) example-listing
     && same (listingOf []) empty-listing
 
--- all twelve days hold, the repeat of P3 has the table of P3, and the example holds
+-- all twelve days and the further ones hold, the repeat of P3 has the table of P3, and the example holds
 unfoldable pub daysHold : Bool
 daysHold =
     all dayHolds workedDays
+    && all dayHolds furtherDays
     && same (bookTable (bookOfDay P12)) (bookTable (bookOfDay P3))
     && exampleHolds
