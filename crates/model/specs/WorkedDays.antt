@@ -582,10 +582,10 @@ exampleHolds =
     && same (listingOf example-book) example-listing
     && same (listingOf []) empty-listing
 
--- all twelve days and the further ones hold, the repeat of P3 has the table of P3, and the example holds
+-- the example holds, and the days, the further ones before the twelve; and the repeat of P3 has the table of P3
 unfoldable pub daysHold : Bool
 daysHold =
-    all dayHolds workedDays
+    exampleHolds
     && all dayHolds furtherDays
+    && all dayHolds workedDays
     && same (bookTable (bookOfDay P12)) (bookTable (bookOfDay P3))
-    && exampleHolds
