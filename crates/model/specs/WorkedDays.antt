@@ -472,7 +472,8 @@ Q2 =
           ++ (4 ∷ 0 ∷ 1 ∷ 1 ∷ [])
           ++ (4 ∷ 0 ∷ 1 ∷ 1 ∷ []);
       accepting = 1 ∷ 3 ∷ 4 ∷ [];
-      admitted-rows = (s ∷ []) ∷ (s ∷ s ∷ []) ∷ (s ∷ b ∷ d ∷ []) ∷ (s ∷ b ∷ l ∷ []) ∷ (s ∷ s ∷ s ∷ []) ∷ (s ∷ s ∷ b ∷ d ∷ []) ∷
+      admitted-rows =
+          (s ∷ []) ∷ (s ∷ s ∷ []) ∷ (s ∷ b ∷ d ∷ []) ∷ (s ∷ b ∷ l ∷ []) ∷ (s ∷ s ∷ s ∷ []) ∷ (s ∷ s ∷ b ∷ d ∷ []) ∷
           (s ∷ s ∷ b ∷ l ∷ []) ∷ (s ∷ s ∷ s ∷ s ∷ []) ∷ [];
       remarks =
           remark (s ∷ b ∷ []) on-the-way 2 (s ∷ b ∷ []) 0b0110 2 ∷
