@@ -11,3 +11,4 @@ pub mod Quotients
 pub mod Calls
 pub mod Claims
 pub mod Listing
+pub mod WorkedDays

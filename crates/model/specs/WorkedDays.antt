@@ -1,0 +1,592 @@
+-- The worked days (document 01): twelve days over four names, and two more, each with what its book comes to, written out; the
+-- example book of the listing; and one test that compares everything written here with what the definitions compute. The test's
+-- theorem is in proofs/WorkedDays.antt. Byte values of names and text are hexadecimal, sets of names binary (s l d b from the
+-- left). Assumes nothing.
+use mathlib.Core.Bool.{Bool, true, false, _&&_}
+use mathlib.Core.List.{List, [], _∷_, _++_, map, flatMap}
+use Prim.Native.Nat.{ℕ, zero, suc}
+use lib.Dec.{eqb}
+use lib.ListN.{length, getD}
+use Rattle.model.specs.Lists.{all, filterBy, numbersFrom, same}
+use Rattle.model.specs.Fields.{Class, class-of, File, file, table, readFields}
+use Rattle.model.specs.Tables.{State, no-state, isFirstMet, walk, admits, outcome, longestBeginning, nextNames, nextCount}
+use Rattle.model.specs.Classes.{Word}
+use Rattle.model.specs.Joinings.{Step, step, treeOf, joinedGroups, isFullJoining}
+use Rattle.model.specs.Quotients.{bookTable, tableAfter}
+use Rattle.model.specs.Calls.{bookOf, bookFault, joinsOf, tableStates}
+use Rattle.model.specs.Listing.{listingOf}
+
+-- ---- the names
+
+abbrev pub breakfast : List ℕ
+breakfast = 0x62 ∷ 0x72 ∷ 0x65 ∷ 0x61 ∷ 0x6B ∷ 0x66 ∷ 0x61 ∷ 0x73 ∷ 0x74 ∷ []
+
+abbrev pub dinner : List ℕ
+dinner = 0x64 ∷ 0x69 ∷ 0x6E ∷ 0x6E ∷ 0x65 ∷ 0x72 ∷ []
+
+abbrev pub lunch : List ℕ
+lunch = 0x6C ∷ 0x75 ∷ 0x6E ∷ 0x63 ∷ 0x68 ∷ []
+
+abbrev pub snack : List ℕ
+snack = 0x73 ∷ 0x6E ∷ 0x61 ∷ 0x63 ∷ 0x6B ∷ []
+
+abbrev pub meal-names : List (List ℕ)
+meal-names = breakfast ∷ dinner ∷ lunch ∷ snack ∷ []
+
+-- their numbers
+abbrev pub b : ℕ
+b = 0
+
+abbrev pub d : ℕ
+d = 1
+
+abbrev pub l : ℕ
+l = 2
+
+abbrev pub s : ℕ
+s = 3
+
+-- their fields, with which each of the twelve tables begins
+abbrev pub names-written : List ℕ
+names-written =
+    (0x01 ∷ 0x00 ∷ 0x09 ∷ 0x62 ∷ 0x72 ∷ 0x65 ∷ 0x61 ∷ 0x6B ∷ 0x66 ∷ 0x61 ∷ 0x73 ∷ 0x74 ∷ [])
+    ++ (0x01 ∷ 0x00 ∷ 0x06 ∷ 0x64 ∷ 0x69 ∷ 0x6E ∷ 0x6E ∷ 0x65 ∷ 0x72 ∷ [])
+    ++ (0x01 ∷ 0x00 ∷ 0x05 ∷ 0x6C ∷ 0x75 ∷ 0x6E ∷ 0x63 ∷ 0x68 ∷ [])
+    ++ (0x01 ∷ 0x00 ∷ 0x05 ∷ 0x73 ∷ 0x6E ∷ 0x61 ∷ 0x63 ∷ 0x6B ∷ [])
+
+-- ---- what is written down of a day
+
+-- how a walk ends, as `outcome` numbers it
+abbrev pub admitted : ℕ
+admitted = 1
+
+abbrev pub on-the-way : ℕ
+on-the-way = 2
+
+abbrev pub stops : ℕ
+stops = 3
+
+-- a walk worth a remark: the row, how its walk ends, the steps taken, the longest beginning that can be walked, and the names
+-- with an arc from the state reached, as a set and counted
+pub record Remark : Type 0 where
+  pub row : Word
+  pub ends : ℕ
+  pub taken : ℕ
+  pub beginning : Word
+  pub next-names : ℕ
+  pub next-count : ℕ
+
+abbrev pub remark : Word → ℕ → ℕ → Word → ℕ → ℕ → Remark
+remark row ends taken beginning next count =
+    record { row = row; ends = ends; taken = taken; beginning = beginning; next-names = next; next-count = count }
+
+-- a day: its class and rows; the states of its prefix tree, and for each the group that it ends in, which goes by its first
+-- state; the steps of one full joining, here the last open step each time; how many states and joins there are; the table's
+-- bytes, a field a line; the accepting states; all rows of at most four names that are admitted, shorter ones first, then by the
+-- first different entry; walks worth a remark
+pub record Day : Type 0 where
+  pub class-is : Class
+  pub rows : List Word
+  pub tree : List Word
+  pub groups : List ℕ
+  pub joining : List Step
+  pub tree-states : ℕ
+  pub table-states : ℕ
+  pub joins : ℕ
+  pub table-bytes : List ℕ
+  pub accepting : List ℕ
+  pub admitted-rows : List Word
+  pub remarks : List Remark
+
+-- ---- the days
+
+-- P1: context (2,1), the empty row alone: only the empty row admitted
+abbrev pub P1 : Day
+P1 =
+    record {
+      class-is = class-of 0 2 1;
+      rows = [] ∷ [];
+      tree = [] ∷ [];
+      groups = 0 ∷ [];
+      joining = [];
+      tree-states = 1;
+      table-states = 1;
+      joins = 0;
+      table-bytes =
+          names-written
+          ++ (2 ∷ 0 ∷ 3 ∷ 0 ∷ 2 ∷ 1 ∷ [])
+          ++ (4 ∷ 0 ∷ 1 ∷ 1 ∷ []);
+      accepting = 0 ∷ [];
+      admitted-rows = [] ∷ [];
+      remarks =
+          remark [] admitted 0 [] 0b0000 0 ∷
+          remark (s ∷ []) stops 0 [] 0b0000 0 ∷ [];
+    }
+
+-- P2: context (1,1), ss: ss and sss admitted, the empty row not
+abbrev pub P2 : Day
+P2 =
+    record {
+      class-is = class-of 0 1 1;
+      rows = (s ∷ s ∷ []) ∷ [];
+      tree = [] ∷ (s ∷ []) ∷ (s ∷ s ∷ []) ∷ [];
+      groups = 0 ∷ 1 ∷ 1 ∷ [];
+      joining = step 2 1 ∷ [];
+      tree-states = 3;
+      table-states = 2;
+      joins = 1;
+      table-bytes =
+          names-written
+          ++ (2 ∷ 0 ∷ 3 ∷ 0 ∷ 1 ∷ 1 ∷ [])
+          ++ (4 ∷ 0 ∷ 4 ∷ 0 ∷ 3 ∷ 0 ∷ 1 ∷ [])
+          ++ (4 ∷ 0 ∷ 4 ∷ 1 ∷ 3 ∷ 0 ∷ 1 ∷ []);
+      accepting = 1 ∷ [];
+      admitted-rows = (s ∷ []) ∷ (s ∷ s ∷ []) ∷ (s ∷ s ∷ s ∷ []) ∷ (s ∷ s ∷ s ∷ s ∷ []) ∷ [];
+      remarks =
+          remark [] on-the-way 0 [] 0b1000 1 ∷
+          remark (s ∷ s ∷ []) admitted 2 (s ∷ s ∷ []) 0b1000 1 ∷
+          remark (s ∷ s ∷ s ∷ []) admitted 3 (s ∷ s ∷ s ∷ []) 0b1000 1 ∷ [];
+    }
+
+-- P3: context (2,1), ss: only ss admitted
+abbrev pub P3 : Day
+P3 =
+    record {
+      class-is = class-of 0 2 1;
+      rows = (s ∷ s ∷ []) ∷ [];
+      tree = [] ∷ (s ∷ []) ∷ (s ∷ s ∷ []) ∷ [];
+      groups = 0 ∷ 1 ∷ 2 ∷ [];
+      joining = [];
+      tree-states = 3;
+      table-states = 3;
+      joins = 0;
+      table-bytes =
+          names-written
+          ++ (2 ∷ 0 ∷ 3 ∷ 0 ∷ 2 ∷ 1 ∷ [])
+          ++ (4 ∷ 0 ∷ 4 ∷ 0 ∷ 3 ∷ 0 ∷ 1 ∷ [])
+          ++ (4 ∷ 0 ∷ 4 ∷ 0 ∷ 3 ∷ 0 ∷ 2 ∷ [])
+          ++ (4 ∷ 0 ∷ 1 ∷ 1 ∷ []);
+      accepting = 2 ∷ [];
+      admitted-rows = (s ∷ s ∷ []) ∷ [];
+      remarks =
+          remark (s ∷ []) on-the-way 1 (s ∷ []) 0b1000 1 ∷
+          remark (s ∷ s ∷ []) admitted 2 (s ∷ s ∷ []) 0b0000 0 ∷
+          remark (s ∷ s ∷ s ∷ []) stops 2 (s ∷ s ∷ []) 0b0000 0 ∷ [];
+    }
+
+-- P4: context (2,1), bld and bsld: state 4 accepts; state 3 is the one after bs
+abbrev pub P4 : Day
+P4 =
+    record {
+      class-is = class-of 0 2 1;
+      rows = (b ∷ l ∷ d ∷ []) ∷ (b ∷ s ∷ l ∷ d ∷ []) ∷ [];
+      tree =
+          [] ∷ (b ∷ []) ∷ (b ∷ l ∷ []) ∷ (b ∷ l ∷ d ∷ []) ∷ (b ∷ s ∷ []) ∷ (b ∷ s ∷ l ∷ []) ∷ (b ∷ s ∷ l ∷ d ∷ []) ∷ [];
+      groups = 0 ∷ 1 ∷ 2 ∷ 3 ∷ 4 ∷ 2 ∷ 3 ∷ [];
+      joining = step 6 3 ∷ step 5 2 ∷ [];
+      tree-states = 7;
+      table-states = 5;
+      joins = 2;
+      table-bytes =
+          names-written
+          ++ (2 ∷ 0 ∷ 3 ∷ 0 ∷ 2 ∷ 1 ∷ [])
+          ++ (4 ∷ 0 ∷ 4 ∷ 0 ∷ 0 ∷ 0 ∷ 1 ∷ [])
+          ++ (4 ∷ 0 ∷ 7 ∷ 0 ∷ 2 ∷ 0 ∷ 2 ∷ 3 ∷ 0 ∷ 3 ∷ [])
+          ++ (4 ∷ 0 ∷ 4 ∷ 0 ∷ 1 ∷ 0 ∷ 4 ∷ [])
+          ++ (4 ∷ 0 ∷ 4 ∷ 0 ∷ 2 ∷ 0 ∷ 2 ∷ [])
+          ++ (4 ∷ 0 ∷ 1 ∷ 1 ∷ []);
+      accepting = 4 ∷ [];
+      admitted-rows = (b ∷ l ∷ d ∷ []) ∷ (b ∷ s ∷ l ∷ d ∷ []) ∷ [];
+      remarks =
+          remark (b ∷ s ∷ []) on-the-way 2 (b ∷ s ∷ []) 0b0100 1 ∷
+          remark (b ∷ s ∷ l ∷ d ∷ []) admitted 4 (b ∷ s ∷ l ∷ d ∷ []) 0b0000 0 ∷
+          remark (b ∷ d ∷ l ∷ []) stops 1 (b ∷ []) 0b1100 2 ∷ [];
+    }
+
+-- P5: context (2,2), bld and bsld: the same two rows admitted as in P4
+abbrev pub P5 : Day
+P5 =
+    record {
+      class-is = class-of 0 2 2;
+      rows = (b ∷ l ∷ d ∷ []) ∷ (b ∷ s ∷ l ∷ d ∷ []) ∷ [];
+      tree =
+          [] ∷ (b ∷ []) ∷ (b ∷ l ∷ []) ∷ (b ∷ l ∷ d ∷ []) ∷ (b ∷ s ∷ []) ∷ (b ∷ s ∷ l ∷ []) ∷ (b ∷ s ∷ l ∷ d ∷ []) ∷ [];
+      groups = 0 ∷ 1 ∷ 2 ∷ 3 ∷ 4 ∷ 5 ∷ 3 ∷ [];
+      joining = step 6 3 ∷ [];
+      tree-states = 7;
+      table-states = 6;
+      joins = 1;
+      table-bytes =
+          names-written
+          ++ (2 ∷ 0 ∷ 3 ∷ 0 ∷ 2 ∷ 2 ∷ [])
+          ++ (4 ∷ 0 ∷ 4 ∷ 0 ∷ 0 ∷ 0 ∷ 1 ∷ [])
+          ++ (4 ∷ 0 ∷ 7 ∷ 0 ∷ 2 ∷ 0 ∷ 2 ∷ 3 ∷ 0 ∷ 3 ∷ [])
+          ++ (4 ∷ 0 ∷ 4 ∷ 0 ∷ 1 ∷ 0 ∷ 4 ∷ [])
+          ++ (4 ∷ 0 ∷ 4 ∷ 0 ∷ 2 ∷ 0 ∷ 5 ∷ [])
+          ++ (4 ∷ 0 ∷ 1 ∷ 1 ∷ [])
+          ++ (4 ∷ 0 ∷ 4 ∷ 0 ∷ 1 ∷ 0 ∷ 4 ∷ []);
+      accepting = 4 ∷ [];
+      admitted-rows = (b ∷ l ∷ d ∷ []) ∷ (b ∷ s ∷ l ∷ d ∷ []) ∷ [];
+      remarks =
+          remark (b ∷ s ∷ l ∷ d ∷ []) admitted 4 (b ∷ s ∷ l ∷ d ∷ []) 0b0000 0 ∷
+          remark (b ∷ l ∷ s ∷ []) stops 2 (b ∷ l ∷ []) 0b0010 1 ∷ [];
+    }
+
+-- P6: context (2,1), bsl, dsl and bsb: dsb admitted
+abbrev pub P6 : Day
+P6 =
+    record {
+      class-is = class-of 0 2 1;
+      rows = (b ∷ s ∷ l ∷ []) ∷ (d ∷ s ∷ l ∷ []) ∷ (b ∷ s ∷ b ∷ []) ∷ [];
+      tree =
+          [] ∷ (b ∷ []) ∷ (b ∷ s ∷ []) ∷ (b ∷ s ∷ l ∷ []) ∷ (d ∷ []) ∷ (d ∷ s ∷ []) ∷ (d ∷ s ∷ l ∷ []) ∷ (b ∷ s ∷ b ∷ []) ∷ [];
+      groups = 0 ∷ 1 ∷ 2 ∷ 3 ∷ 4 ∷ 2 ∷ 3 ∷ 7 ∷ [];
+      joining = step 6 3 ∷ step 5 2 ∷ [];
+      tree-states = 8;
+      table-states = 6;
+      joins = 2;
+      table-bytes =
+          names-written
+          ++ (2 ∷ 0 ∷ 3 ∷ 0 ∷ 2 ∷ 1 ∷ [])
+          ++ (4 ∷ 0 ∷ 7 ∷ 0 ∷ 0 ∷ 0 ∷ 1 ∷ 1 ∷ 0 ∷ 2 ∷ [])
+          ++ (4 ∷ 0 ∷ 4 ∷ 0 ∷ 3 ∷ 0 ∷ 3 ∷ [])
+          ++ (4 ∷ 0 ∷ 4 ∷ 0 ∷ 3 ∷ 0 ∷ 3 ∷ [])
+          ++ (4 ∷ 0 ∷ 7 ∷ 0 ∷ 0 ∷ 0 ∷ 4 ∷ 2 ∷ 0 ∷ 5 ∷ [])
+          ++ (4 ∷ 0 ∷ 1 ∷ 1 ∷ [])
+          ++ (4 ∷ 0 ∷ 1 ∷ 1 ∷ []);
+      accepting = 4 ∷ 5 ∷ [];
+      admitted-rows = (b ∷ s ∷ b ∷ []) ∷ (b ∷ s ∷ l ∷ []) ∷ (d ∷ s ∷ b ∷ []) ∷ (d ∷ s ∷ l ∷ []) ∷ [];
+      remarks =
+          remark (d ∷ s ∷ []) on-the-way 2 (d ∷ s ∷ []) 0b0101 2 ∷
+          remark (d ∷ s ∷ b ∷ []) admitted 3 (d ∷ s ∷ b ∷ []) 0b0000 0 ∷ [];
+    }
+
+-- P7: context (2,2), bsl, dsl and bsb: dsb stops after ds
+abbrev pub P7 : Day
+P7 =
+    record {
+      class-is = class-of 0 2 2;
+      rows = (b ∷ s ∷ l ∷ []) ∷ (d ∷ s ∷ l ∷ []) ∷ (b ∷ s ∷ b ∷ []) ∷ [];
+      tree =
+          [] ∷ (b ∷ []) ∷ (b ∷ s ∷ []) ∷ (b ∷ s ∷ l ∷ []) ∷ (d ∷ []) ∷ (d ∷ s ∷ []) ∷ (d ∷ s ∷ l ∷ []) ∷ (b ∷ s ∷ b ∷ []) ∷ [];
+      groups = 0 ∷ 1 ∷ 2 ∷ 3 ∷ 4 ∷ 5 ∷ 3 ∷ 7 ∷ [];
+      joining = step 6 3 ∷ [];
+      tree-states = 8;
+      table-states = 7;
+      joins = 1;
+      table-bytes =
+          names-written
+          ++ (2 ∷ 0 ∷ 3 ∷ 0 ∷ 2 ∷ 2 ∷ [])
+          ++ (4 ∷ 0 ∷ 7 ∷ 0 ∷ 0 ∷ 0 ∷ 1 ∷ 1 ∷ 0 ∷ 2 ∷ [])
+          ++ (4 ∷ 0 ∷ 4 ∷ 0 ∷ 3 ∷ 0 ∷ 3 ∷ [])
+          ++ (4 ∷ 0 ∷ 4 ∷ 0 ∷ 3 ∷ 0 ∷ 4 ∷ [])
+          ++ (4 ∷ 0 ∷ 7 ∷ 0 ∷ 0 ∷ 0 ∷ 5 ∷ 2 ∷ 0 ∷ 6 ∷ [])
+          ++ (4 ∷ 0 ∷ 4 ∷ 0 ∷ 2 ∷ 0 ∷ 6 ∷ [])
+          ++ (4 ∷ 0 ∷ 1 ∷ 1 ∷ [])
+          ++ (4 ∷ 0 ∷ 1 ∷ 1 ∷ []);
+      accepting = 5 ∷ 6 ∷ [];
+      admitted-rows = (b ∷ s ∷ b ∷ []) ∷ (b ∷ s ∷ l ∷ []) ∷ (d ∷ s ∷ l ∷ []) ∷ [];
+      remarks =
+          remark (d ∷ s ∷ []) on-the-way 2 (d ∷ s ∷ []) 0b0100 1 ∷
+          remark (d ∷ s ∷ b ∷ []) stops 2 (d ∷ s ∷ []) 0b0100 1 ∷ [];
+    }
+
+-- P8: seen set, s and ss: the empty row is on the way
+abbrev pub P8 : Day
+P8 =
+    record {
+      class-is = class-of 1 0 0;
+      rows = (s ∷ []) ∷ (s ∷ s ∷ []) ∷ [];
+      tree = [] ∷ (s ∷ []) ∷ (s ∷ s ∷ []) ∷ [];
+      groups = 0 ∷ 1 ∷ 1 ∷ [];
+      joining = step 2 1 ∷ [];
+      tree-states = 3;
+      table-states = 2;
+      joins = 1;
+      table-bytes =
+          names-written
+          ++ (2 ∷ 0 ∷ 3 ∷ 1 ∷ 0 ∷ 0 ∷ [])
+          ++ (4 ∷ 0 ∷ 4 ∷ 0 ∷ 3 ∷ 0 ∷ 1 ∷ [])
+          ++ (4 ∷ 0 ∷ 4 ∷ 1 ∷ 3 ∷ 0 ∷ 1 ∷ []);
+      accepting = 1 ∷ [];
+      admitted-rows = (s ∷ []) ∷ (s ∷ s ∷ []) ∷ (s ∷ s ∷ s ∷ []) ∷ (s ∷ s ∷ s ∷ s ∷ []) ∷ [];
+      remarks =
+          remark [] on-the-way 0 [] 0b1000 1 ∷
+          remark (s ∷ s ∷ s ∷ []) admitted 3 (s ∷ s ∷ s ∷ []) 0b1000 1 ∷ [];
+    }
+
+-- P9: last 0 names, s and ss: the empty row admitted
+abbrev pub P9 : Day
+P9 =
+    record {
+      class-is = class-of 2 0 0;
+      rows = (s ∷ []) ∷ (s ∷ s ∷ []) ∷ [];
+      tree = [] ∷ (s ∷ []) ∷ (s ∷ s ∷ []) ∷ [];
+      groups = 0 ∷ 0 ∷ 0 ∷ [];
+      joining = step 2 1 ∷ step 1 0 ∷ [];
+      tree-states = 3;
+      table-states = 1;
+      joins = 2;
+      table-bytes =
+          names-written
+          ++ (2 ∷ 0 ∷ 3 ∷ 2 ∷ 0 ∷ 0 ∷ [])
+          ++ (4 ∷ 0 ∷ 4 ∷ 1 ∷ 3 ∷ 0 ∷ 0 ∷ []);
+      accepting = 0 ∷ [];
+      admitted-rows = [] ∷ (s ∷ []) ∷ (s ∷ s ∷ []) ∷ (s ∷ s ∷ s ∷ []) ∷ (s ∷ s ∷ s ∷ s ∷ []) ∷ [];
+      remarks =
+          remark [] admitted 0 [] 0b1000 1 ∷
+          remark (s ∷ d ∷ []) stops 1 (s ∷ []) 0b1000 1 ∷ [];
+    }
+
+-- P10: last 1 name, s and ss: as P8
+abbrev pub P10 : Day
+P10 =
+    record {
+      class-is = class-of 2 1 0;
+      rows = (s ∷ []) ∷ (s ∷ s ∷ []) ∷ [];
+      tree = [] ∷ (s ∷ []) ∷ (s ∷ s ∷ []) ∷ [];
+      groups = 0 ∷ 1 ∷ 1 ∷ [];
+      joining = step 2 1 ∷ [];
+      tree-states = 3;
+      table-states = 2;
+      joins = 1;
+      table-bytes =
+          names-written
+          ++ (2 ∷ 0 ∷ 3 ∷ 2 ∷ 1 ∷ 0 ∷ [])
+          ++ (4 ∷ 0 ∷ 4 ∷ 0 ∷ 3 ∷ 0 ∷ 1 ∷ [])
+          ++ (4 ∷ 0 ∷ 4 ∷ 1 ∷ 3 ∷ 0 ∷ 1 ∷ []);
+      accepting = 1 ∷ [];
+      admitted-rows = (s ∷ []) ∷ (s ∷ s ∷ []) ∷ (s ∷ s ∷ s ∷ []) ∷ (s ∷ s ∷ s ∷ s ∷ []) ∷ [];
+      remarks =
+          remark [] on-the-way 0 [] 0b1000 1 ∷
+          remark (s ∷ s ∷ s ∷ []) admitted 3 (s ∷ s ∷ s ∷ []) 0b1000 1 ∷ [];
+    }
+
+-- P11: seen set, bs and sb: the two ends join
+abbrev pub P11 : Day
+P11 =
+    record {
+      class-is = class-of 1 0 0;
+      rows = (b ∷ s ∷ []) ∷ (s ∷ b ∷ []) ∷ [];
+      tree = [] ∷ (b ∷ []) ∷ (b ∷ s ∷ []) ∷ (s ∷ []) ∷ (s ∷ b ∷ []) ∷ [];
+      groups = 0 ∷ 1 ∷ 2 ∷ 3 ∷ 2 ∷ [];
+      joining = step 4 2 ∷ [];
+      tree-states = 5;
+      table-states = 4;
+      joins = 1;
+      table-bytes =
+          names-written
+          ++ (2 ∷ 0 ∷ 3 ∷ 1 ∷ 0 ∷ 0 ∷ [])
+          ++ (4 ∷ 0 ∷ 7 ∷ 0 ∷ 0 ∷ 0 ∷ 1 ∷ 3 ∷ 0 ∷ 2 ∷ [])
+          ++ (4 ∷ 0 ∷ 4 ∷ 0 ∷ 3 ∷ 0 ∷ 3 ∷ [])
+          ++ (4 ∷ 0 ∷ 4 ∷ 0 ∷ 0 ∷ 0 ∷ 3 ∷ [])
+          ++ (4 ∷ 0 ∷ 1 ∷ 1 ∷ []);
+      accepting = 3 ∷ [];
+      admitted-rows = (b ∷ s ∷ []) ∷ (s ∷ b ∷ []) ∷ [];
+      remarks =
+          remark (b ∷ []) on-the-way 1 (b ∷ []) 0b1000 1 ∷
+          remark (b ∷ s ∷ []) admitted 2 (b ∷ s ∷ []) 0b0000 0 ∷
+          remark (s ∷ b ∷ []) admitted 2 (s ∷ b ∷ []) 0b0000 0 ∷
+          remark (b ∷ s ∷ b ∷ []) stops 2 (b ∷ s ∷ []) 0b0000 0 ∷ [];
+    }
+
+-- P12: context (2,1), ss twice: a repeat of P3
+abbrev pub P12 : Day
+P12 =
+    record {
+      class-is = class-of 0 2 1;
+      rows = (s ∷ s ∷ []) ∷ (s ∷ s ∷ []) ∷ [];
+      tree = [] ∷ (s ∷ []) ∷ (s ∷ s ∷ []) ∷ [];
+      groups = 0 ∷ 1 ∷ 2 ∷ [];
+      joining = [];
+      tree-states = 3;
+      table-states = 3;
+      joins = 0;
+      table-bytes =
+          names-written
+          ++ (2 ∷ 0 ∷ 3 ∷ 0 ∷ 2 ∷ 1 ∷ [])
+          ++ (4 ∷ 0 ∷ 4 ∷ 0 ∷ 3 ∷ 0 ∷ 1 ∷ [])
+          ++ (4 ∷ 0 ∷ 4 ∷ 0 ∷ 3 ∷ 0 ∷ 2 ∷ [])
+          ++ (4 ∷ 0 ∷ 1 ∷ 1 ∷ []);
+      accepting = 2 ∷ [];
+      admitted-rows = (s ∷ s ∷ []) ∷ [];
+      remarks =
+          remark (s ∷ []) on-the-way 1 (s ∷ []) 0b1000 1 ∷
+          remark (s ∷ s ∷ []) admitted 2 (s ∷ s ∷ []) 0b0000 0 ∷
+          remark (s ∷ s ∷ s ∷ []) stops 2 (s ∷ s ∷ []) 0b0000 0 ∷ [];
+    }
+
+-- the twelve days that document 01 marks P
+abbrev pub workedDays : List Day
+workedDays = P1 ∷ P2 ∷ P3 ∷ P4 ∷ P5 ∷ P6 ∷ P7 ∷ P8 ∷ P9 ∷ P10 ∷ P11 ∷ P12 ∷ []
+
+-- ---- two days more, for joins that go astray and change none of the twelve
+
+-- Q1: seen set, bs and sbb: sb and bs have the same seen set, and that alone joins nothing
+abbrev pub Q1 : Day
+Q1 =
+    record {
+      class-is = class-of 1 0 0;
+      rows = (b ∷ s ∷ []) ∷ (s ∷ b ∷ b ∷ []) ∷ [];
+      tree =
+          [] ∷ (b ∷ []) ∷ (b ∷ s ∷ []) ∷ (s ∷ []) ∷ (s ∷ b ∷ []) ∷ (s ∷ b ∷ b ∷ []) ∷ [];
+      groups = 0 ∷ 1 ∷ 2 ∷ 3 ∷ 4 ∷ 2 ∷ [];
+      joining = step 5 2 ∷ [];
+      tree-states = 6;
+      table-states = 5;
+      joins = 1;
+      table-bytes =
+          names-written
+          ++ (2 ∷ 0 ∷ 3 ∷ 1 ∷ 0 ∷ 0 ∷ [])
+          ++ (4 ∷ 0 ∷ 7 ∷ 0 ∷ 0 ∷ 0 ∷ 1 ∷ 3 ∷ 0 ∷ 2 ∷ [])
+          ++ (4 ∷ 0 ∷ 4 ∷ 0 ∷ 3 ∷ 0 ∷ 3 ∷ [])
+          ++ (4 ∷ 0 ∷ 4 ∷ 0 ∷ 0 ∷ 0 ∷ 4 ∷ [])
+          ++ (4 ∷ 0 ∷ 1 ∷ 1 ∷ [])
+          ++ (4 ∷ 0 ∷ 4 ∷ 0 ∷ 0 ∷ 0 ∷ 3 ∷ []);
+      accepting = 3 ∷ [];
+      admitted-rows = (b ∷ s ∷ []) ∷ (s ∷ b ∷ b ∷ []) ∷ [];
+      remarks =
+          remark (s ∷ b ∷ []) on-the-way 2 (s ∷ b ∷ []) 0b0001 1 ∷
+          remark (s ∷ b ∷ b ∷ []) admitted 3 (s ∷ b ∷ b ∷ []) 0b0000 0 ∷ [];
+    }
+
+-- Q2: seen set, s, ss, sbd and ssbl: s and ss join, and so their targets by b, which no rule joins by itself
+abbrev pub Q2 : Day
+Q2 =
+    record {
+      class-is = class-of 1 0 0;
+      rows = (s ∷ []) ∷ (s ∷ s ∷ []) ∷ (s ∷ b ∷ d ∷ []) ∷ (s ∷ s ∷ b ∷ l ∷ []) ∷ [];
+      tree =
+          [] ∷ (s ∷ []) ∷ (s ∷ s ∷ []) ∷ (s ∷ b ∷ []) ∷ (s ∷ b ∷ d ∷ []) ∷ (s ∷ s ∷ b ∷ []) ∷ (s ∷ s ∷ b ∷ l ∷ []) ∷ [];
+      groups = 0 ∷ 1 ∷ 1 ∷ 3 ∷ 4 ∷ 3 ∷ 6 ∷ [];
+      joining = step 2 1 ∷ step 5 3 ∷ [];
+      tree-states = 7;
+      table-states = 5;
+      joins = 2;
+      table-bytes =
+          names-written
+          ++ (2 ∷ 0 ∷ 3 ∷ 1 ∷ 0 ∷ 0 ∷ [])
+          ++ (4 ∷ 0 ∷ 4 ∷ 0 ∷ 3 ∷ 0 ∷ 1 ∷ [])
+          ++ (4 ∷ 0 ∷ 7 ∷ 1 ∷ 0 ∷ 0 ∷ 2 ∷ 3 ∷ 0 ∷ 1 ∷ [])
+          ++ (4 ∷ 0 ∷ 7 ∷ 0 ∷ 1 ∷ 0 ∷ 3 ∷ 2 ∷ 0 ∷ 4 ∷ [])
+          ++ (4 ∷ 0 ∷ 1 ∷ 1 ∷ [])
+          ++ (4 ∷ 0 ∷ 1 ∷ 1 ∷ []);
+      accepting = 1 ∷ 3 ∷ 4 ∷ [];
+      admitted-rows =
+          (s ∷ []) ∷ (s ∷ s ∷ []) ∷ (s ∷ b ∷ d ∷ []) ∷ (s ∷ b ∷ l ∷ []) ∷ (s ∷ s ∷ s ∷ []) ∷ (s ∷ s ∷ b ∷ d ∷ []) ∷
+          (s ∷ s ∷ b ∷ l ∷ []) ∷ (s ∷ s ∷ s ∷ s ∷ []) ∷ [];
+      remarks =
+          remark (s ∷ b ∷ []) on-the-way 2 (s ∷ b ∷ []) 0b0110 2 ∷
+          remark (s ∷ b ∷ l ∷ []) admitted 3 (s ∷ b ∷ l ∷ []) 0b0000 0 ∷ [];
+    }
+
+abbrev pub furtherDays : List Day
+furtherDays = Q1 ∷ Q2 ∷ []
+
+-- ---- the example book of the listing
+
+-- one name, snack; context (1,1); one row, two snacks
+abbrev pub example-book : List ℕ
+example-book =
+    (0x01 ∷ 0x00 ∷ 0x05 ∷ 0x73 ∷ 0x6E ∷ 0x61 ∷ 0x63 ∷ 0x6B ∷ [])
+    ++ (0x02 ∷ 0x00 ∷ 0x03 ∷ 0x00 ∷ 0x01 ∷ 0x01 ∷ [])
+    ++ (0x03 ∷ 0x00 ∷ 0x02 ∷ 0x00 ∷ 0x00 ∷ [])
+
+abbrev pub example-table : List ℕ
+example-table =
+    (0x01 ∷ 0x00 ∷ 0x05 ∷ 0x73 ∷ 0x6E ∷ 0x61 ∷ 0x63 ∷ 0x6B ∷ [])
+    ++ (0x02 ∷ 0x00 ∷ 0x03 ∷ 0x00 ∷ 0x01 ∷ 0x01 ∷ [])
+    ++ (0x04 ∷ 0x00 ∷ 0x04 ∷ 0x00 ∷ 0x00 ∷ 0x00 ∷ 0x01 ∷ [])
+    ++ (0x04 ∷ 0x00 ∷ 0x04 ∷ 0x01 ∷ 0x00 ∷ 0x00 ∷ 0x01 ∷ [])
+
+-- `states 2 joins 1`, `0 - snack>1`, `1 + snack>1`, each with its newline
+abbrev pub example-listing : List ℕ
+example-listing =
+    (0x73 ∷ 0x74 ∷ 0x61 ∷ 0x74 ∷ 0x65 ∷ 0x73 ∷ 0x20 ∷ 0x32 ∷ 0x20 ∷ 0x6A ∷ 0x6F ∷ 0x69 ∷ 0x6E ∷ 0x73 ∷ 0x20 ∷ 0x31 ∷ 0x0A ∷ [])
+    ++ (0x30 ∷ 0x20 ∷ 0x2D ∷ 0x20 ∷ 0x73 ∷ 0x6E ∷ 0x61 ∷ 0x63 ∷ 0x6B ∷ 0x3E ∷ 0x31 ∷ 0x0A ∷ [])
+    ++ (0x31 ∷ 0x20 ∷ 0x2B ∷ 0x20 ∷ 0x73 ∷ 0x6E ∷ 0x61 ∷ 0x63 ∷ 0x6B ∷ 0x3E ∷ 0x31 ∷ 0x0A ∷ [])
+
+-- `refused 4` and a newline
+abbrev pub empty-listing : List ℕ
+empty-listing = 0x72 ∷ 0x65 ∷ 0x66 ∷ 0x75 ∷ 0x73 ∷ 0x65 ∷ 0x64 ∷ 0x20 ∷ 0x34 ∷ 0x0A ∷ []
+
+-- ---- the test
+
+-- two lists of rows are equal
+unfoldable pub sameRows : List Word → List Word → Bool
+sameRows [] [] = true
+sameRows [] (y ∷ ys) = false
+sameRows (x ∷ xs) [] = false
+sameRows (x ∷ xs) (y ∷ ys) = same x y && sameRows xs ys
+
+-- all rows of n entries over the four names, by the first different entry
+unfoldable pub rowsOfLength : ℕ → List Word
+rowsOfLength zero = [] ∷ []
+rowsOfLength (suc n) =
+    let shorter = rowsOfLength n in
+    flatMap (λ (x : ℕ). map (λ (row : Word). x ∷ row) shorter) (b ∷ d ∷ l ∷ s ∷ [])
+
+-- all rows of at most four entries
+unfoldable pub shortRows : List Word
+shortRows = flatMap rowsOfLength (0 ∷ 1 ∷ 2 ∷ 3 ∷ 4 ∷ [])
+
+-- the numbers of the accepting states
+unfoldable pub acceptingIn : List State → List ℕ
+acceptingIn states = filterBy (λ (i : ℕ). getD states i no-state .accepts) (numbersFrom (length states) 0)
+
+-- the walk of the row is as the remark says
+unfoldable pub remarkHolds : List State → Remark → Bool
+remarkHolds states r =
+    eqb (outcome states (r .row)) (r .ends)
+    && eqb (walk states (r .row) .taken) (r .taken)
+    && same (longestBeginning states (r .row)) (r .beginning)
+    && eqb (nextNames states (r .row)) (r .next-names)
+    && eqb (nextCount states (r .row)) (r .next-count)
+
+-- the day's book, whole: its stage says that its rows have been met
+abbrev pub bookOfDay : Day → File
+bookOfDay day = file 3 meal-names (day .class-is) (day .rows)
+
+-- everything written down of the day is what the definitions compute; its walks are over the table's bytes, read back
+unfoldable pub dayHolds : Day → Bool
+dayHolds day =
+    let written = bookTable (bookOfDay day) in
+    let states = tableStates written in
+    sameRows (treeOf (day .rows)) (day .tree)
+    && same (joinedGroups (day .class-is) (day .rows)) (day .groups)
+    && eqb (length (treeOf (day .rows))) (day .tree-states)
+    && eqb (length states) (day .table-states)
+    && eqb (joinsOf (bookOfDay day)) (day .joins)
+    && same written (day .table-bytes)
+    && eqb (readFields table written .number) 0
+    && isFirstMet states
+    && same (acceptingIn states) (day .accepting)
+    && sameRows (filterBy (admits states) shortRows) (day .admitted-rows)
+    && all (remarkHolds states) (day .remarks)
+    && isFullJoining (day .class-is) (day .rows) (day .joining)
+    && same (tableAfter (bookOfDay day) (day .joining)) (day .table-bytes)
+
+-- the file is the example book: all read, one name, the class, one row
+unfoldable pub isExample : File → Bool
+isExample f =
+    eqb (f .stage) 3
+    && sameRows (f .names) (snack ∷ [])
+    && same (f .class-is .kind ∷ f .class-is .first ∷ f .class-is .second ∷ []) (0 ∷ 1 ∷ 1 ∷ [])
+    && sameRows (f .items) ((0 ∷ 0 ∷ []) ∷ [])
+
+-- the example book is accepted and read as it should be; its table and its listing are those printed in document 01
+unfoldable pub exampleHolds : Bool
+exampleHolds =
+    eqb (bookFault example-book) 0
+    && isExample (bookOf example-book)
+    && same (bookTable (bookOf example-book)) example-table
+    && same (listingOf example-book) example-listing
+    && same (listingOf []) empty-listing
+
+-- the example holds, and the days, the further ones before the twelve; and the repeat of P3 has the table of P3
+unfoldable pub daysHold : Bool
+daysHold =
+    exampleHolds
+    && all dayHolds furtherDays
+    && all dayHolds workedDays
+    && same (bookTable (bookOfDay P12)) (bookTable (bookOfDay P3))
