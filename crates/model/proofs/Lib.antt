@@ -27,5 +27,4 @@ pub mod Reading
 pub mod Joined
 pub mod InTheClass
 pub mod Demands
--- What is proved of the definitions: the worked days. Assumes nothing.
 pub mod WorkedDays
