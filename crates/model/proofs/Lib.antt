@@ -16,4 +16,5 @@ pub mod Admits
 pub mod Numbering
 pub mod Writable
 pub mod WritableStates
+pub mod FieldLaws
 pub mod Reading
