@@ -17,4 +17,6 @@ pub mod Numbering
 pub mod Writable
 pub mod WritableStates
 pub mod FieldLaws
+pub mod Turns
+pub mod Books
 pub mod Reading

@@ -1,7 +1,8 @@
 -- Written fields are read back, and read fields are written as they stood. Assumes nothing.
 use mathlib.Core.Path.{_≡_, refl, sym, ap, _∙_, subst}
-use mathlib.Core.List.{List, [], _∷_, _++_, map, List·Memᴰ as In}
+use mathlib.Core.List.{List, [], _∷_, _++_, map, List·Memᴰ as In, List·Memᴰ·head as here}
 use Prim.Native.Nat.{ℕ, zero, suc, _≤_, _<_}
+use native.Mathlib.Omega.{arith}
 use lib.ListN.{length}
 use Rattle.model.specs.Limits.{input-limit, row-limit}
 use Rattle.model.specs.Fields.{File, file, table, readFields, accepted-file}
@@ -9,14 +10,21 @@ use Rattle.model.specs.Tables.{State, stateBody, statesIn, tableBytes}
 use Rattle.model.specs.Calls.{bookOf, tableFault, rewritten}
 use Rattle.model.specs.Claims.{Accepted, AllBytes}
 use Rattle.model.proofs.Writable.{Writable}
+use Rattle.model.proofs.Books.{BookOk, accepted-book, tells-allBelow}
+
+first-in : (rows : List (List ℕ)) → 1 ≤ length rows → (r : List ℕ) × In r rows
+first-in [] h = let z : ⊥ = omega arith in absurd z
+first-in (r ∷ rows) h = (r, here refl)
 
 -- an accepted book has a row
 pub accepted-has-row : (s : List ℕ) → Accepted s → (r : List ℕ) × In r (bookOf s .items)
-accepted-has-row s ok = ?
+accepted-has-row s ok =
+    let r = accepted-book s ok in
+    first-in (bookOf s .items) (r .1 .some-row (omega (arith, r .0)))
 
 -- entries of its rows are numbers of its names
 pub accepted-entries : (s : List ℕ) → Accepted s → (r : List ℕ) → In r (bookOf s .items) → (a : ℕ) → In a r → a < length (bookOf s .names)
-accepted-entries s ok r m a n = ?
+accepted-entries s ok r m a n = tells-allBelow (length (bookOf s .names)) r .fact (accepted-book s ok .1 .rows-below r m) a n
 
 -- a table with the book's names and class, and states that can be written, is read back
 pub reads-written :
