@@ -18,5 +18,8 @@ pub mod Writable
 pub mod WritableStates
 pub mod FieldLaws
 pub mod Turns
+pub mod StateBodies
 pub mod Books
+pub mod ReadBack
+pub mod WrittenLengths
 pub mod Reading
