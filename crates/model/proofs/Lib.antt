@@ -22,4 +22,5 @@ pub mod StateBodies
 pub mod Books
 pub mod ReadBack
 pub mod WrittenLengths
+pub mod Rewriting
 pub mod Reading

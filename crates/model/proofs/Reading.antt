@@ -1,20 +1,23 @@
 -- What reading and writing come to: an accepted book has a row, and its entries are numbers of its names; written fields are
 -- read back; and read fields are written as they stood. Assumes nothing.
 use mathlib.Core.Path.{_≡_, refl}
+use mathlib.Core.Bool.{not}
 use mathlib.Core.List.{List, [], _∷_, _++_, map, List·Memᴰ as In, List·Memᴰ·head as here}
 use Prim.Native.Nat.{ℕ, suc, _≤_, _<_}
 use native.Mathlib.Omega.{arith}
 use lib.ListN.{length, length-append}
-use Rattle.model.specs.Limits.{input-limit}
+use Rattle.model.specs.Limits.{input-limit, when, firstOf, bad-numbering}
 use Rattle.model.specs.Fields.{File, file, table, readFields, readWith, default-class, accepted-file}
-use Rattle.model.specs.Tables.{State, fieldBytes, nameFields, classField, stateFields, stateBody, statesIn, tableBytes}
-use Rattle.model.specs.Calls.{bookOf, tableFault, rewritten}
+use Rattle.model.specs.Tables.{State, fieldBytes, nameFields, classField, stateFields, stateBody, statesIn, tableBytes, isFirstMet}
+use Rattle.model.specs.Calls.{bookOf, sizesFault, tableStates, tableFault, rewritten}
 use Rattle.model.specs.Claims.{Accepted, AllBytes}
 use Rattle.model.proofs.Writable.{Writable, arcCount}
+use Rattle.model.proofs.FieldLaws.{first-of}
 use Rattle.model.proofs.StateBodies.{body-ok, states-read-back}
 use Rattle.model.proofs.Books.{BookOk, accepted-book, tells-allBelow}
 use Rattle.model.proofs.ReadBack.{reads-table}
 use Rattle.model.proofs.WrittenLengths.{name-fields-length, names-few, state-fields-length}
+use Rattle.model.proofs.Rewriting.{bytes-of, rewritten-same}
 
 first-in : (rows : List (List ℕ)) → 1 ≤ length rows → (r : List ℕ) × In r rows
 first-in [] h = let z : ⊥ = omega arith in absurd z
@@ -68,4 +71,8 @@ written-length s states ok w =
 
 -- an accepted table is rewritten to the same bytes
 pub rewrites-same : (s work : List ℕ) → AllBytes s → tableFault s work ≡ 0 → rewritten s ≡ s
-rewrites-same s work bytes ok = ?
+unfolding tableFault
+rewrites-same s work bytes ok =
+    let after-sizes = firstOf (readFields table s .number) (when (not (isFirstMet (tableStates s))) bad-numbering) in
+    let read-ok = first-of (sizesFault s work) after-sizes ok .1 in
+    rewritten-same s (bytes-of s bytes) (first-of (readFields table s .number) (when (not (isFirstMet (tableStates s))) bad-numbering) read-ok .0)
