@@ -1,22 +1,23 @@
 -- What an accepted book satisfies, by induction over its reading: names allowed one after the other, a class allowed, rows of
 -- numbers of its names, and at least one of them. Assumes nothing.
-use mathlib.Core.Path.{_≡_, refl, sym, ap, _∙_, subst}
-use mathlib.Core.Logic.{_⊎_, inl, inr, ⊎-elim}
-use mathlib.Core.Bool.{Bool, true, false, _&&_, true≢false, false≢true}
+use mathlib.Core.Path.{_≡_, refl, sym, subst}
+use mathlib.Core.Logic.{⊎-elim}
+use mathlib.Core.Bool.{true, false≢true}
 use mathlib.Core.List.{List, [], _∷_, _++_, append-nil, append-assoc, List·Memᴰ as In, List·Memᴰ·head as here, List·Memᴰ·tail as there}
 use mathlib.Core.List.{List·Memᴰ·not-nil, List·Memᴰ·cases-cons, List·Memᴰ·append-cases, List·Memᴰ·eq-of-singleton}
-use Prim.Native.Nat.{ℕ, zero, suc, _+_, _≤_, _<_}
+use Prim.Native.Nat.{ℕ, suc, _≤_, _<_}
 use native.Mathlib.Omega.{arith}
-use lib.Dec.{eqb, ltb, leb}
-use lib.ListN.{length, getD, length-append}
-use Rattle.model.specs.Limits.{name-limit, row-limit, state-limit, when, tree-too-large}
-use Rattle.model.specs.Fields.{Class, File, file, unread, default-class, book, table, readFields, readWith, withField}
-use Rattle.model.specs.Fields.{settingsOk, classOk, classFrom, rowOk, allBelow}
+use lib.Dec.{ltb, leb}
+use lib.ListN.{length, length-append}
+use Rattle.model.specs.Limits.{row-limit, state-limit, when, tree-too-large}
+use Rattle.model.specs.Fields.{File, unread, default-class, book, readFields, readWith, withField}
+use Rattle.model.specs.Fields.{classOk, allBelow}
 use Rattle.model.specs.Joinings.{treeOf}
 use Rattle.model.specs.Calls.{bookOf, bookFault}
 use Rattle.model.specs.Claims.{Accepted}
-use Rattle.model.proofs.Tests.{Tells, tells-by, tells-and, tells-ltb, tells-eqb, tells-leb}
+use Rattle.model.proofs.Tests.{Tells, tells-by, tells-and, tells-ltb}
 use Rattle.model.proofs.FieldLaws.{NameFits, RowFits, Fitting, a-name, a-class, a-row, a-state, fitting, first-of, both}
+use Rattle.model.proofs.FieldLaws.{ClassOk, class-parts}
 use Rattle.model.proofs.Turns.{read-keeps}
 
 -- the second names may come one by one after the first
@@ -42,10 +43,6 @@ tells-allBelow n (y ∷ ys) =
     tells-by (tells-and (tells-ltb y n) (tells-allBelow n ys))
     (λ h x m. ⊎-elim (λ e. subst (λ (z : ℕ). z < n) (sym e) (h .0)) (λ r. h .1 x r) (List·Memᴰ·cases-cons m))
     (λ h. (h y (here refl), λ x m. h x (there m)))
-
--- a class may stand in a class field
-abbrev pub ClassOk : Class → Type 0
-ClassOk c = settingsOk (c .kind) (c .first) (c .second) ≡ true
 
 -- a book as read so far
 pub record BookOk (f : File) : Type 0 where
@@ -85,7 +82,7 @@ with-class f body at fits ok =
     record {
       names-ok = ok .names-ok;
       named = λ h. ok .named (omega arith);
-      class-ok = both (eqb (length body) 3) (settingsOk (getD body 0 0) (getD body 1 0) (getD body 2 0)) fits .1;
+      class-ok = class-parts body fits .1;
       no-rows = λ h. ok .no-rows (omega arith);
       some-row = λ h. let z : ⊥ = omega arith in absurd z;
       rows-below = ok .rows-below;
@@ -114,6 +111,7 @@ book-step f mark body (a-class e at fits) ok = subst (λ (m : ℕ). BookOk (with
 book-step f mark body (a-row k e high fits) ok = subst (λ (m : ℕ). BookOk (withField f m body)) (sym e) (with-row f body high fits ok)
 book-step f mark body (a-state k e high fits) ok = absurd (false≢true k)
 
+-- an accepted book is read to the end, and is sound
 pub accepted-book : (s : List ℕ) → Accepted s → (bookOf s .stage ≡ 3) × BookOk (bookOf s)
 unfolding bookOf bookFault readWith
 accepted-book s ok =

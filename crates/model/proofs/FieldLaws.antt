@@ -6,15 +6,16 @@ use mathlib.Core.Bool.{Bool, true, false, _&&_, not, false≢true}
 use mathlib.Core.List.{List}
 use Prim.Native.Nat.{ℕ, zero, suc, _≤_, _<_}
 use native.Mathlib.Omega.{arith}
-use lib.Dec.{leb}
-use lib.ListN.{length}
-use borrow.Author.Tests.{leb-false, lt-leb}
+use lib.Dec.{eqb, leb}
+use lib.ListN.{length, getD}
+use borrow.Author.Tests.{leb-false, lt-leb, eqb-true}
 use Rattle.model.specs.Limits.{name-limit, book-rows, state-limit, when, firstOf, misplaced}
 use Rattle.model.specs.Limits.{bad-name, name-order, too-many, bad-class, bad-row, bad-state}
 use Rattle.model.specs.Fields.{File, FileKind, book, table, mayCome, byMark, nameOk, above, classOk, rowOk, stateOk}
-use Rattle.model.specs.Fields.{nameFault, classFault, rowFault, stateFault, fieldFault}
+use Rattle.model.specs.Fields.{Class, settingsOk, classFrom, nameFault, classFault, rowFault, stateFault, fieldFault}
 use Rattle.model.proofs.Tests.{tells-eqb, tells-leb, tells-and, tells-or}
 
+-- no refusal of two
 pub first-of : (a b : ℕ) → firstOf a b ≡ 0 → (a ≡ 0) × (b ≡ 0)
 first-of zero b e = (refl, e)
 first-of (suc a) b e = let z : ⊥ = omega arith in absurd z
@@ -40,10 +41,12 @@ pub record NameFits (names : List (List ℕ)) (body : List ℕ) : Type 0 where
   pub in-order : above names body ≡ true
   pub few : length names < name-limit
 
+-- one more row
 pub record RowFits (n : ℕ) (items : List (List ℕ)) (body : List ℕ) : Type 0 where
   pub few : length items < book-rows
   pub row-ok : rowOk n body ≡ true
 
+-- one more state
 pub record StateFits (n : ℕ) (items : List (List ℕ)) (body : List ℕ) : Type 0 where
   pub few : length items < state-limit
   pub state-ok : stateOk n body ≡ true
@@ -72,6 +75,15 @@ pub fits-class : (body : List ℕ) → classOk body ≡ true → classFault body
 unfolding classFault
 fits-class body e = ap (λ (t : Bool). when (not t) bad-class) e
 
+-- a class may stand in a class field
+abbrev pub ClassOk : Class → Type 0
+ClassOk c = settingsOk (c .kind) (c .first) (c .second) ≡ true
+
+pub class-parts : (body : List ℕ) → classOk body ≡ true → (length body ≡ 3) × ClassOk (classFrom body)
+class-parts body ok =
+    let p = both (eqb (length body) 3) (settingsOk (getD body 0 0) (getD body 1 0) (getD body 2 0)) ok in
+    (eqb-true (length body) 3 (p .0), p .1)
+
 pub row-fits : (f : File) (body : List ℕ) → rowFault f body ≡ 0 → RowFits (length (f .names)) (f .items) body
 unfolding rowFault
 row-fits f body e =
@@ -95,6 +107,7 @@ pub data Fitting (kind : FileKind) (f : File) (mark : ℕ) (body : List ℕ) : T
   a-row : kind ≡ book → mark ≡ 3 → 1 ≤ f .stage → RowFits (length (f .names)) (f .items) body → Fitting kind f mark body
   a-state : kind ≡ table → mark ≡ 4 → 2 ≤ f .stage → StateFits (length (f .names)) (f .items) body → Fitting kind f mark body
 
+-- the marks that may come next, with the places where they may
 may-come :
     (kind : FileKind) (stage mark : ℕ) → mayCome kind stage mark ≡ true →
     ((mark ≡ 1) × (stage ≤ 1)) ⊎ (((mark ≡ 2) × (stage ≡ 1))

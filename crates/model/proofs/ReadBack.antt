@@ -1,20 +1,19 @@
 -- Written fields are read back one by one: names, the class, states. Assumes nothing.
-use mathlib.Core.Path.{_≡_, refl, sym, ap, ap₂, _∙_, subst}
-use mathlib.Core.Bool.{Bool, true, false, not}
+use mathlib.Core.Path.{_≡_, refl, sym, ap, _∙_, subst}
+use mathlib.Core.Bool.{true}
 use mathlib.Core.List.{List, [], _∷_, _++_, map, flatMap, append-nil, append-assoc, List·Memᴰ as In, List·Memᴰ·head as here}
 use mathlib.Core.List.{List·Memᴰ·tail as there}
-use Prim.Native.Nat.{ℕ, zero, suc, _+_, _*_, _/_, _%_, _≤_, _<_}
+use Prim.Native.Nat.{ℕ, zero, suc, _+_, _/_, _%_, _≤_, _<_}
 use native.Mathlib.Omega.{arith}
-use lib.Dec.{eqb, ltb, leb}
 use lib.ListN.{length, length-append}
 use borrow.Author.Tests.{le-leb}
 use Rattle.model.specs.Limits.{state-limit}
-use Rattle.model.specs.Fields.{Class, File, FileKind, file, book, table, Read, accepted-file, readFrom, fieldFault, withField, stateOk}
+use Rattle.model.specs.Fields.{Class, File, file, table, Read, accepted-file, readFrom, fieldFault, withField, stateOk}
 use Rattle.model.specs.Tables.{State, fieldBytes, nameFields, classField, stateBody, stateFields, tableBytes}
-use Rattle.model.proofs.FieldLaws.{NameFits, StateFits, fits-name, fits-class, fits-state}
+use Rattle.model.proofs.FieldLaws.{NameFits, StateFits, ClassOk, fits-name, fits-class, fits-state}
 use Rattle.model.proofs.Turns.{one-field}
 use Rattle.model.proofs.StateBodies.{two-bytes}
-use Rattle.model.proofs.Books.{NamesOk, ClassOk}
+use Rattle.model.proofs.Books.{NamesOk}
 
 -- reading these bytes as a table from this file on comes to this result, whatever the fuel above the number of bytes
 abbrev pub ReadsTo : File → List ℕ → Read → Type 0

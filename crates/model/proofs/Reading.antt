@@ -6,15 +6,15 @@ use mathlib.Core.List.{List, [], _∷_, _++_, map, List·Memᴰ as In, List·Mem
 use Prim.Native.Nat.{ℕ, suc, _≤_, _<_}
 use native.Mathlib.Omega.{arith}
 use lib.ListN.{length, length-append}
-use Rattle.model.specs.Limits.{input-limit, when, firstOf, bad-numbering}
-use Rattle.model.specs.Fields.{File, file, table, readFields, readWith, default-class, accepted-file}
+use Rattle.model.specs.Limits.{name-limit, state-limit, input-limit, when, firstOf, bad-numbering}
+use Rattle.model.specs.Fields.{file, table, readFields, readWith, default-class, accepted-file}
 use Rattle.model.specs.Tables.{State, fieldBytes, nameFields, classField, stateFields, stateBody, statesIn, tableBytes, isFirstMet}
 use Rattle.model.specs.Calls.{bookOf, sizesFault, tableStates, tableFault, rewritten}
 use Rattle.model.specs.Claims.{Accepted, AllBytes}
 use Rattle.model.proofs.Writable.{Writable, arcCount}
 use Rattle.model.proofs.FieldLaws.{first-of}
 use Rattle.model.proofs.StateBodies.{body-ok, states-read-back}
-use Rattle.model.proofs.Books.{BookOk, accepted-book, tells-allBelow}
+use Rattle.model.proofs.Books.{accepted-book, tells-allBelow}
 use Rattle.model.proofs.ReadBack.{reads-table}
 use Rattle.model.proofs.WrittenLengths.{name-fields-length, names-few, state-fields-length}
 use Rattle.model.proofs.Rewriting.{bytes-of, rewritten-same}
@@ -58,9 +58,9 @@ written-length s states ok w =
     let b = accepted-book s ok in
     let names = bookOf s .names in
     let c = classField (bookOf s .class-is) in
-    let few-names : length names ≤ 64 = omega (arith, names-few [] names (b .1 .names-ok) (omega arith)) in
-    let few-states : length states ≤ 512 = w .few-states in
-    let few-arcs : arcCount states ≤ 512 = w .few-arcs in
+    let few-names : length names ≤ name-limit = omega (arith, names-few [] names (b .1 .names-ok) (omega arith)) in
+    let few-states : length states ≤ state-limit = w .few-states in
+    let few-arcs : arcCount states ≤ state-limit = w .few-arcs in
     omega (
       arith,
       length-append (nameFields names) (c ++ stateFields states),
@@ -73,6 +73,7 @@ written-length s states ok w =
 pub rewrites-same : (s work : List ℕ) → AllBytes s → tableFault s work ≡ 0 → rewritten s ≡ s
 unfolding tableFault
 rewrites-same s work bytes ok =
-    let after-sizes = firstOf (readFields table s .number) (when (not (isFirstMet (tableStates s))) bad-numbering) in
-    let read-ok = first-of (sizesFault s work) after-sizes ok .1 in
-    rewritten-same s (bytes-of s bytes) (first-of (readFields table s .number) (when (not (isFirstMet (tableStates s))) bad-numbering) read-ok .0)
+    let fault = readFields table s .number in
+    let numbering = when (not (isFirstMet (tableStates s))) bad-numbering in
+    let fields-ok = first-of (sizesFault s work) (firstOf fault numbering) ok .1 in
+    rewritten-same s (bytes-of s bytes) (first-of fault numbering fields-ok .0)

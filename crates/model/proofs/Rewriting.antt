@@ -2,20 +2,20 @@
 -- written, and then what is left, is the input. Assumes nothing.
 use mathlib.Core.Path.{_≡_, refl, sym, ap, ap₂, _∙_, subst}
 use mathlib.Core.Logic.{⊎-elim}
-use mathlib.Core.Bool.{Bool, true, false, cond, true≢false, false≢true}
-use mathlib.Core.List.{List, [], _∷_, _++_, map, flatMap, append-nil, append-assoc, List·Memᴰ as In}
+use mathlib.Core.Bool.{Bool, true, false, cond, true≢false}
+use mathlib.Core.List.{List, [], _∷_, _++_, flatMap, append-nil, append-assoc, List·Memᴰ as In}
 use mathlib.Core.List.{List·Memᴰ·head as here, List·Memᴰ·tail as there}
 use mathlib.Core.List.{List·Memᴰ·not-nil, List·Memᴰ·append-cases, List·Memᴰ·eq-of-singleton}
-use Prim.Native.Nat.{ℕ, zero, suc, _+_, _*_, _/_, _%_, _≤_, _<_}
+use Prim.Native.Nat.{ℕ, suc, _+_, _*_, _/_, _%_, _≤_, _<_}
 use native.Mathlib.Omega.{arith}
-use lib.Dec.{eqb, leb}
+use lib.Dec.{leb}
 use lib.ListN.{length, getD}
-use borrow.Author.Tests.{le-leb, lt-leb, eqb-true}
-use Rattle.model.specs.Fields.{Class, File, file, unread, default-class, table, withField, settingsOk, classOk, classFrom}
+use borrow.Author.Tests.{le-leb, lt-leb}
+use Rattle.model.specs.Fields.{Class, File, unread, default-class, table, withField, classOk, classFrom}
 use Rattle.model.specs.Fields.{readFields, readWith}
 use Rattle.model.specs.Tables.{fieldBytes, nameFields, classField, stateBody, stateFields, stateIn, statesIn, tableBytes}
 use Rattle.model.specs.Calls.{tableOf, tableStates, rewritten}
-use Rattle.model.proofs.FieldLaws.{NameFits, StateFits, Fitting, a-name, a-class, a-row, a-state, fitting, both}
+use Rattle.model.proofs.FieldLaws.{StateFits, Fitting, a-name, a-class, a-row, a-state, fitting, class-parts}
 use Rattle.model.proofs.Turns.{read-keeps}
 use Rattle.model.proofs.StateBodies.{Bytes, body-rewritten}
 
@@ -52,7 +52,7 @@ fields-more mark (n ∷ bodies) body rest =
 class-again : (body : List ℕ) → classOk body ≡ true → classField (classFrom body) ≡ fieldBytes 2 body
 unfolding classField
 class-again body ok =
-    ap (fieldBytes 2) (three body (eqb-true (length body) 3 (both (eqb (length body) 3) (settingsOk (getD body 0 0) (getD body 1 0) (getD body 2 0)) ok .0)))
+    ap (fieldBytes 2) (three body (class-parts body ok .0))
   where
     three : (s : List ℕ) → length s ≡ 3 → getD s 0 0 ∷ (getD s 1 0 ∷ (getD s 2 0 ∷ [])) ≡ s
     three [] e = let z : ⊥ = omega arith in absurd z
@@ -65,6 +65,7 @@ class-again body ok =
 abbrev written : List (List ℕ) → Bool → Class → List (List ℕ) → List ℕ → List ℕ
 written names class-read c items rest = nameFields names ++ (cond class-read (classField c) [] ++ (flatMap (fieldBytes 4) items ++ rest))
 
+-- a table as read so far, of the input s
 record Rewrites (s : List ℕ) (f : File) (rest : List ℕ) : Type 0 where
   same : written (f .names) (leb 2 (f .stage)) (f .class-is) (f .items) rest ≡ s
   no-items : f .stage ≤ 2 → f .items ≡ []
@@ -135,7 +136,9 @@ module _ (s : List ℕ) (f : File) (a b : ℕ) (body rest : List ℕ) (size : le
       subst (λ (z : ℕ). Rewrites s (withField f z body) rest) (sym e)
       (step (subst (λ (z : ℕ). Rewrites s f (z ∷ (a ∷ (b ∷ (body ++ rest))))) e h))
 
-  table-step : (mark : ℕ) → Fitting table f mark body → Rewrites s f (mark ∷ (a ∷ (b ∷ (body ++ rest)))) → Rewrites s (withField f mark body) rest
+  table-step :
+      (mark : ℕ) → Fitting table f mark body → Rewrites s f (mark ∷ (a ∷ (b ∷ (body ++ rest)))) →
+      Rewrites s (withField f mark body) rest
   table-step mark (a-name e low fits) h = at-mark mark 1 e (with-name low) h
   table-step mark (a-class e at fits) h = at-mark mark 2 e (with-class at fits) h
   table-step mark (a-row k e high fits) h = absurd (true≢false k)
@@ -145,6 +148,7 @@ nothing-read : (s : List ℕ) → Bytes s → Rewrites s (unread default-class) 
 unfolding nameFields flatMap
 nothing-read s bytes = record { same = refl; no-items = λ h. refl; bytes = bytes; bodies = λ r m. absurd (List·Memᴰ·not-nil m) }
 
+-- state fields are written as they were read
 states-again :
     (items : List (List ℕ)) → ((r : List ℕ) → In r items → stateBody (stateIn r) ≡ r) →
     stateFields (statesIn items) ≡ flatMap (fieldBytes 4) items
@@ -156,7 +160,9 @@ states-again (r ∷ items) h =
 pub rewritten-same : (s : List ℕ) → Bytes s → readFields table s .number ≡ 0 → rewritten s ≡ s
 unfolding rewritten tableStates tableOf tableBytes readWith
 rewritten-same s bytes ok =
-    let kept = read-keeps table (Rewrites s) (λ f mark a b body rest size fit h. table-step s f a b body rest size mark (fitting table f mark body fit) h)
+    let kept =
+    read-keeps table (Rewrites s)
+    (λ f mark a b body rest size fit h. table-step s f a b body rest size mark (fitting table f mark body fit) h)
     (suc (length s)) (unread default-class) s (nothing-read s bytes) ok in
     let f = tableOf s in
     let class-read : leb 2 (f .stage) ≡ true = le-leb 2 (f .stage) (omega (arith, kept .0)) in

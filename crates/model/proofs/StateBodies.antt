@@ -1,12 +1,12 @@
 -- State fields' bytes: what is written for a state is read as that state, has one byte and three for each arc, and passes the
 -- test where arcs ascend; and bytes that pass the test are written again as they stood. Assumes nothing.
-use mathlib.Core.Path.{_≡_, refl, sym, ap, ap₂, _∙_, subst}
-use mathlib.Core.Bool.{Bool, true, false, _&&_, true≢false, false≢true}
-use mathlib.Core.List.{List, [], _∷_, _++_, map, flatMap, List·Memᴰ as In, List·Memᴰ·head as here, List·Memᴰ·tail as there}
+use mathlib.Core.Path.{_≡_, refl, ap, ap₂}
+use mathlib.Core.Bool.{Bool, true, false, _&&_, false≢true}
+use mathlib.Core.List.{List, [], _∷_, map, flatMap, List·Memᴰ as In, List·Memᴰ·head as here, List·Memᴰ·tail as there}
 use Prim.Native.Nat.{ℕ, zero, suc, _+_, _*_, _/_, _%_, _≤_, _<_}
 use native.Mathlib.Omega.{arith}
 use lib.Dec.{eqb, ltb, leb}
-use lib.ListN.{length, getD, drop, length-append}
+use lib.ListN.{length}
 use borrow.Author.Tests.{lt-ltb, le-leb, leb-true}
 use Rattle.model.specs.Limits.{when}
 use Rattle.model.specs.Fields.{arcsOk, stateOk}
@@ -68,6 +68,7 @@ accepts-ok : (t : Bool) → leb (when t 1) 1 ≡ true
 accepts-ok true = refl
 accepts-ok false = refl
 
+-- the bytes of ascending arcs with names below n pass the test
 pub body-ok :
     (n : ℕ) (s : State) → Ascending 0 (s .arcs) → ((a : Arc) → In a (s .arcs) → a .name < n) → stateOk n (stateBody s) ≡ true
 unfolding stateBody stateOk
@@ -87,7 +88,8 @@ arcs-rewritten (suc f) n next (a ∷ []) h bytes ok = absurd (false≢true ok)
 arcs-rewritten (suc f) n next (a ∷ (x ∷ [])) h bytes ok = absurd (false≢true ok)
 arcs-rewritten (suc f) n next (a ∷ (x ∷ (y ∷ s))) h bytes ok =
     let p = both (leb 2 (length (x ∷ (y ∷ s)))) ((ltb a n && leb next a) && arcsOk f n (suc a) s) ok in
-    let more = arcs-rewritten f n (suc a) s (omega arith) (bytes .1 .1 .1) (both (ltb a n && leb next a) (arcsOk f n (suc a) s) (p .1) .1) in
+    let q = both (ltb a n && leb next a) (arcsOk f n (suc a) s) (p .1) in
+    let more = arcs-rewritten f n (suc a) s (omega arith) (bytes .1 .1 .1) (q .1) in
     let low : y < 256 = bytes .1 .1 .0 in
     let high-byte : (256 * x + y) / 256 ≡ x = omega arith in
     let low-byte : (256 * x + y) % 256 ≡ y = omega arith in
@@ -98,6 +100,7 @@ accepts-rewritten zero h = refl
 accepts-rewritten (suc zero) h = refl
 accepts-rewritten (suc (suc b)) h = let z : ⊥ = omega arith in absurd z
 
+-- bytes that pass the test are what is written for the state that they mean
 pub body-rewritten : (n : ℕ) (body : List ℕ) → Bytes body → stateOk n body ≡ true → stateBody (stateIn body) ≡ body
 unfolding stateBody stateIn stateOk
 body-rewritten n [] bytes ok = absurd (false≢true ok)

@@ -40,6 +40,7 @@ three-more n = omega arith
 no-or : {a b : Bool} → a ≡ false → b ≡ false → (a || b) ≡ false
 no-or p q = rw (p, q)
 
+-- the field at the front is read, and what comes after it is left
 pub one-field :
     (l : ℕ) (kind : FileKind) (f : File) (mark a b : ℕ) (body rest : List ℕ) → length body ≡ 256 * a + b →
     fieldFault kind f mark body ≡ 0 →
@@ -50,9 +51,10 @@ one-field l kind f mark a b body rest size ok =
     let total : length s ≡ 3 + (length body + length rest) = omega (arith, length-append body rest) in
     let here-body : take n (body ++ rest) ≡ body = take-at body rest n size in
     let here-rest : drop (3 + n) s ≡ rest = ap (λ (k : ℕ). drop k s) (three-more n) ∙ drop-at body rest n size in
-    let same-fault : fieldFault kind f mark (take n (body ++ rest)) ≡ 0 = ap (λ (x : List ℕ). fieldFault kind f mark x) here-body ∙ ok in
+    let fault = fieldFault kind f mark (take n (body ++ rest)) in
+    let no-fault : fault ≡ 0 = ap (λ (x : List ℕ). fieldFault kind f mark x) here-body ∙ ok in
     let whole : runsPast s ≡ false = no-or (le-ltb (length s) 3 (omega arith)) (le-ltb (length s) (3 + n) (omega arith)) in
-    at-field l kind f s (eqb·suc-zero (length (a ∷ (b ∷ (body ++ rest))))) whole (eq-eqb (fieldFault kind f mark (take n (body ++ rest))) 0 same-fault)
+    at-field l kind f s (eqb·suc-zero (length (a ∷ (b ∷ (body ++ rest))))) whole (eq-eqb fault 0 no-fault)
     ∙ ap₂ (λ (x y : List ℕ). readFrom l kind (withField f mark x) y) here-body here-rest
 
 -- a turn ends the reading, refuses, or reads a field
@@ -144,5 +146,5 @@ module _ (kind : FileKind) (P : File → List ℕ → Type 0)
           subst Kept (sym q) (end-keeps f (subst (P f) e h) (subst (λ (r : Read). r .number ≡ 0) q ok))
       go (failed n q) again = let z : ⊥ = omega arith in absurd z
       go (went mark a b body rest e size fit q) again =
-          subst Kept (sym q)
-          (again (withField f mark body) rest (step f mark a b body rest size fit (subst (P f) e h)) (subst (λ (r : Read). r .number ≡ 0) q ok))
+          let kept = step f mark a b body rest size fit (subst (P f) e h) in
+          subst Kept (sym q) (again (withField f mark body) rest kept (subst (λ (r : Read). r .number ≡ 0) q ok))
