@@ -23,6 +23,13 @@ pub mod Writable
 pub mod MetOrder
 pub mod ArcCount
 pub mod WritableStates
+pub mod FieldLaws
+pub mod Turns
+pub mod StateBodies
+pub mod Books
+pub mod ReadBack
+pub mod WrittenLengths
+pub mod Rewriting
 pub mod Reading
 pub mod Joined
 pub mod InTheClass

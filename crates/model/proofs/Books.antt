@@ -1,0 +1,120 @@
+-- What an accepted book satisfies, by induction over its reading: names allowed one after the other, a class allowed, rows of
+-- numbers of its names, and at least one of them. Assumes nothing.
+use mathlib.Core.Path.{_≡_, refl, sym, subst}
+use mathlib.Core.Logic.{⊎-elim}
+use mathlib.Core.Bool.{true, false≢true}
+use mathlib.Core.List.{List, [], _∷_, _++_, append-nil, append-assoc, List·Memᴰ as In, List·Memᴰ·head as here, List·Memᴰ·tail as there}
+use mathlib.Core.List.{List·Memᴰ·not-nil, List·Memᴰ·cases-cons, List·Memᴰ·append-cases, List·Memᴰ·eq-of-singleton}
+use Prim.Native.Nat.{ℕ, suc, _≤_, _<_}
+use native.Mathlib.Omega.{arith}
+use lib.Dec.{ltb, leb}
+use lib.ListN.{length, length-append}
+use Rattle.model.specs.Limits.{row-limit, state-limit, when, tree-too-large}
+use Rattle.model.specs.Fields.{File, unread, default-class, book, readFields, readWith, withField}
+use Rattle.model.specs.Fields.{classOk, allBelow}
+use Rattle.model.specs.Joinings.{treeOf}
+use Rattle.model.specs.Calls.{bookOf, bookFault}
+use Rattle.model.specs.Claims.{Accepted}
+use Rattle.model.proofs.Tests.{Tells, tells-by, tells-and, tells-ltb}
+use Rattle.model.proofs.FieldLaws.{NameFits, RowFits, Fitting, a-name, a-class, a-row, a-state, fitting, first-of, both}
+use Rattle.model.proofs.FieldLaws.{ClassOk, class-parts}
+use Rattle.model.proofs.Turns.{read-keeps}
+
+-- the second names may come one by one after the first
+abbrev pub NamesOk : List (List ℕ) → List (List ℕ) → Type 0
+NamesOk names [] = Unit {0}
+NamesOk names (n ∷ more) = NameFits names n × NamesOk (names ++ (n ∷ [])) more
+
+names-ok-more :
+    (names more : List (List ℕ)) (body : List ℕ) → NamesOk names more → NameFits (names ++ more) body →
+    NamesOk names (more ++ (body ∷ []))
+names-ok-more names [] body h fits = (subst (λ (z : List (List ℕ)). NameFits z body) (append-nil names) fits, tt)
+names-ok-more names (n ∷ more) body h fits = (
+  h .0,
+  names-ok-more (names ++ (n ∷ [])) more body (h .1)
+      (subst (λ (z : List (List ℕ)). NameFits z body) (sym (append-assoc names (n ∷ []) more)) fits),
+)
+
+-- each entry is below n
+pub tells-allBelow : (n : ℕ) (xs : List ℕ) → Tells (allBelow n xs) ((x : ℕ) → In x xs → x < n)
+unfolding allBelow
+tells-allBelow n [] = record { fact = λ e x m. absurd (List·Memᴰ·not-nil m); test = λ h. refl }
+tells-allBelow n (y ∷ ys) =
+    tells-by (tells-and (tells-ltb y n) (tells-allBelow n ys))
+    (λ h x m. ⊎-elim (λ e. subst (λ (z : ℕ). z < n) (sym e) (h .0)) (λ r. h .1 x r) (List·Memᴰ·cases-cons m))
+    (λ h. (h y (here refl), λ x m. h x (there m)))
+
+-- a book as read so far
+pub record BookOk (f : File) : Type 0 where
+  pub names-ok : NamesOk [] (f .names)
+  pub named : 1 ≤ f .stage → 1 ≤ length (f .names)
+  pub class-ok : ClassOk (f .class-is)
+  pub no-rows : f .stage ≤ 2 → f .items ≡ []
+  pub some-row : 3 ≤ f .stage → 1 ≤ length (f .items)
+  pub rows-below : (r : List ℕ) → In r (f .items) → allBelow (length (f .names)) r ≡ true
+
+nothing-read : BookOk (unread default-class)
+nothing-read =
+    record {
+      names-ok = tt;
+      named = λ h. let z : ⊥ = omega arith in absurd z;
+      class-ok = refl;
+      no-rows = λ h. refl;
+      some-row = λ h. let z : ⊥ = omega arith in absurd z;
+      rows-below = λ r m. absurd (List·Memᴰ·not-nil m);
+    }
+
+with-name : (f : File) (body : List ℕ) → f .stage ≤ 1 → NameFits (f .names) body → BookOk f → BookOk (withField f 1 body)
+unfolding withField
+with-name f body low fits ok =
+    record {
+      names-ok = names-ok-more [] (f .names) body (ok .names-ok) fits;
+      named = λ h. omega (arith, length-append (f .names) (body ∷ []));
+      class-ok = ok .class-ok;
+      no-rows = λ h. ok .no-rows (omega arith);
+      some-row = λ h. let z : ⊥ = omega arith in absurd z;
+      rows-below = λ r m. absurd (List·Memᴰ·not-nil (subst (λ (z : List (List ℕ)). In r z) (ok .no-rows (omega arith)) m));
+    }
+
+with-class : (f : File) (body : List ℕ) → f .stage ≡ 1 → classOk body ≡ true → BookOk f → BookOk (withField f 2 body)
+unfolding withField
+with-class f body at fits ok =
+    record {
+      names-ok = ok .names-ok;
+      named = λ h. ok .named (omega arith);
+      class-ok = class-parts body fits .1;
+      no-rows = λ h. ok .no-rows (omega arith);
+      some-row = λ h. let z : ⊥ = omega arith in absurd z;
+      rows-below = ok .rows-below;
+    }
+
+with-row :
+    (f : File) (body : List ℕ) → 1 ≤ f .stage → RowFits (length (f .names)) (f .items) body → BookOk f → BookOk (withField f 3 body)
+unfolding withField
+with-row f body high fits ok =
+    let below = both (leb (length body) row-limit) (allBelow (length (f .names)) body) (fits .row-ok) .1 in
+    record {
+      names-ok = ok .names-ok;
+      named = λ h. ok .named high;
+      class-ok = ok .class-ok;
+      no-rows = λ h. let z : ⊥ = omega arith in absurd z;
+      some-row = λ h. omega (arith, length-append (f .items) (body ∷ []));
+      rows-below = λ r m.
+          ⊎-elim (λ n. ok .rows-below r n)
+          (λ n. subst (λ (z : List ℕ). allBelow (length (f .names)) z ≡ true) (sym (List·Memᴰ·eq-of-singleton n)) below)
+          (List·Memᴰ·append-cases (f .items) m);
+    }
+
+book-step : (f : File) (mark : ℕ) (body : List ℕ) → Fitting book f mark body → BookOk f → BookOk (withField f mark body)
+book-step f mark body (a-name e low fits) ok = subst (λ (m : ℕ). BookOk (withField f m body)) (sym e) (with-name f body low fits ok)
+book-step f mark body (a-class e at fits) ok = subst (λ (m : ℕ). BookOk (withField f m body)) (sym e) (with-class f body at fits ok)
+book-step f mark body (a-row k e high fits) ok = subst (λ (m : ℕ). BookOk (withField f m body)) (sym e) (with-row f body high fits ok)
+book-step f mark body (a-state k e high fits) ok = absurd (false≢true k)
+
+-- an accepted book is read to the end, and is sound
+pub accepted-book : (s : List ℕ) → Accepted s → (bookOf s .stage ≡ 3) × BookOk (bookOf s)
+unfolding bookOf bookFault readWith
+accepted-book s ok =
+    read-keeps book (λ f rest. BookOk f) (λ f mark a b body rest size fit h. book-step f mark body (fitting book f mark body fit) h)
+    (suc (length s)) (unread default-class) s nothing-read
+    (first-of (readFields book s .number) (when (ltb state-limit (length (treeOf (bookOf s .items)))) tree-too-large) ok .0)

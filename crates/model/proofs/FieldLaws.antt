@@ -1,0 +1,134 @@
+-- The refusals of one field as facts: what a field without a fault satisfies, and for names, classes and states the other way
+-- round. Assumes nothing.
+use mathlib.Core.Path.{_≡_, refl, ap, subst}
+use mathlib.Core.Logic.{_⊎_, inl, inr, ⊎-elim}
+use mathlib.Core.Bool.{Bool, true, false, _&&_, not, false≢true}
+use mathlib.Core.List.{List}
+use Prim.Native.Nat.{ℕ, zero, suc, _≤_, _<_}
+use native.Mathlib.Omega.{arith}
+use lib.Dec.{eqb, leb}
+use lib.ListN.{length, getD}
+use borrow.Author.Tests.{leb-false, lt-leb, eqb-true}
+use Rattle.model.specs.Limits.{name-limit, book-rows, state-limit, when, firstOf, misplaced}
+use Rattle.model.specs.Limits.{bad-name, name-order, too-many, bad-class, bad-row, bad-state}
+use Rattle.model.specs.Fields.{File, FileKind, book, table, mayCome, byMark, nameOk, above, classOk, rowOk, stateOk}
+use Rattle.model.specs.Fields.{Class, settingsOk, classFrom, nameFault, classFault, rowFault, stateFault, fieldFault}
+use Rattle.model.proofs.Tests.{tells-eqb, tells-leb, tells-and, tells-or}
+
+-- no refusal of two
+pub first-of : (a b : ℕ) → firstOf a b ≡ 0 → (a ≡ 0) × (b ≡ 0)
+first-of zero b e = (refl, e)
+first-of (suc a) b e = let z : ⊥ = omega arith in absurd z
+
+pub both : (a b : Bool) → (a && b) ≡ true → (a ≡ true) × (b ≡ true)
+both true b e = (refl, e)
+both false b e = absurd (false≢true e)
+
+when-not : (t : Bool) (n : ℕ) → when (not t) (suc n) ≡ 0 → t ≡ true
+when-not true n e = refl
+when-not false n e = let z : ⊥ = omega arith in absurd z
+
+when-le : (m k n : ℕ) → when (leb m k) (suc n) ≡ 0 → k < m
+when-le m k n e = go (leb m k) refl e
+  where
+    go : (t : Bool) → leb m k ≡ t → when t (suc n) ≡ 0 → k < m
+    go true p q = let z : ⊥ = omega arith in absurd z
+    go false p q = leb-false m k p
+
+-- what it takes of one more name
+pub record NameFits (names : List (List ℕ)) (body : List ℕ) : Type 0 where
+  pub well-formed : nameOk body ≡ true
+  pub in-order : above names body ≡ true
+  pub few : length names < name-limit
+
+-- one more row
+pub record RowFits (n : ℕ) (items : List (List ℕ)) (body : List ℕ) : Type 0 where
+  pub few : length items < book-rows
+  pub row-ok : rowOk n body ≡ true
+
+-- one more state
+pub record StateFits (n : ℕ) (items : List (List ℕ)) (body : List ℕ) : Type 0 where
+  pub few : length items < state-limit
+  pub state-ok : stateOk n body ≡ true
+
+pub name-fits : (f : File) (body : List ℕ) → nameFault f body ≡ 0 → NameFits (f .names) body
+unfolding nameFault
+name-fits f body e =
+    let p = first-of (when (not (nameOk body)) bad-name)
+    (firstOf (when (not (above (f .names) body)) name-order) (when (leb name-limit (length (f .names))) too-many)) e in
+    let q = first-of (when (not (above (f .names) body)) name-order) (when (leb name-limit (length (f .names))) too-many) (p .1) in
+    record {
+      well-formed = when-not (nameOk body) 4 (p .0);
+      in-order = when-not (above (f .names) body) 5 (q .0);
+      few = when-le name-limit (length (f .names)) 6 (q .1);
+    }
+
+pub fits-name : (f : File) (body : List ℕ) → NameFits (f .names) body → nameFault f body ≡ 0
+unfolding nameFault
+fits-name f body h = rw (h .well-formed, h .in-order, lt-leb name-limit (length (f .names)) (h .few))
+
+pub class-fits : (body : List ℕ) → classFault body ≡ 0 → classOk body ≡ true
+unfolding classFault
+class-fits body e = when-not (classOk body) 7 e
+
+pub fits-class : (body : List ℕ) → classOk body ≡ true → classFault body ≡ 0
+unfolding classFault
+fits-class body e = ap (λ (t : Bool). when (not t) bad-class) e
+
+-- a class may stand in a class field
+abbrev pub ClassOk : Class → Type 0
+ClassOk c = settingsOk (c .kind) (c .first) (c .second) ≡ true
+
+pub class-parts : (body : List ℕ) → classOk body ≡ true → (length body ≡ 3) × ClassOk (classFrom body)
+class-parts body ok =
+    let p = both (eqb (length body) 3) (settingsOk (getD body 0 0) (getD body 1 0) (getD body 2 0)) ok in
+    (eqb-true (length body) 3 (p .0), p .1)
+
+pub row-fits : (f : File) (body : List ℕ) → rowFault f body ≡ 0 → RowFits (length (f .names)) (f .items) body
+unfolding rowFault
+row-fits f body e =
+    let p = first-of (when (leb book-rows (length (f .items))) too-many) (when (not (rowOk (length (f .names)) body)) bad-row) e in
+    record { few = when-le book-rows (length (f .items)) 6 (p .0); row-ok = when-not (rowOk (length (f .names)) body) 8 (p .1) }
+
+pub state-fits : (f : File) (body : List ℕ) → stateFault f body ≡ 0 → StateFits (length (f .names)) (f .items) body
+unfolding stateFault
+state-fits f body e =
+    let p = first-of (when (leb state-limit (length (f .items))) too-many) (when (not (stateOk (length (f .names)) body)) bad-state) e in
+    record { few = when-le state-limit (length (f .items)) 6 (p .0); state-ok = when-not (stateOk (length (f .names)) body) 10 (p .1) }
+
+pub fits-state : (f : File) (body : List ℕ) → StateFits (length (f .names)) (f .items) body → stateFault f body ≡ 0
+unfolding stateFault
+fits-state f body h = rw (h .state-ok, lt-leb state-limit (length (f .items)) (h .few))
+
+-- a field without a fault is one of four
+pub data Fitting (kind : FileKind) (f : File) (mark : ℕ) (body : List ℕ) : Type 0 where
+  a-name : mark ≡ 1 → f .stage ≤ 1 → NameFits (f .names) body → Fitting kind f mark body
+  a-class : mark ≡ 2 → f .stage ≡ 1 → classOk body ≡ true → Fitting kind f mark body
+  a-row : kind ≡ book → mark ≡ 3 → 1 ≤ f .stage → RowFits (length (f .names)) (f .items) body → Fitting kind f mark body
+  a-state : kind ≡ table → mark ≡ 4 → 2 ≤ f .stage → StateFits (length (f .names)) (f .items) body → Fitting kind f mark body
+
+-- the marks that may come next, with the places where they may
+may-come :
+    (kind : FileKind) (stage mark : ℕ) → mayCome kind stage mark ≡ true →
+    ((mark ≡ 1) × (stage ≤ 1)) ⊎ (((mark ≡ 2) × (stage ≡ 1))
+    ⊎ (((kind ≡ table) × (mark ≡ 4) × (2 ≤ stage)) ⊎ ((kind ≡ book) × (mark ≡ 3) × (1 ≤ stage))))
+may-come true stage mark e =
+    let told = tells-or (tells-and (tells-eqb mark 1) (tells-leb stage 1))
+    (tells-or (tells-and (tells-eqb mark 2) (tells-eqb stage 1)) (tells-and (tells-eqb mark 4) (tells-leb 2 stage))) in
+    ⊎-elim (λ p. inl p) (λ r. inr (⊎-elim (λ p. inl p) (λ p. inr (inl (refl, p .0, p .1))) r)) (told .fact e)
+may-come false stage mark e =
+    let told = tells-or (tells-and (tells-eqb mark 1) (tells-leb stage 1))
+    (tells-or (tells-and (tells-eqb mark 2) (tells-eqb stage 1)) (tells-and (tells-eqb mark 3) (tells-leb 1 stage))) in
+    ⊎-elim (λ p. inl p) (λ r. inr (⊎-elim (λ p. inl p) (λ p. inr (inr (refl, p .0, p .1))) r)) (told .fact e)
+
+pub fitting : (kind : FileKind) (f : File) (mark : ℕ) (body : List ℕ) → fieldFault kind f mark body ≡ 0 → Fitting kind f mark body
+unfolding fieldFault
+fitting kind f mark body e =
+    let rest : ℕ → ℕ = λ m. byMark m (nameFault f body) (classFault body) (rowFault f body) (stateFault f body) in
+    let p = first-of (when (not (mayCome kind (f .stage) mark)) misplaced) (rest mark) e in
+    let at : (m : ℕ) → mark ≡ m → rest m ≡ 0 = λ m q. subst (λ z. rest z ≡ 0) q (p .1) in
+    ⊎-elim (λ q. a-name (q .0) (q .1) (name-fits f body (at 1 (q .0))))
+    (λ r. ⊎-elim (λ q. a-class (q .0) (q .1) (class-fits body (at 2 (q .0))))
+    (λ r2. ⊎-elim (λ q. a-state (q .0) (q .1) (q .2) (state-fits f body (at 4 (q .1))))
+    (λ q. a-row (q .0) (q .1) (q .2) (row-fits f body (at 3 (q .1)))) r2) r)
+    (may-come kind (f .stage) mark (when-not (mayCome kind (f .stage) mark) 2 (p .0)))
