@@ -1,0 +1,7 @@
+-- Why a partition that the passes' promises describe has the table of the book. Assumes nothing.
+pub mod Words
+pub mod Joined
+pub mod Keys
+pub mod Contexts
+pub mod Functions
+pub mod Closing
