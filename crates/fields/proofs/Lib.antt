@@ -1,0 +1,4 @@
+-- Laws that the functions' proofs share: of the tests of names, rows and state fields over what is left to read. Assumes nothing.
+pub mod NameLaws
+pub mod RowLaws
+pub mod StateLaws
