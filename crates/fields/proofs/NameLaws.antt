@@ -41,7 +41,7 @@ name-start [] h = refl
 name-start (b ∷ s) h = rw (h, and-false)
 
 pub name-rest : (s : List ℕ) → 0 < length s → length s ≤ 32 → startsName (getD s 0 0) ≡ true
-  → all continuesName (drop 1 s) ≡ nameOk s
+    → all continuesName (drop 1 s) ≡ nameOk s
 unfolding nameOk
 name-rest [] g h e = let z : ⊥ = omega arith in absurd z
 name-rest (b ∷ s) g h e = rw (le-leb (length (b ∷ s)) 32 h, e)
@@ -55,14 +55,14 @@ unfolding before
 before-less a b i h g l = rw (drop-cons a i 0 h, drop-cons b i 0 g, before, lt-ltb (getD a i 0) (getD b i 0) l)
 
 pub before-more : (a b : List ℕ) (i : ℕ) → i < length a → i < length b → getD b i 0 < getD a i 0
-  → before (drop i a) (drop i b) ≡ false
+    → before (drop i a) (drop i b) ≡ false
 unfolding before
 before-more a b i h g l =
     let q : getD b i 0 ≤ getD a i 0 = omega arith in
     rw (drop-cons a i 0 h, drop-cons b i 0 g, before, le-ltb (getD a i 0) (getD b i 0) q, ne-eqb (getD a i 0) (getD b i 0) (omega arith))
 
 pub before-go : (a b : List ℕ) (i : ℕ) → i < length a → i < length b → getD a i 0 ≤ getD b i 0 → getD b i 0 ≤ getD a i 0
-  → before (drop (i + 1) a) (drop (i + 1) b) ≡ before (drop i a) (drop i b)
+    → before (drop (i + 1) a) (drop (i + 1) b) ≡ before (drop i a) (drop i b)
 unfolding before
 before-go a b i h g l m =
     rw (add-one, drop-cons a i 0 h, drop-cons b i 0 g, le-ltb (getD a i 0) (getD b i 0) m, eq-eqb (getD a i 0) (getD b i 0) (omega arith))
@@ -91,27 +91,27 @@ name-bad last count name b =
     record { is = λ (f : File) (e : lastOr [] (f .names) ≡ last) (g : length (f .names) ≡ count). rw b }
 
 pub name-unordered : (last : List ℕ) (count : ℕ) (name : List ℕ) → nameOk name ≡ true → before last name ≡ false
-  → NameJudged last count name 6
+    → NameJudged last count name 6
 unfolding nameFault
 name-unordered last count name b o =
     record {
-      is = λ (f : File) (e : lastOr [] (f .names) ≡ last) (g : length (f .names) ≡ count). rw (b, above-last (f .names) name b, e, o)
+      is = λ (f : File) (e : lastOr [] (f .names) ≡ last) (g : length (f .names) ≡ count). rw (b, above-last (f .names) name b, e, o);
     }
 
 pub name-too-many : (last : List ℕ) (count : ℕ) (name : List ℕ) → nameOk name ≡ true → before last name ≡ true → 64 ≤ count
-  → NameJudged last count name 7
+    → NameJudged last count name 7
 unfolding nameFault
 name-too-many last count name b o h =
     record {
       is = λ (f : File) (e : lastOr [] (f .names) ≡ last) (g : length (f .names) ≡ count).
-        rw (b, above-last (f .names) name b, e, o, g, le-leb 64 count h)
+          rw (b, above-last (f .names) name b, e, o, g, le-leb 64 count h);
     }
 
 pub name-good : (last : List ℕ) (count : ℕ) (name : List ℕ) → nameOk name ≡ true → before last name ≡ true → count < 64
-  → NameJudged last count name 0
+    → NameJudged last count name 0
 unfolding nameFault
 name-good last count name b o h =
     record {
       is = λ (f : File) (e : lastOr [] (f .names) ≡ last) (g : length (f .names) ≡ count).
-        rw (b, above-last (f .names) name b, e, o, g, lt-leb 64 count h)
+          rw (b, above-last (f .names) name b, e, o, g, lt-leb 64 count h);
     }

@@ -35,7 +35,7 @@ arcs-begin n (b ∷ s) g h = record { fuel = length s; enough = omega arith; res
 
 -- with an arc at i the fuel is at least 1: the test is that of the arc, then of what comes after it
 arcs-turn : (n : ℕ) (s : List ℕ) (next i f : ℕ) → i < length s → arcsOk (suc f) n next (drop i s)
-  ≡ (leb 2 (length s - suc i) && ((ltb (getD s i 0) n && leb next (getD s i 0)) && arcsOk f n (suc (getD s i 0)) (drop (i + 3) s)))
+    ≡ (leb 2 (length s - suc i) && ((ltb (getD s i 0) n && leb next (getD s i 0)) && arcsOk f n (suc (getD s i 0)) (drop (i + 3) s)))
 unfolding arcsOk
 arcs-turn n s next i f h = rw (drop-cons s i 0 h, arcsOk, length-drop, drop-drop, add-two, add-three)
 
@@ -62,12 +62,12 @@ pub arcs-unnamed : (n : ℕ) (s : List ℕ) (next i : ℕ) → i < length s → 
 arcs-unnamed n s next i h g left = arc-now n s next i h left .turn ∙ rw (le-ltb (getD s i 0) n g, and-false)
 
 pub arcs-unordered : (n : ℕ) (s : List ℕ) (next i : ℕ) → i < length s → getD s i 0 < next → ArcsLeft n s next i
-  → stateOk n s ≡ false
+    → stateOk n s ≡ false
 arcs-unordered n s next i h g left =
     arc-now n s next i h left .turn ∙ rw (lt-leb next (getD s i 0) g, and-false, and-false)
 
 pub arcs-go : (n : ℕ) (s : List ℕ) (next i : ℕ) → i < length s → 3 ≤ length s - i → getD s i 0 < n → next ≤ getD s i 0
-  → ArcsLeft n s next i → ArcsLeft n s (getD s i 0 + 1) (i + 3)
+    → ArcsLeft n s next i → ArcsLeft n s (getD s i 0 + 1) (i + 3)
 arcs-go n s next i h g a b left =
     let now = arc-now n s next i h left in
     let q : 2 ≤ length s - suc i = omega arith in
@@ -75,8 +75,8 @@ arcs-go n s next i h g a b left =
       fuel = now .more;
       enough = omega (arith, now .suffices);
       rest =
-        rw add-one
-        (sym (now .turn ∙ rw (le-leb 2 (length s - suc i) q, lt-ltb (getD s i 0) n a, le-leb next (getD s i 0) b)))
+          rw add-one
+          (sym (now .turn ∙ rw (le-leb 2 (length s - suc i) q, lt-ltb (getD s i 0) n a, le-leb next (getD s i 0) b)));
     }
 
 pub arcs-end : (n : ℕ) (s : List ℕ) (next i : ℕ) → length s ≤ i → ArcsLeft n s next i → stateOk n s ≡ true

@@ -1,5 +1,6 @@
 // Class fields and their refusal, 8.
-use crate::limits::{BAD_CLASS, SETTING_LIMIT};
+use crate::limits::BAD_CLASS;
+use crate::limits::SETTING_LIMIT;
 ghost use mathlib.Core.Path.{_≡_};
 ghost use Rattle.model.specs.Fields.{settingsOk, classFault};
 

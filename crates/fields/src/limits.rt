@@ -2,10 +2,12 @@
 
 // At most so many names, of at most so many bytes.
 pub const NAME_LIMIT: u8 = 64;
+
 pub const NAME_BYTES: usize = 32;
 
 // At most so many rows in a book, of at most so many entries.
 pub const BOOK_ROWS: usize = 256;
+
 pub const ROW_LIMIT: usize = 64;
 
 // At most so many states in a table.
@@ -16,11 +18,19 @@ pub const SETTING_LIMIT: u8 = 8;
 
 // The refusals of a file's fields.
 pub const CUT_OFF: u8 = 2;
+
 pub const MISPLACED: u8 = 3;
+
 pub const UNFINISHED: u8 = 4;
+
 pub const BAD_NAME: u8 = 5;
+
 pub const NAME_ORDER: u8 = 6;
+
 pub const TOO_MANY: u8 = 7;
+
 pub const BAD_CLASS: u8 = 8;
+
 pub const BAD_ROW: u8 = 9;
+
 pub const BAD_STATE: u8 = 11;

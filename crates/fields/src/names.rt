@@ -1,5 +1,9 @@
 // Names: which bytes they have, their order, and the refusals 5, 6 and 7.
-use crate::limits::{BAD_NAME, NAME_BYTES, NAME_LIMIT, NAME_ORDER, TOO_MANY};
+use crate::limits::BAD_NAME;
+use crate::limits::NAME_BYTES;
+use crate::limits::NAME_LIMIT;
+use crate::limits::NAME_ORDER;
+use crate::limits::TOO_MANY;
 ghost use mathlib.Core.Path.{_≡_};
 ghost use Rattle.model.specs.Fields.{startsName, continuesName, nameOk};
 ghost use Rattle.model.specs.Lists.{before};

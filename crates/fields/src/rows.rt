@@ -1,5 +1,8 @@
 // Rows and their refusals, 7 and 9.
-use crate::limits::{BAD_ROW, BOOK_ROWS, ROW_LIMIT, TOO_MANY};
+use crate::limits::BAD_ROW;
+use crate::limits::BOOK_ROWS;
+use crate::limits::ROW_LIMIT;
+use crate::limits::TOO_MANY;
 ghost use mathlib.Core.Path.{_≡_};
 ghost use Rattle.model.specs.Fields.{allBelow, rowOk};
 ghost use Rattle.fields.specs.Judged.{RowJudged};
