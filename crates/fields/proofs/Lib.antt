@@ -2,3 +2,7 @@
 pub mod NameLaws
 pub mod RowLaws
 pub mod StateLaws
+pub mod OffsetLaws
+pub mod PlaceLaws
+pub mod MarkLaws
+pub mod TurnLaws
