@@ -39,26 +39,26 @@ module _ (kind : FileKind) (s : List ℕ) (p : Place) where
 
   -- what the arm for a mark found is what the mark's field comes to
   by-mark : (r : Step) (mark fault : ℕ) → getD s (p .at) 0 ≡ mark → fieldFault kind (fileOf s p) mark (bodyAt s (p .at)) ≡ fault
-    → Stepped s p fault (withField (fileOf s p) mark (bodyAt s (p .at))) r → Judged kind s p r
+      → Stepped s p fault (withField (fileOf s p) mark (bodyAt s (p .at))) r → Judged kind s p r
   by-mark r mark fault m e h = rw (m, e) h
 
   pub name-judged : (r : Step) → getD s (p .at) 0 ≡ 1 → p .stage ≤ 1
-    → Stepped s p (nameFault (fileOf s p) (bodyAt s (p .at))) (withField (fileOf s p) 1 (bodyAt s (p .at))) r → Judged kind s p r
+      → Stepped s p (nameFault (fileOf s p) (bodyAt s (p .at))) (withField (fileOf s p) 1 (bodyAt s (p .at))) r → Judged kind s p r
   unfolding fieldFault
   name-judged r m h = by-mark r 1 (nameFault (fileOf s p) (bodyAt s (p .at))) m (rw (le-leb (p .stage) 1 h))
 
   pub class-judged : (r : Step) → getD s (p .at) 0 ≡ 2 → p .stage ≡ 1
-    → Stepped s p (classFault (bodyAt s (p .at))) (withField (fileOf s p) 2 (bodyAt s (p .at))) r → Judged kind s p r
+      → Stepped s p (classFault (bodyAt s (p .at))) (withField (fileOf s p) 2 (bodyAt s (p .at))) r → Judged kind s p r
   unfolding fieldFault
   class-judged r m h = by-mark r 2 (classFault (bodyAt s (p .at))) m (rw (eq-eqb (p .stage) 1 h))
 
   pub row-judged : (r : Step) → getD s (p .at) 0 ≡ 3 → (not kind && leb 1 (p .stage)) ≡ true
-    → Stepped s p (rowFault (fileOf s p) (bodyAt s (p .at))) (withField (fileOf s p) 3 (bodyAt s (p .at))) r → Judged kind s p r
+      → Stepped s p (rowFault (fileOf s p) (bodyAt s (p .at))) (withField (fileOf s p) 3 (bodyAt s (p .at))) r → Judged kind s p r
   unfolding fieldFault
   row-judged r m h = by-mark r 3 (rowFault (fileOf s p) (bodyAt s (p .at))) m (rw (cond-book kind (leb 1 (p .stage)), h))
 
   pub state-judged : (r : Step) → getD s (p .at) 0 ≡ 4 → (kind && leb 2 (p .stage)) ≡ true
-    → Stepped s p (stateFault (fileOf s p) (bodyAt s (p .at))) (withField (fileOf s p) 4 (bodyAt s (p .at))) r → Judged kind s p r
+      → Stepped s p (stateFault (fileOf s p) (bodyAt s (p .at))) (withField (fileOf s p) 4 (bodyAt s (p .at))) r → Judged kind s p r
   unfolding fieldFault
   state-judged r m h = by-mark r 4 (stateFault (fileOf s p) (bodyAt s (p .at))) m (rw (cond-table kind (leb 2 (p .stage)), h))
 
@@ -76,5 +76,5 @@ pub no-state : (kind : FileKind) (stage mark : ℕ) → mark ≡ 4 → (kind && 
 no-state kind stage mark m h = rw m (cond-table kind (leb 2 stage) ∙ h)
 
 pub no-mark : (kind : FileKind) (stage mark : ℕ) → (mark ≡ 1 → ⊥) → (mark ≡ 2 → ⊥) → (mark ≡ 3 → ⊥) → (mark ≡ 4 → ⊥)
-  → mayCome kind stage mark ≡ false
+    → mayCome kind stage mark ≡ false
 no-mark kind stage mark a b c d = rw (ne-eqb mark 1 a, ne-eqb mark 2 b, ne-eqb mark 3 c, ne-eqb mark 4 d) (cond-none kind)

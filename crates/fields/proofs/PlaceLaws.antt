@@ -69,7 +69,7 @@ namePlace p next width =
       first = p .first;
       second = p .second;
       start = next;
-      items = 0
+      items = 0;
     }
 
 -- the place after a class field with these bytes
@@ -85,7 +85,7 @@ classPlace p next class =
       first = getD class 1 0;
       second = getD class 2 0;
       start = next;
-      items = 0
+      items = 0;
     }
 
 module _ (s : List ℕ) (p : Place) (sound : Sound s p) (fits : nextAt s (p .at) ≤ length s) where
@@ -117,11 +117,11 @@ module _ (s : List ℕ) (p : Place) (sound : Sound s p) (fits : nextAt s (p .at)
         last-within = omega arith;
         last-is = rw (names-more h, last-more) last-body;
         items-end = refl;
-        no-items = λ _. refl
+        no-items = λ _. refl;
       }
 
   pub named-grows : p .stage ≤ 1 → nameFault (fileOf s p) (bodyAt s (p .at)) ≡ 0
-    → Grown s p (nameFault (fileOf s p) (bodyAt s (p .at))) (withField (fileOf s p) 1 (bodyAt s (p .at)))
+      → Grown s p (nameFault (fileOf s p) (bodyAt s (p .at))) (withField (fileOf s p) 1 (bodyAt s (p .at)))
       (namePlace p (nextAt s (p .at)) (lengthAt s (p .at)))
   unfolding withField fieldsAt
   named-grows h e =
@@ -129,30 +129,30 @@ module _ (s : List ℕ) (p : Place) (sound : Sound s p) (fits : nextAt s (p .at)
         no-fault = e;
         sound = named-sound h (omega (arith, names-left (fileOf s p) (bodyAt s (p .at)) e, length-fields s 0 (p .names)));
         file-is = rw (names-more h, no-items-yet (omega arith));
-        after = refl
+        after = refl;
       }
 
   pub classed-grows : p .stage ≤ 2 → classFault (bodyAt s (p .at)) ≡ 0
-    → Grown s p (classFault (bodyAt s (p .at))) (withField (fileOf s p) 2 (bodyAt s (p .at)))
+      → Grown s p (classFault (bodyAt s (p .at))) (withField (fileOf s p) 2 (bodyAt s (p .at)))
       (classPlace p (nextAt s (p .at)) (bodyAt s (p .at)))
   unfolding withField fieldsAt offsetAt
   classed-grows h e =
       record {
         no-fault = e;
         sound =
-          record {
-            within = fits;
-            few-names = sound .few-names;
-            few-items = omega arith;
-            names-within = omega (arith, sound .names-within);
-            names-end = λ (g : 2 ≤ 1). let z : ⊥ = omega arith in absurd z;
-            last-within = sound .last-within;
-            last-is = sound .last-is;
-            items-end = refl;
-            no-items = λ _. refl
-          };
+            record {
+              within = fits;
+              few-names = sound .few-names;
+              few-items = omega arith;
+              names-within = omega (arith, sound .names-within);
+              names-end = λ (g : 2 ≤ 1). let z : ⊥ = omega arith in absurd z;
+              last-within = sound .last-within;
+              last-is = sound .last-is;
+              items-end = refl;
+              no-items = λ _. refl;
+            };
         file-is = rw (no-items-yet h);
-        after = refl
+        after = refl;
       }
 
   items-next : offsetAt s (p .start) (p .items + 1) ≡ nextAt s (p .at)
@@ -172,11 +172,11 @@ module _ (s : List ℕ) (p : Place) (sound : Sound s p) (fits : nextAt s (p .at)
         last-within = sound .last-within;
         last-is = sound .last-is;
         items-end = items-next;
-        no-items = λ (g : 3 ≤ 2). let z : ⊥ = omega arith in absurd z
+        no-items = λ (g : 3 ≤ 2). let z : ⊥ = omega arith in absurd z;
       }
 
   pub rowed-grows : rowFault (fileOf s p) (bodyAt s (p .at)) ≡ 0
-    → Grown s p (rowFault (fileOf s p) (bodyAt s (p .at))) (withField (fileOf s p) 3 (bodyAt s (p .at)))
+      → Grown s p (rowFault (fileOf s p) (bodyAt s (p .at))) (withField (fileOf s p) 3 (bodyAt s (p .at)))
       (withItem p (nextAt s (p .at)))
   unfolding withField
   rowed-grows e =
@@ -184,11 +184,11 @@ module _ (s : List ℕ) (p : Place) (sound : Sound s p) (fits : nextAt s (p .at)
         no-fault = e;
         sound = item-sound (omega (arith, rows-left (fileOf s p) (bodyAt s (p .at)) e, length-fields s (p .start) (p .items)));
         file-is = rw items-more;
-        after = refl
+        after = refl;
       }
 
   pub stated-grows : stateFault (fileOf s p) (bodyAt s (p .at)) ≡ 0
-    → Grown s p (stateFault (fileOf s p) (bodyAt s (p .at))) (withField (fileOf s p) 4 (bodyAt s (p .at)))
+      → Grown s p (stateFault (fileOf s p) (bodyAt s (p .at))) (withField (fileOf s p) 4 (bodyAt s (p .at)))
       (withItem p (nextAt s (p .at)))
   unfolding withField
   stated-grows e =
@@ -196,48 +196,48 @@ module _ (s : List ℕ) (p : Place) (sound : Sound s p) (fits : nextAt s (p .at)
         no-fault = e;
         sound = item-sound (omega (arith, states-left (fileOf s p) (bodyAt s (p .at)) e, length-fields s (p .start) (p .items)));
         file-is = rw items-more;
-        after = refl
+        after = refl;
       }
 
   -- the functions that judge a field were handed what the place stands for, so that their fault is that of its file
   pub named-fault : (name : List ℕ) (fault : ℕ) → name ≡ bodyAt s (p .at)
-    → NameJudged (take (p .last + p .width - p .last) (drop (p .last) s)) (p .names) name fault
-    → nameFault (fileOf s p) (bodyAt s (p .at)) ≡ fault
+      → NameJudged (take (p .last + p .width - p .last) (drop (p .last) s)) (p .names) name fault
+      → nameFault (fileOf s p) (bodyAt s (p .at)) ≡ fault
   named-fault name fault e j =
       let q : p .last + p .width - p .last ≡ p .width = omega arith in
       let last-same : lastOr [] (fieldsAt s 0 (p .names)) ≡ take (p .last + p .width - p .last) (drop (p .last) s) = rw q (sound .last-is) in
       subst (λ (b : List ℕ). nameFault (fileOf s p) b ≡ fault) e (j .is (fileOf s p) last-same (length-fields s 0 (p .names)))
 
   pub rowed-fault : (row : List ℕ) (fault : ℕ) → row ≡ bodyAt s (p .at) → RowJudged (p .names) (p .items) row fault
-    → rowFault (fileOf s p) (bodyAt s (p .at)) ≡ fault
+      → rowFault (fileOf s p) (bodyAt s (p .at)) ≡ fault
   rowed-fault row fault e j =
       subst (λ (b : List ℕ). rowFault (fileOf s p) b ≡ fault) e
       (j .is (fileOf s p) (length-fields s 0 (p .names)) (length-fields s (p .start) (p .items)))
 
   pub stated-fault : (state : List ℕ) (fault : ℕ) → state ≡ bodyAt s (p .at) → StateJudged (p .names) (p .items) state fault
-    → stateFault (fileOf s p) (bodyAt s (p .at)) ≡ fault
+      → stateFault (fileOf s p) (bodyAt s (p .at)) ≡ fault
   stated-fault state fault e j =
       subst (λ (b : List ℕ). stateFault (fileOf s p) b ≡ fault) e
       (j .is (fileOf s p) (length-fields s 0 (p .names)) (length-fields s (p .start) (p .items)))
 
   -- the same growth for the values that the code has at hand
   pub named-goes : (name : List ℕ) (next : ℕ) → p .stage ≤ 1 → nameFault (fileOf s p) (bodyAt s (p .at)) ≡ 0
-    → name ≡ bodyAt s (p .at) → next ≡ nextAt s (p .at)
-    → Grown s p (nameFault (fileOf s p) (bodyAt s (p .at))) (withField (fileOf s p) 1 (bodyAt s (p .at))) (namePlace p next (length name))
+      → name ≡ bodyAt s (p .at) → next ≡ nextAt s (p .at)
+      → Grown s p (nameFault (fileOf s p) (bodyAt s (p .at))) (withField (fileOf s p) 1 (bodyAt s (p .at))) (namePlace p next (length name))
   named-goes name next h e n m = rw (m, n, length-body s (p .at) fits) (named-grows h e)
 
   pub classed-goes : (class : List ℕ) (next : ℕ) → p .stage ≤ 2 → classFault (bodyAt s (p .at)) ≡ 0 → class ≡ bodyAt s (p .at)
-    → next ≡ nextAt s (p .at)
-    → Grown s p (classFault (bodyAt s (p .at))) (withField (fileOf s p) 2 (bodyAt s (p .at))) (classPlace p next class)
+      → next ≡ nextAt s (p .at)
+      → Grown s p (classFault (bodyAt s (p .at))) (withField (fileOf s p) 2 (bodyAt s (p .at))) (classPlace p next class)
   classed-goes class next h e n m = rw (m, n) (classed-grows h e)
 
   pub rowed-goes : (q : Place) (next : ℕ) → rowFault (fileOf s p) (bodyAt s (p .at)) ≡ 0 → q ≡ withItem p next → next ≡ nextAt s (p .at)
-    → Grown s p (rowFault (fileOf s p) (bodyAt s (p .at))) (withField (fileOf s p) 3 (bodyAt s (p .at))) q
+      → Grown s p (rowFault (fileOf s p) (bodyAt s (p .at))) (withField (fileOf s p) 3 (bodyAt s (p .at))) q
   rowed-goes q next e n m = rw (n, m) (rowed-grows e)
 
   pub stated-goes : (q : Place) (next : ℕ) → stateFault (fileOf s p) (bodyAt s (p .at)) ≡ 0 → q ≡ withItem p next
-    → next ≡ nextAt s (p .at)
-    → Grown s p (stateFault (fileOf s p) (bodyAt s (p .at))) (withField (fileOf s p) 4 (bodyAt s (p .at))) q
+      → next ≡ nextAt s (p .at)
+      → Grown s p (stateFault (fileOf s p) (bodyAt s (p .at))) (withField (fileOf s p) 4 (bodyAt s (p .at))) q
   stated-goes q next e n m = rw (n, m) (stated-grows e)
 
 pub faulty : (fault number : ℕ) → fault ≡ number → (number ≡ 0 → ⊥) → Faulty fault number

@@ -26,18 +26,18 @@ unfolding readFrom
 read-end l kind f = refl
 
 read-cut : (l : ℕ) (kind : FileKind) (f : File) (t : List ℕ) → eqb (length t) 0 ≡ false → runsPast t ≡ true
-  → readFrom (suc l) kind f t ≡ refused 2
+    → readFrom (suc l) kind f t ≡ refused 2
 unfolding readFrom
 read-cut l kind f t a b = rw (a, readFrom, b)
 
 read-refused : (l : ℕ) (kind : FileKind) (f : File) (t : List ℕ) (fault : ℕ) → eqb (length t) 0 ≡ false → runsPast t ≡ false
-  → fieldFault kind f (getD t 0 0) (bodyOf t) ≡ fault → eqb fault 0 ≡ false → readFrom (suc l) kind f t ≡ refused fault
+    → fieldFault kind f (getD t 0 0) (bodyOf t) ≡ fault → eqb fault 0 ≡ false → readFrom (suc l) kind f t ≡ refused fault
 unfolding readFrom
 read-refused l kind f t fault a b e n = rw (a, readFrom, b, e, n) (ap (λ (k : ℕ). refused k) e)
 
 read-on : (l : ℕ) (kind : FileKind) (f : File) (t : List ℕ) → eqb (length t) 0 ≡ false → runsPast t ≡ false
-  → fieldFault kind f (getD t 0 0) (bodyOf t) ≡ 0
-  → readFrom (suc l) kind f t ≡ readFrom l kind (withField f (getD t 0 0) (bodyOf t)) (afterField t)
+    → fieldFault kind f (getD t 0 0) (bodyOf t) ≡ 0
+    → readFrom (suc l) kind f t ≡ readFrom l kind (withField f (getD t 0 0) (bodyOf t)) (afterField t)
 unfolding readFrom
 read-on l kind f t a b e = rw (a, readFrom, b, e)
 
@@ -79,7 +79,7 @@ module _ (s : List ℕ) (p : Place) (before-end : p .at < length s) where
 
   -- what judging the field found, of the bytes that are left
   fault-left : (kind : FileKind) (fault : ℕ) → fieldFault kind (fileOf s p) (getD s (p .at) 0) (bodyAt s (p .at)) ≡ fault
-    → fieldFault kind (fileOf s p) (getD (drop (p .at) s) 0 0) (bodyOf (drop (p .at) s)) ≡ fault
+      → fieldFault kind (fileOf s p) (getD (drop (p .at) s) 0 0) (bodyOf (drop (p .at) s)) ≡ fault
   unfolding bodyAt
   fault-left kind fault e = rw mark-left e
 
@@ -90,9 +90,9 @@ module _ (s : List ℕ) (p : Place) (before-end : p .at < length s) where
         sound = j .sound;
         further = omega (arith, j .after);
         reads =
-          λ (l : ℕ).
+            λ (l : ℕ).
             read-on l kind (fileOf s p) (drop (p .at) s) some-left (whole h) (fault-left kind 0 (j .no-fault))
-            ∙ rw (mark-left, after-left, j .file-is, j .after)
+            ∙ rw (mark-left, after-left, j .file-is, j .after);
       }
 
   refuses : (kind : FileKind) (k : ℕ) → nextAt s (p .at) ≤ length s → Judged kind s p (Refused k) → Refuses kind s p k
@@ -101,8 +101,8 @@ module _ (s : List ℕ) (p : Place) (before-end : p .at < length s) where
       record {
         some = j .some;
         reads =
-          λ (l : ℕ).
-            read-refused l kind (fileOf s p) (drop (p .at) s) k some-left (whole h) (fault-left kind k (j .is)) (ne-eqb k 0 n)
+            λ (l : ℕ).
+            read-refused l kind (fileOf s p) (drop (p .at) s) k some-left (whole h) (fault-left kind k (j .is)) (ne-eqb k 0 n);
       }
 
   -- a whole field: the turn is what judging it found
@@ -123,7 +123,7 @@ begin =
       first = 2;
       second = 1;
       start = 0;
-      items = 0
+      items = 0;
     }
 
 -- reading the whole file comes to reading on from this place, with fuel for what is left
@@ -145,7 +145,7 @@ begin-sound s =
       last-within = omega arith;
       last-is = refl;
       items-end = refl;
-      no-items = λ _. refl
+      no-items = λ _. refl;
     }
 
 pub reading-begins : (kind : FileKind) (s : List ℕ) → Reading kind s begin
@@ -158,7 +158,7 @@ module _ (kind : FileKind) (s : List ℕ) (p : Place) (reading : Reading kind s 
   one-turn = go (reading .fuel) (reading .enough) (reading .reads)
     where
       go : (f : ℕ) → length s < f + p .at → readFrom f kind (fileOf s p) (drop (p .at) s) ≡ readFields kind s
-        → (l : ℕ) × (length s < suc l + p .at) × (readFrom (suc l) kind (fileOf s p) (drop (p .at) s) ≡ readFields kind s)
+          → (l : ℕ) × (length s < suc l + p .at) × (readFrom (suc l) kind (fileOf s p) (drop (p .at) s) ≡ readFields kind s)
       go zero e r = let z : ⊥ = omega (arith, e, reading .sound .within) in absurd z
       go (suc l) e r = (l, e, r)
 
@@ -169,7 +169,7 @@ module _ (kind : FileKind) (s : List ℕ) (p : Place) (reading : Reading kind s 
         sound = g .sound;
         fuel = t .0;
         enough = omega (arith, t .1, g .further);
-        reads = sym (g .reads (t .0)) ∙ t .2
+        reads = sym (g .reads (t .0)) ∙ t .2;
       }
 
   pub reading-refused : (k : ℕ) → Refuses kind s p k → ReadAs kind s (answer.Refused k)

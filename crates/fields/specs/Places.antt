@@ -32,7 +32,7 @@ withItem p next =
       first = p .first;
       second = p .second;
       start = p .start;
-      items = p .items + 1
+      items = p .items + 1;
     }
 
 -- every offset lies within the input, and the names, and the rows or states, end where the next field begins

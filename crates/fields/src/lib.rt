@@ -6,8 +6,13 @@ pub mod names;
 pub mod offsets;
 pub mod rows;
 pub mod states;
-use limits::{CUT_OFF, MISPLACED, UNFINISHED};
-use offsets::{body, body_len, next_field};
+
+use limits::CUT_OFF;
+use limits::MISPLACED;
+use limits::UNFINISHED;
+use offsets::body;
+use offsets::body_len;
+use offsets::next_field;
 ghost use mathlib.Core.Path.{_≡_};
 ghost use Prim.Native.Nat.{_≤_, _<_};
 ghost use lib.ListN.{length, getD};
