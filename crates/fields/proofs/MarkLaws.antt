@@ -9,7 +9,7 @@ use lib.Dec.{leb, eqb}
 use lib.ListN.{getD}
 use Rattle.model.specs.Fields.{FileKind, File, mayCome, nameFault, classFault, rowFault, stateFault, fieldFault, withField}
 use Rattle.fields.specs.Offsets.{bodyAt}
-use Rattle.fields.specs.Places.{fileOf, Stepped, Judged, Faulty}
+use Rattle.fields.specs.Places.{fileOf, Stepped, NameStep, ClassStep, RowStep, StateStep, FieldStep}
 use Rattle.fields.specs.declared.Place.{Place}
 use Rattle.fields.specs.declared.Step.{Step}
 use Rattle.fields.specs.declared.Step.the-variants.{Refused}
@@ -33,34 +33,34 @@ unfolding fieldFault
 misplaced-fault kind f mark b e = rw e
 
 module _ (kind : FileKind) (s : List ℕ) (p : Place) where
-  pub misplaced : mayCome kind (p .stage) (getD s (p .at) 0) ≡ false → Judged kind s p (Refused 3)
+  pub misplaced : mayCome kind (p .stage) (getD s (p .at) 0) ≡ false → FieldStep kind s p (Refused 3)
   misplaced e =
       record { is = misplaced-fault kind (fileOf s p) (getD s (p .at) 0) (bodyAt s (p .at)) e; some = omega arith }
 
   -- what the arm for a mark found is what the mark's field comes to
   by-mark : (r : Step) (mark fault : ℕ) → getD s (p .at) 0 ≡ mark → fieldFault kind (fileOf s p) mark (bodyAt s (p .at)) ≡ fault
-      → Stepped s p fault (withField (fileOf s p) mark (bodyAt s (p .at))) r → Judged kind s p r
+      → Stepped s p fault (withField (fileOf s p) mark (bodyAt s (p .at))) r → FieldStep kind s p r
   by-mark r mark fault m e h = rw (m, e) h
 
-  pub name-judged : (r : Step) → getD s (p .at) 0 ≡ 1 → p .stage ≤ 1
-      → Stepped s p (nameFault (fileOf s p) (bodyAt s (p .at))) (withField (fileOf s p) 1 (bodyAt s (p .at))) r → Judged kind s p r
+  pub name-arm : (r : Step) → getD s (p .at) 0 ≡ 1 → p .stage ≤ 1
+      → NameStep s p r → FieldStep kind s p r
   unfolding fieldFault
-  name-judged r m h = by-mark r 1 (nameFault (fileOf s p) (bodyAt s (p .at))) m (rw (le-leb (p .stage) 1 h))
+  name-arm r m h = by-mark r 1 (nameFault (fileOf s p) (bodyAt s (p .at))) m (rw (le-leb (p .stage) 1 h))
 
-  pub class-judged : (r : Step) → getD s (p .at) 0 ≡ 2 → p .stage ≡ 1
-      → Stepped s p (classFault (bodyAt s (p .at))) (withField (fileOf s p) 2 (bodyAt s (p .at))) r → Judged kind s p r
+  pub class-arm : (r : Step) → getD s (p .at) 0 ≡ 2 → p .stage ≡ 1
+      → ClassStep s p r → FieldStep kind s p r
   unfolding fieldFault
-  class-judged r m h = by-mark r 2 (classFault (bodyAt s (p .at))) m (rw (eq-eqb (p .stage) 1 h))
+  class-arm r m h = by-mark r 2 (classFault (bodyAt s (p .at))) m (rw (eq-eqb (p .stage) 1 h))
 
-  pub row-judged : (r : Step) → getD s (p .at) 0 ≡ 3 → (not kind && leb 1 (p .stage)) ≡ true
-      → Stepped s p (rowFault (fileOf s p) (bodyAt s (p .at))) (withField (fileOf s p) 3 (bodyAt s (p .at))) r → Judged kind s p r
+  pub row-arm : (r : Step) → getD s (p .at) 0 ≡ 3 → (not kind && leb 1 (p .stage)) ≡ true
+      → RowStep s p r → FieldStep kind s p r
   unfolding fieldFault
-  row-judged r m h = by-mark r 3 (rowFault (fileOf s p) (bodyAt s (p .at))) m (rw (cond-book kind (leb 1 (p .stage)), h))
+  row-arm r m h = by-mark r 3 (rowFault (fileOf s p) (bodyAt s (p .at))) m (rw (cond-book kind (leb 1 (p .stage)), h))
 
-  pub state-judged : (r : Step) → getD s (p .at) 0 ≡ 4 → (kind && leb 2 (p .stage)) ≡ true
-      → Stepped s p (stateFault (fileOf s p) (bodyAt s (p .at))) (withField (fileOf s p) 4 (bodyAt s (p .at))) r → Judged kind s p r
+  pub state-arm : (r : Step) → getD s (p .at) 0 ≡ 4 → (kind && leb 2 (p .stage)) ≡ true
+      → StateStep s p r → FieldStep kind s p r
   unfolding fieldFault
-  state-judged r m h = by-mark r 4 (stateFault (fileOf s p) (bodyAt s (p .at))) m (rw (cond-table kind (leb 2 (p .stage)), h))
+  state-arm r m h = by-mark r 4 (stateFault (fileOf s p) (bodyAt s (p .at))) m (rw (cond-table kind (leb 2 (p .stage)), h))
 
 -- marks that may not come at a stage
 pub no-name : (kind : FileKind) (stage mark : ℕ) → mark ≡ 1 → 1 < stage → mayCome kind stage mark ≡ false

@@ -14,7 +14,7 @@ use Rattle.model.specs.Limits.{when, firstOf}
 use Rattle.model.specs.Fields.{File, nameOk, above, settingsOk, classOk, rowOk, stateOk, nameFault, classFault, rowFault, stateFault, withField}
 use Rattle.fields.specs.Offsets.{lengthAt, bodyAt, nextAt, offsetAt, fieldsAt}
 use Rattle.fields.specs.Judged.{NameJudged, RowJudged, StateJudged}
-use Rattle.fields.specs.Places.{fileOf, withItem, Sound, Grown, Faulty}
+use Rattle.fields.specs.Places.{fileOf, withItem, Sound, Whole, Grown, Faulty}
 use Rattle.fields.specs.declared.Place.{Place}
 use Rattle.fields.proofs.OffsetLaws.{body-at, length-body, offset-suc, length-fields, fields-more, last-more}
 
@@ -88,7 +88,13 @@ classPlace p next class =
       items = 0;
     }
 
-module _ (s : List ℕ) (p : Place) (sound : Sound s p) (fits : nextAt s (p .at) ≤ length s) where
+module _ (s : List ℕ) (p : Place) (whole : Whole s p) where
+  sound : Sound s p
+  sound = whole .sound
+
+  fits : nextAt s (p .at) ≤ length s
+  fits = whole .fits
+
   -- what a name ends at, and the run of names with it
   names-next : p .stage ≤ 1 → offsetAt s 0 (p .names + 1) ≡ nextAt s (p .at)
   names-next h = rw (add-one, offset-suc, sound .names-end h)
@@ -105,9 +111,9 @@ module _ (s : List ℕ) (p : Place) (sound : Sound s p) (fits : nextAt s (p .at)
       let q : nextAt s (p .at) - (p .at + 3) ≡ lengthAt s (p .at) = omega arith in
       rw q at (body-at s (p .at))
 
-  named-sound : p .stage ≤ 1 → p .names < 64 → Sound s (namePlace p (nextAt s (p .at)) (lengthAt s (p .at)))
+  name-sound : p .stage ≤ 1 → p .names < 64 → Sound s (namePlace p (nextAt s (p .at)) (lengthAt s (p .at)))
   unfolding offsetAt
-  named-sound h few =
+  name-sound h few =
       record {
         within = fits;
         few-names = omega arith;
@@ -120,23 +126,23 @@ module _ (s : List ℕ) (p : Place) (sound : Sound s p) (fits : nextAt s (p .at)
         no-items = λ _. refl;
       }
 
-  pub named-grows : p .stage ≤ 1 → nameFault (fileOf s p) (bodyAt s (p .at)) ≡ 0
+  name-grows : p .stage ≤ 1 → nameFault (fileOf s p) (bodyAt s (p .at)) ≡ 0
       → Grown s p (nameFault (fileOf s p) (bodyAt s (p .at))) (withField (fileOf s p) 1 (bodyAt s (p .at)))
       (namePlace p (nextAt s (p .at)) (lengthAt s (p .at)))
   unfolding withField fieldsAt
-  named-grows h e =
+  name-grows h e =
       record {
         no-fault = e;
-        sound = named-sound h (omega (arith, names-left (fileOf s p) (bodyAt s (p .at)) e, length-fields s 0 (p .names)));
+        sound = name-sound h (omega (arith, names-left (fileOf s p) (bodyAt s (p .at)) e, length-fields s 0 (p .names)));
         file-is = rw (names-more h, no-items-yet (omega arith));
         after = refl;
       }
 
-  pub classed-grows : p .stage ≤ 2 → classFault (bodyAt s (p .at)) ≡ 0
+  class-grows : p .stage ≤ 2 → classFault (bodyAt s (p .at)) ≡ 0
       → Grown s p (classFault (bodyAt s (p .at))) (withField (fileOf s p) 2 (bodyAt s (p .at)))
       (classPlace p (nextAt s (p .at)) (bodyAt s (p .at)))
   unfolding withField fieldsAt offsetAt
-  classed-grows h e =
+  class-grows h e =
       record {
         no-fault = e;
         sound =
@@ -175,11 +181,11 @@ module _ (s : List ℕ) (p : Place) (sound : Sound s p) (fits : nextAt s (p .at)
         no-items = λ (g : 3 ≤ 2). let z : ⊥ = omega arith in absurd z;
       }
 
-  pub rowed-grows : rowFault (fileOf s p) (bodyAt s (p .at)) ≡ 0
+  row-grows : rowFault (fileOf s p) (bodyAt s (p .at)) ≡ 0
       → Grown s p (rowFault (fileOf s p) (bodyAt s (p .at))) (withField (fileOf s p) 3 (bodyAt s (p .at)))
       (withItem p (nextAt s (p .at)))
   unfolding withField
-  rowed-grows e =
+  row-grows e =
       record {
         no-fault = e;
         sound = item-sound (omega (arith, rows-left (fileOf s p) (bodyAt s (p .at)) e, length-fields s (p .start) (p .items)));
@@ -187,11 +193,11 @@ module _ (s : List ℕ) (p : Place) (sound : Sound s p) (fits : nextAt s (p .at)
         after = refl;
       }
 
-  pub stated-grows : stateFault (fileOf s p) (bodyAt s (p .at)) ≡ 0
+  state-grows : stateFault (fileOf s p) (bodyAt s (p .at)) ≡ 0
       → Grown s p (stateFault (fileOf s p) (bodyAt s (p .at))) (withField (fileOf s p) 4 (bodyAt s (p .at)))
       (withItem p (nextAt s (p .at)))
   unfolding withField
-  stated-grows e =
+  state-grows e =
       record {
         no-fault = e;
         sound = item-sound (omega (arith, states-left (fileOf s p) (bodyAt s (p .at)) e, length-fields s (p .start) (p .items)));
@@ -199,46 +205,73 @@ module _ (s : List ℕ) (p : Place) (sound : Sound s p) (fits : nextAt s (p .at)
         after = refl;
       }
 
-  -- the functions that judge a field were handed what the place stands for, so that their fault is that of its file
-  pub named-fault : (name : List ℕ) (fault : ℕ) → name ≡ bodyAt s (p .at)
-      → NameJudged (take (p .last + p .width - p .last) (drop (p .last) s)) (p .names) name fault
-      → nameFault (fileOf s p) (bodyAt s (p .at)) ≡ fault
-  named-fault name fault e j =
-      let q : p .last + p .width - p .last ≡ p .width = omega arith in
-      let last-same : lastOr [] (fieldsAt s 0 (p .names)) ≡ take (p .last + p .width - p .last) (drop (p .last) s) = rw q (sound .last-is) in
-      subst (λ (b : List ℕ). nameFault (fileOf s p) b ≡ fault) e (j .is (fileOf s p) last-same (length-fields s 0 (p .names)))
-
-  pub rowed-fault : (row : List ℕ) (fault : ℕ) → row ≡ bodyAt s (p .at) → RowJudged (p .names) (p .items) row fault
-      → rowFault (fileOf s p) (bodyAt s (p .at)) ≡ fault
-  rowed-fault row fault e j =
-      subst (λ (b : List ℕ). rowFault (fileOf s p) b ≡ fault) e
-      (j .is (fileOf s p) (length-fields s 0 (p .names)) (length-fields s (p .start) (p .items)))
-
-  pub stated-fault : (state : List ℕ) (fault : ℕ) → state ≡ bodyAt s (p .at) → StateJudged (p .names) (p .items) state fault
-      → stateFault (fileOf s p) (bodyAt s (p .at)) ≡ fault
-  stated-fault state fault e j =
-      subst (λ (b : List ℕ). stateFault (fileOf s p) b ≡ fault) e
-      (j .is (fileOf s p) (length-fields s 0 (p .names)) (length-fields s (p .start) (p .items)))
-
-  -- the same growth for the values that the code has at hand
-  pub named-goes : (name : List ℕ) (next : ℕ) → p .stage ≤ 1 → nameFault (fileOf s p) (bodyAt s (p .at)) ≡ 0
-      → name ≡ bodyAt s (p .at) → next ≡ nextAt s (p .at)
-      → Grown s p (nameFault (fileOf s p) (bodyAt s (p .at))) (withField (fileOf s p) 1 (bodyAt s (p .at))) (namePlace p next (length name))
-  named-goes name next h e n m = rw (m, n, length-body s (p .at) fits) (named-grows h e)
-
-  pub classed-goes : (class : List ℕ) (next : ℕ) → p .stage ≤ 2 → classFault (bodyAt s (p .at)) ≡ 0 → class ≡ bodyAt s (p .at)
-      → next ≡ nextAt s (p .at)
-      → Grown s p (classFault (bodyAt s (p .at))) (withField (fileOf s p) 2 (bodyAt s (p .at))) (classPlace p next class)
-  classed-goes class next h e n m = rw (m, n) (classed-grows h e)
-
-  pub rowed-goes : (q : Place) (next : ℕ) → rowFault (fileOf s p) (bodyAt s (p .at)) ≡ 0 → q ≡ withItem p next → next ≡ nextAt s (p .at)
-      → Grown s p (rowFault (fileOf s p) (bodyAt s (p .at))) (withField (fileOf s p) 3 (bodyAt s (p .at))) q
-  rowed-goes q next e n m = rw (n, m) (rowed-grows e)
-
-  pub stated-goes : (q : Place) (next : ℕ) → stateFault (fileOf s p) (bodyAt s (p .at)) ≡ 0 → q ≡ withItem p next
-      → next ≡ nextAt s (p .at)
-      → Grown s p (stateFault (fileOf s p) (bodyAt s (p .at))) (withField (fileOf s p) 4 (bodyAt s (p .at))) q
-  stated-goes q next e n m = rw (n, m) (stated-grows e)
-
-pub faulty : (fault number : ℕ) → fault ≡ number → (number ≡ 0 → ⊥) → Faulty fault number
+-- a fault that is not 0 is a refusal
+faulty : (fault number : ℕ) → fault ≡ number → (number ≡ 0 → ⊥) → Faulty fault number
 faulty fault number e n = record { is = e; some = omega arith }
+
+-- What the code has at hand after judging a field: the field's bytes, its fault, where the next field begins. Of a name:
+module _ (s : List ℕ) (p : Place) (whole : Whole s p) (name : List ℕ) (fault : ℕ) (bytes : name ≡ bodyAt s (p .at))
+    (judged : NameJudged (take (p .last + p .width - p .last) (drop (p .last) s)) (p .names) name fault) where
+  name-fault-is : nameFault (fileOf s p) (bodyAt s (p .at)) ≡ fault
+  name-fault-is =
+      let q : p .last + p .width - p .last ≡ p .width = omega arith in
+      let last : lastOr [] (fieldsAt s 0 (p .names)) ≡ take (p .last + p .width - p .last) (drop (p .last) s) = rw q (whole .sound .last-is) in
+      subst (λ (b : List ℕ). nameFault (fileOf s p) b ≡ fault) bytes (judged .is (fileOf s p) last (length-fields s 0 (p .names)))
+
+  pub name-refused : (fault ≡ 0 → ⊥) → Faulty (nameFault (fileOf s p) (bodyAt s (p .at))) fault
+  name-refused n = faulty (nameFault (fileOf s p) (bodyAt s (p .at))) fault name-fault-is n
+
+  pub name-goes : (next : ℕ) → next ≡ nextAt s (p .at) → p .stage ≤ 1 → fault ≡ 0
+      → Grown s p (nameFault (fileOf s p) (bodyAt s (p .at))) (withField (fileOf s p) 1 (bodyAt s (p .at))) (namePlace p next (length name))
+  name-goes next n h e = rw (n, bytes, length-body s (p .at) (whole .fits)) (name-grows s p whole h (name-fault-is ∙ e))
+
+-- of a class:
+module _ (s : List ℕ) (p : Place) (whole : Whole s p) (class : List ℕ) (fault : ℕ) (bytes : class ≡ bodyAt s (p .at))
+    (judged : fault ≡ classFault class) where
+  class-fault-is : classFault (bodyAt s (p .at)) ≡ fault
+  class-fault-is = rw bytes at (sym judged)
+
+  pub class-refused : (fault ≡ 0 → ⊥) → Faulty (classFault (bodyAt s (p .at))) fault
+  class-refused n = faulty (classFault (bodyAt s (p .at))) fault class-fault-is n
+
+  pub class-goes : (next : ℕ) → next ≡ nextAt s (p .at) → p .stage ≤ 2 → fault ≡ 0
+      → Grown s p (classFault (bodyAt s (p .at))) (withField (fileOf s p) 2 (bodyAt s (p .at))) (classPlace p next class)
+  class-goes next n h e = rw (n, bytes) (class-grows s p whole h (class-fault-is ∙ e))
+
+-- of a row:
+module _ (s : List ℕ) (p : Place) (whole : Whole s p) (row : List ℕ) (fault : ℕ) (bytes : row ≡ bodyAt s (p .at))
+    (judged : RowJudged (p .names) (p .items) row fault) where
+  row-fault-is : rowFault (fileOf s p) (bodyAt s (p .at)) ≡ fault
+  row-fault-is =
+      subst (λ (b : List ℕ). rowFault (fileOf s p) b ≡ fault) bytes
+      (judged .is (fileOf s p) (length-fields s 0 (p .names)) (length-fields s (p .start) (p .items)))
+
+  pub row-refused : (fault ≡ 0 → ⊥) → Faulty (rowFault (fileOf s p) (bodyAt s (p .at))) fault
+  row-refused n = faulty (rowFault (fileOf s p) (bodyAt s (p .at))) fault row-fault-is n
+
+  pub row-fewer : fault ≡ 0 → p .items < 512
+  row-fewer e =
+      omega (arith, rows-left (fileOf s p) (bodyAt s (p .at)) (row-fault-is ∙ e), length-fields s (p .start) (p .items))
+
+  pub row-goes : (q : Place) (next : ℕ) → q ≡ withItem p next → next ≡ nextAt s (p .at) → fault ≡ 0
+      → Grown s p (rowFault (fileOf s p) (bodyAt s (p .at))) (withField (fileOf s p) 3 (bodyAt s (p .at))) q
+  row-goes q next m n e = rw (m, n) (row-grows s p whole (row-fault-is ∙ e))
+
+-- of a state:
+module _ (s : List ℕ) (p : Place) (whole : Whole s p) (state : List ℕ) (fault : ℕ) (bytes : state ≡ bodyAt s (p .at))
+    (judged : StateJudged (p .names) (p .items) state fault) where
+  state-fault-is : stateFault (fileOf s p) (bodyAt s (p .at)) ≡ fault
+  state-fault-is =
+      subst (λ (b : List ℕ). stateFault (fileOf s p) b ≡ fault) bytes
+      (judged .is (fileOf s p) (length-fields s 0 (p .names)) (length-fields s (p .start) (p .items)))
+
+  pub state-refused : (fault ≡ 0 → ⊥) → Faulty (stateFault (fileOf s p) (bodyAt s (p .at))) fault
+  state-refused n = faulty (stateFault (fileOf s p) (bodyAt s (p .at))) fault state-fault-is n
+
+  pub state-fewer : fault ≡ 0 → p .items < 512
+  state-fewer e =
+      omega (arith, states-left (fileOf s p) (bodyAt s (p .at)) (state-fault-is ∙ e), length-fields s (p .start) (p .items))
+
+  pub state-goes : (q : Place) (next : ℕ) → q ≡ withItem p next → next ≡ nextAt s (p .at) → fault ≡ 0
+      → Grown s p (stateFault (fileOf s p) (bodyAt s (p .at))) (withField (fileOf s p) 4 (bodyAt s (p .at))) q
+  state-goes q next m n e = rw (m, n) (state-grows s p whole (state-fault-is ∙ e))

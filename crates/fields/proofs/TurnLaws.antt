@@ -11,10 +11,10 @@ use lib.Dec.{eqb, ltb}
 use lib.ListN.{length, getD, take, drop, length-drop, drop-of-length-le}
 use lib.Seq.{getD-drop, drop-drop}
 use Rattle.model.specs.Fields.{FileKind, File, Read, refused, atEnd, fieldFault, withField, runsPast, bodyOf, afterField, statedLength}
-use Rattle.model.specs.Fields.{readFrom, readFields, readWith, accepted-file, default-class}
+use Rattle.model.specs.Fields.{Class, readFrom, readWith}
 use Rattle.model.specs.Lists.{lastOr}
 use Rattle.fields.specs.Offsets.{lengthAt, bodyAt, nextAt, offsetAt, fieldsAt}
-use Rattle.fields.specs.Places.{fileOf, Sound, Judged, Turned, Goes, Refuses, ReadAs}
+use Rattle.fields.specs.Places.{fileOf, Sound, FieldStep, Turned, Goes, Refuses, ReadAs}
 use Rattle.fields.specs.declared.Place.{Place}
 use Rattle.fields.specs.declared.Step.{Step}
 use Rattle.fields.specs.declared.Step.the-variants.{Go, Refused}
@@ -83,7 +83,7 @@ module _ (s : List ℕ) (p : Place) (before-end : p .at < length s) where
   unfolding bodyAt
   fault-left kind fault e = rw mark-left e
 
-  goes : (kind : FileKind) (q : Place) → nextAt s (p .at) ≤ length s → Judged kind s p (Go q) → Goes kind s p q
+  goes : (kind : FileKind) (q : Place) → nextAt s (p .at) ≤ length s → FieldStep kind s p (Go q) → Goes kind s p q
   unfolding bodyAt
   goes kind q h j =
       record {
@@ -95,7 +95,7 @@ module _ (s : List ℕ) (p : Place) (before-end : p .at < length s) where
             ∙ rw (mark-left, after-left, j .file-is, j .after);
       }
 
-  refuses : (kind : FileKind) (k : ℕ) → nextAt s (p .at) ≤ length s → Judged kind s p (Refused k) → Refuses kind s p k
+  refuses : (kind : FileKind) (k : ℕ) → nextAt s (p .at) ≤ length s → FieldStep kind s p (Refused k) → Refuses kind s p k
   refuses kind k h j =
       let n : k ≡ 0 → ⊥ = λ (e : k ≡ 0). omega (arith, j .some, e) in
       record {
@@ -106,36 +106,36 @@ module _ (s : List ℕ) (p : Place) (before-end : p .at < length s) where
       }
 
   -- a whole field: the turn is what judging it found
-  pub turn : (kind : FileKind) (r : Step) → nextAt s (p .at) ≤ length s → Judged kind s p r → Turned kind s p r
+  pub turn : (kind : FileKind) (r : Step) → nextAt s (p .at) ≤ length s → FieldStep kind s p r → Turned kind s p r
   turn kind (Go q) h j = goes kind q h j
   turn kind (Refused k) h j = refuses kind k h j
 
 -- where reading begins
-abbrev pub begin : Place
-begin =
+abbrev pub begin : Class → Place
+begin class =
     record {
       at = 0;
       stage = 0;
       names = 0;
       last = 0;
       width = 0;
-      kind = 0;
-      first = 2;
-      second = 1;
+      kind = class .kind;
+      first = class .first;
+      second = class .second;
       start = 0;
       items = 0;
     }
 
 -- reading the whole file comes to reading on from this place, with fuel for what is left
-pub record Reading (kind : FileKind) (s : List ℕ) (p : Place) : Type 0 where
+pub record Reading (class : Class) (kind : FileKind) (s : List ℕ) (p : Place) : Type 0 where
   pub sound : Sound s p
   pub fuel : ℕ
   pub enough : length s < fuel + p .at
-  pub reads : readFrom fuel kind (fileOf s p) (drop (p .at) s) ≡ readFields kind s
+  pub reads : readFrom fuel kind (fileOf s p) (drop (p .at) s) ≡ readWith class kind s
 
-begin-sound : (s : List ℕ) → Sound s begin
+begin-sound : (class : Class) (s : List ℕ) → Sound s (begin class)
 unfolding offsetAt fieldsAt lastOr
-begin-sound s =
+begin-sound class s =
     record {
       within = omega arith;
       few-names = omega arith;
@@ -148,21 +148,21 @@ begin-sound s =
       no-items = λ _. refl;
     }
 
-pub reading-begins : (kind : FileKind) (s : List ℕ) → Reading kind s begin
+pub reading-begins : (class : Class) (kind : FileKind) (s : List ℕ) → Reading class kind s (begin class)
 unfolding fieldsAt readWith
-reading-begins kind s = record { sound = begin-sound s; fuel = suc (length s); enough = omega arith; reads = refl }
+reading-begins class kind s = record { sound = begin-sound class s; fuel = suc (length s); enough = omega arith; reads = refl }
 
-module _ (kind : FileKind) (s : List ℕ) (p : Place) (reading : Reading kind s p) where
+module _ (class : Class) (kind : FileKind) (s : List ℕ) (p : Place) (reading : Reading class kind s p) where
   -- there is fuel for one turn at least
-  one-turn : (l : ℕ) × (length s < suc l + p .at) × (readFrom (suc l) kind (fileOf s p) (drop (p .at) s) ≡ readFields kind s)
+  one-turn : (l : ℕ) × (length s < suc l + p .at) × (readFrom (suc l) kind (fileOf s p) (drop (p .at) s) ≡ readWith class kind s)
   one-turn = go (reading .fuel) (reading .enough) (reading .reads)
     where
-      go : (f : ℕ) → length s < f + p .at → readFrom f kind (fileOf s p) (drop (p .at) s) ≡ readFields kind s
-          → (l : ℕ) × (length s < suc l + p .at) × (readFrom (suc l) kind (fileOf s p) (drop (p .at) s) ≡ readFields kind s)
+      go : (f : ℕ) → length s < f + p .at → readFrom f kind (fileOf s p) (drop (p .at) s) ≡ readWith class kind s
+          → (l : ℕ) × (length s < suc l + p .at) × (readFrom (suc l) kind (fileOf s p) (drop (p .at) s) ≡ readWith class kind s)
       go zero e r = let z : ⊥ = omega (arith, e, reading .sound .within) in absurd z
       go (suc l) e r = (l, e, r)
 
-  pub reading-goes : (q : Place) → Goes kind s p q → Reading kind s q
+  pub reading-goes : (q : Place) → Goes kind s p q → Reading class kind s q
   reading-goes q g =
       let t = one-turn in
       record {
@@ -172,18 +172,18 @@ module _ (kind : FileKind) (s : List ℕ) (p : Place) (reading : Reading kind s 
         reads = sym (g .reads (t .0)) ∙ t .2;
       }
 
-  pub reading-refused : (k : ℕ) → Refuses kind s p k → ReadAs kind s (answer.Refused k)
+  pub reading-refused : (k : ℕ) → Refuses kind s p k → ReadAs class kind s (answer.Refused k)
   reading-refused k g =
       let t = one-turn in
       record { is = sym (g .reads (t .0)) ∙ t .2; kept = g .some }
 
-  at-end : length s ≤ p .at → atEnd (fileOf s p) ≡ readFields kind s
+  at-end : length s ≤ p .at → atEnd (fileOf s p) ≡ readWith class kind s
   at-end h =
       let t = one-turn in
       sym (read-end (t .0) kind (fileOf s p)) ∙ rw (drop-of-length-le s h) at (t .2)
 
-  pub reading-accepted : length s ≤ p .at → p .stage ≡ 3 → ReadAs kind s (answer.Accepted p)
+  pub reading-accepted : length s ≤ p .at → p .stage ≡ 3 → ReadAs class kind s (answer.Accepted p)
   reading-accepted h e = record { is = rw (eq-eqb (p .stage) 3 e) at (at-end h); kept = reading .sound }
 
-  pub reading-unfinished : length s ≤ p .at → (p .stage ≡ 3 → ⊥) → ReadAs kind s (answer.Refused 4)
+  pub reading-unfinished : length s ≤ p .at → (p .stage ≡ 3 → ⊥) → ReadAs class kind s (answer.Refused 4)
   reading-unfinished h e = record { is = rw (ne-eqb (p .stage) 3 e) at (at-end h); kept = omega arith }

@@ -6,7 +6,8 @@ use Prim.Native.Nat.{ℕ, zero, suc, _+_, _≤_, _<_}
 use lib.ListN.{length, getD, take, drop}
 use Rattle.model.specs.Lists.{lastOr}
 use Rattle.model.specs.Limits.{name-limit, state-limit}
-use Rattle.model.specs.Fields.{File, file, class-of, FileKind, Read, refused, accepted-file, fieldFault, withField, readFrom, readFields}
+use Rattle.model.specs.Fields.{Class, class-of, File, file, FileKind, Read, refused, accepted-file, readFrom, readWith}
+use Rattle.model.specs.Fields.{nameFault, classFault, rowFault, stateFault, fieldFault, withField}
 use Rattle.fields.specs.Offsets.{bodyAt, nextAt, offsetAt, fieldsAt}
 use Rattle.fields.specs.declared.Place.{Place}
 use Rattle.fields.specs.declared.Step.{Step}
@@ -47,6 +48,11 @@ pub record Sound (s : List ℕ) (p : Place) : Type 0 where
   pub items-end : offsetAt s (p .start) (p .items) ≡ p .at
   pub no-items : p .stage ≤ 2 → p .items ≡ 0
 
+-- a sound place whose next field does not run past the end
+pub record Whole (s : List ℕ) (p : Place) : Type 0 where
+  pub sound : Sound s p
+  pub fits : nextAt s (p .at) ≤ length s
+
 -- a field judged: nothing refuses it, and the new place stands for the file with that field; or this is its refusal
 pub record Grown (s : List ℕ) (p : Place) (fault : ℕ) (grown : File) (q : Place) : Type 0 where
   pub no-fault : fault ≡ 0
@@ -54,7 +60,7 @@ pub record Grown (s : List ℕ) (p : Place) (fault : ℕ) (grown : File) (q : Pl
   pub file-is : fileOf s q ≡ grown
   pub after : q .at ≡ nextAt s (p .at)
 
-pub record Faulty (fault : ℕ) (number : ℕ) : Type 0 where
+pub record Faulty (fault number : ℕ) : Type 0 where
   pub is : fault ≡ number
   pub some : 0 < number
 
@@ -62,9 +68,25 @@ abbrev pub Stepped : List ℕ → Place → ℕ → File → Step → Type 0
 Stepped s p fault grown (step.Go q) = Grown s p fault grown q
 Stepped s p fault grown (step.Refused k) = Faulty fault k
 
--- the field at a place, judged with its mark
-abbrev pub Judged : FileKind → List ℕ → Place → Step → Type 0
-Judged kind s p r =
+-- the field at a place, judged as a name, a class, a row or a state
+abbrev pub NameStep : List ℕ → Place → Step → Type 0
+NameStep s p r =
+    Stepped s p (nameFault (fileOf s p) (bodyAt s (p .at))) (withField (fileOf s p) 1 (bodyAt s (p .at))) r
+
+abbrev pub ClassStep : List ℕ → Place → Step → Type 0
+ClassStep s p r = Stepped s p (classFault (bodyAt s (p .at))) (withField (fileOf s p) 2 (bodyAt s (p .at))) r
+
+abbrev pub RowStep : List ℕ → Place → Step → Type 0
+RowStep s p r =
+    Stepped s p (rowFault (fileOf s p) (bodyAt s (p .at))) (withField (fileOf s p) 3 (bodyAt s (p .at))) r
+
+abbrev pub StateStep : List ℕ → Place → Step → Type 0
+StateStep s p r =
+    Stepped s p (stateFault (fileOf s p) (bodyAt s (p .at))) (withField (fileOf s p) 4 (bodyAt s (p .at))) r
+
+-- the field at a place, judged by its mark
+abbrev pub FieldStep : FileKind → List ℕ → Place → Step → Type 0
+FieldStep kind s p r =
     let mark = getD s (p .at) 0 in
     let body = bodyAt s (p .at) in
     Stepped s p (fieldFault kind (fileOf s p) mark body) (withField (fileOf s p) mark body) r
@@ -93,7 +115,8 @@ abbrev pub Kept : List ℕ → Fields → Type 0
 Kept s (fields.Accepted p) = Sound s p
 Kept s (fields.Refused k) = 0 < k
 
--- a file read: the answer is what the definition gives
-pub record ReadAs (kind : FileKind) (s : List ℕ) (answer : Fields) : Type 0 where
-  pub is : answerOf s answer ≡ readFields kind s
+-- a file read: the answer is what the definition gives, for a book that names no class with this one; at default-class the
+-- definition is readFields
+pub record ReadAs (class : Class) (kind : FileKind) (s : List ℕ) (answer : Fields) : Type 0 where
+  pub is : answerOf s answer ≡ readWith class kind s
   pub kept : Kept s answer

@@ -16,6 +16,24 @@ pub const STATE_LIMIT: usize = 512;
 // k of a context and j of last names are at most this.
 pub const SETTING_LIMIT: u8 = 8;
 
+// The marks of fields.
+pub const NAME_MARK: u8 = 1;
+
+pub const CLASS_MARK: u8 = 2;
+
+pub const ROW_MARK: u8 = 3;
+
+pub const STATE_MARK: u8 = 4;
+
+// The places in the order of fields.
+pub const NAME_DUE: u8 = 0;
+
+pub const NAMES_MET: u8 = 1;
+
+pub const CLASS_MET: u8 = 2;
+
+pub const ITEMS_MET: u8 = 3;
+
 // The refusals of a file's fields.
 pub const CUT_OFF: u8 = 2;
 
