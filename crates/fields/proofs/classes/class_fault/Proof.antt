@@ -10,7 +10,9 @@ use Rattle.fields.proofs.classes.class_fault.Tie as tie
 
 returns : tie.Need-returns
 unfolding classFault
-returns c = rw (classFault, ne-eqb (length (c .before .before .args .body .now)) 3 (c .if1 .taken))
+returns c =
+    let size = length (c .before .before .args .body .now) in
+    rw (classFault, ne-eqb size 3 (c .if1 .taken))
 
 shared-slice-read-settings-ok : tie.Need-shared-slice-read-settings-ok
 shared-slice-read-settings-ok c = search needs
@@ -26,11 +28,17 @@ settings-ok-requires c κs = search needs
 
 returns-2 : tie.Need-returns-2
 unfolding classFault
-returns-2 c = let e = not-true (c .before .settings-ok .result) (c .if2 .taken) in rw (classFault, eq-eqb (length (c .before .before .before .before .before .before .before .args .body .now)) 3 (omega arith), ← c .before .settings-ok .ensures, e)
+returns-2 c =
+    let size = length (c .before .before .before .before .before .before .before .args .body .now) in
+    let test = not-true (c .before .settings-ok .result) (c .if2 .taken) in
+    rw (classFault, eq-eqb size 3 (omega arith), ← c .before .settings-ok .ensures, test)
 
 returns-3 : tie.Need-returns-3
 unfolding classFault
-returns-3 c = let e = not-false (c .before .settings-ok .result) (c .if2 .left) in rw (classFault, eq-eqb (length (c .before .before .before .before .before .before .before .args .body .now)) 3 (omega arith), ← c .before .settings-ok .ensures, e)
+returns-3 c =
+    let size = length (c .before .before .before .before .before .before .before .args .body .now) in
+    let test = not-false (c .before .settings-ok .result) (c .if2 .left) in
+    rw (classFault, eq-eqb size 3 (omega arith), ← c .before .settings-ok .ensures, test)
 
 pub class-fault-spec : {M : Type 1} → statement M
 class-fault-spec =

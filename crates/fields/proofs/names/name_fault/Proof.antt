@@ -11,19 +11,34 @@ name-ok-requires : tie.Need-name-ok-requires
 name-ok-requires c κs = search needs
 
 returns : tie.Need-returns
-returns c = let e = not-true (c .before .name-ok .result) (c .if1 .taken) in name-bad (c .before .before .before .before .args .last .now) (c .before .before .before .before .args .count) (c .before .before .before .before .args .name .now) (cc)
+returns c =
+    let at = c .before .before .before .before .args in
+    let bad = not-true (c .before .name-ok .result) (c .if1 .taken) in
+    name-bad (at .last .now) (at .count) (at .name .now) (cc)
 
 sorts-before-requires : tie.Need-sorts-before-requires
 sorts-before-requires c κs = search needs
 
 returns-2 : tie.Need-returns-2
-returns-2 c = let e = not-false (c .before .before .before .name-ok .result) (c .before .before .if1 .left) in let g = not-true (c .before .sorts-before .result) (c .if2 .taken) in name-unordered (c .before .before .before .before .before .before .args .last .now) (c .before .before .before .before .before .before .args .count) (c .before .before .before .before .before .before .args .name .now) (cc) (cc)
+returns-2 c =
+    let at = c .before .before .before .before .before .before .args in
+    let good = not-false (c .before .before .before .name-ok .result) (c .before .before .if1 .left) in
+    let below = not-true (c .before .sorts-before .result) (c .if2 .taken) in
+    name-unordered (at .last .now) (at .count) (at .name .now) (cc) (cc)
 
 returns-3 : tie.Need-returns-3
-returns-3 c = let e = not-false (c .before .before .before .before .name-ok .result) (c .before .before .before .if1 .left) in let g = not-false (c .before .before .sorts-before .result) (c .before .if2 .left) in name-too-many (c .before .before .before .before .before .before .before .args .last .now) (c .before .before .before .before .before .before .before .args .count) (c .before .before .before .before .before .before .before .args .name .now) (cc) (cc) (omega arith)
+returns-3 c =
+    let at = c .before .before .before .before .before .before .before .args in
+    let good = not-false (c .before .before .before .before .name-ok .result) (c .before .before .before .if1 .left) in
+    let above = not-false (c .before .before .sorts-before .result) (c .before .if2 .left) in
+    name-too-many (at .last .now) (at .count) (at .name .now) (cc) (cc) (omega arith)
 
 returns-4 : tie.Need-returns-4
-returns-4 c = let e = not-false (c .before .before .before .before .name-ok .result) (c .before .before .before .if1 .left) in let g = not-false (c .before .before .sorts-before .result) (c .before .if2 .left) in name-good (c .before .before .before .before .before .before .before .args .last .now) (c .before .before .before .before .before .before .before .args .count) (c .before .before .before .before .before .before .before .args .name .now) (cc) (cc) (omega arith)
+returns-4 c =
+    let at = c .before .before .before .before .before .before .before .args in
+    let good = not-false (c .before .before .before .before .name-ok .result) (c .before .before .before .if1 .left) in
+    let above = not-false (c .before .before .sorts-before .result) (c .before .if2 .left) in
+    name-good (at .last .now) (at .count) (at .name .now) (cc) (cc) (omega arith)
 
 pub name-fault-spec : {M : Type 1} → statement M
 name-fault-spec =

@@ -19,10 +19,14 @@ abbrev μ-loop : tie.MeasureT-loop
 μ-loop name i₀ i = length name - i
 
 returns : tie.Need-returns Inv-loop μ-loop
-returns c = sym (name-empty (c .before .before .args .name .now) (omega arith))
+returns c =
+    let name = c .before .before .args .name .now in
+    sym (name-empty name (omega arith))
 
 returns-2 : tie.Need-returns-2 Inv-loop μ-loop
-returns-2 c = sym (name-long (c .before .before .before .args .name .now) (omega arith))
+returns-2 c =
+    let name = c .before .before .before .args .name .now in
+    sym (name-long name (omega arith))
 
 shared-slice-read-starts-name : tie.Need-shared-slice-read-starts-name Inv-loop μ-loop
 shared-slice-read-starts-name c = omega arith
@@ -31,10 +35,16 @@ starts-name-requires : tie.Need-starts-name-requires Inv-loop μ-loop
 starts-name-requires c κs = search needs
 
 returns-3 : tie.Need-returns-3 Inv-loop μ-loop
-returns-3 c = let e = not-true (c .before .starts-name .result) (c .if3 .taken) in cc (name-start (c .before .before .before .before .before .before .args .name .now) (cc))
+returns-3 c =
+    let name = c .before .before .before .before .before .before .args .name .now in
+    let test = not-true (c .before .starts-name .result) (c .if3 .taken) in
+    sym (name-start name (cc))
 
 loop-holds : tie.Need-loop-holds Inv-loop μ-loop
-loop-holds c = let e = not-false (c .before .starts-name .result) (c .if3 .left) in (omega arith, name-rest (c .before .before .before .before .before .before .args .name .now) (omega arith) (omega arith) (cc))
+loop-holds c =
+    let name = c .before .before .before .before .before .before .args .name .now in
+    let test = not-false (c .before .starts-name .result) (c .if3 .left) in
+    (omega arith, name-rest name (omega arith) (omega arith) (cc))
 
 shared-slice-read-continues-name : tie.Need-shared-slice-read-continues-name Inv-loop μ-loop
 shared-slice-read-continues-name c = omega arith
@@ -43,7 +53,11 @@ continues-name-requires : tie.Need-continues-name-requires Inv-loop μ-loop
 continues-name-requires c κs = search needs
 
 returns-4 : tie.Need-returns-4 Inv-loop μ-loop
-returns-4 c = let e = not-true (c .before .continues-name .result) (c .if4 .taken) in cc (all-stop continuesName (c .before .before .before .before .before .before .before .before .before .before .before .args .name .now) (c .before .before .before .before .loop .i) (omega arith) (cc))
+returns-4 c =
+    let name = c .before .before .before .before .before .before .before .before .before .before .before .args .name .now in
+    let i = c .before .before .before .before .loop .i in
+    let test = not-true (c .before .continues-name .result) (c .if4 .taken) in
+    cc (all-stop continuesName name i (omega arith) (cc))
 
 add-i : tie.Need-add-i Inv-loop μ-loop
 add-i c = omega arith
@@ -52,10 +66,17 @@ loop-less : tie.Need-loop-less Inv-loop μ-loop
 loop-less c = omega arith
 
 loop-again : tie.Need-loop-again Inv-loop μ-loop
-loop-again c = let e = not-false (c .before .continues-name .result) (c .if4 .left) in (omega arith, cc (all-go continuesName (c .before .before .before .before .before .before .before .before .before .before .before .args .name .now) (c .before .before .before .before .loop .i) (omega arith) (cc)))
+loop-again c =
+    let name = c .before .before .before .before .before .before .before .before .before .before .before .args .name .now in
+    let i = c .before .before .before .before .loop .i in
+    let test = not-false (c .before .continues-name .result) (c .if4 .left) in
+    (omega arith, cc (all-go continuesName name i (omega arith) (cc)))
 
 returns-5 : tie.Need-returns-5 Inv-loop μ-loop
-returns-5 c = cc (all-end continuesName (c .before .before .before .before .before .before .before .before .args .name .now) (c .before .loop .i) (omega arith))
+returns-5 c =
+    let name = c .before .before .before .before .before .before .before .before .args .name .now in
+    let i = c .before .loop .i in
+    cc (all-end continuesName name i (omega arith))
 
 pub name-ok-spec : {M : Type 1} → statement M
 name-ok-spec =

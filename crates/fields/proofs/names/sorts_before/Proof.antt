@@ -18,7 +18,10 @@ loop-holds : tie.Need-loop-holds Inv-loop μ-loop
 loop-holds c = (omega arith, refl)
 
 returns : tie.Need-returns Inv-loop μ-loop
-returns c = cc (before-short (c .before .before .before .args .a .now) (c .before .before .before .args .b .now) (c .before .before .loop .i) (omega arith) (omega arith))
+returns c =
+    let at = c .before .before .before .args in
+    let i = c .before .before .loop .i in
+    cc (before-short (at .a .now) (at .b .now) i (omega arith) (omega arith))
 
 shared-slice-read-x : tie.Need-shared-slice-read-x Inv-loop μ-loop
 shared-slice-read-x c = omega arith
@@ -27,10 +30,16 @@ shared-slice-read-y : tie.Need-shared-slice-read-y Inv-loop μ-loop
 shared-slice-read-y c = omega arith
 
 returns-2 : tie.Need-returns-2 Inv-loop μ-loop
-returns-2 c = cc (before-less (c .before .before .before .before .before .before .args .a .now) (c .before .before .before .before .before .before .args .b .now) (c .before .before .before .before .before .loop .i) (omega arith) (omega arith) (omega arith))
+returns-2 c =
+    let at = c .before .before .before .before .before .before .args in
+    let i = c .before .before .before .before .before .loop .i in
+    cc (before-less (at .a .now) (at .b .now) i (omega arith) (omega arith) (omega arith))
 
 returns-3 : tie.Need-returns-3 Inv-loop μ-loop
-returns-3 c = cc (before-more (c .before .before .before .before .before .before .before .args .a .now) (c .before .before .before .before .before .before .before .args .b .now) (c .before .before .before .before .before .before .loop .i) (omega arith) (omega arith) (omega arith))
+returns-3 c =
+    let at = c .before .before .before .before .before .before .before .args in
+    let i = c .before .before .before .before .before .before .loop .i in
+    cc (before-more (at .a .now) (at .b .now) i (omega arith) (omega arith) (omega arith))
 
 add-i : tie.Need-add-i Inv-loop μ-loop
 add-i c = omega arith
@@ -39,10 +48,16 @@ loop-less : tie.Need-loop-less Inv-loop μ-loop
 loop-less c = omega arith
 
 loop-again : tie.Need-loop-again Inv-loop μ-loop
-loop-again c = (omega arith, cc (before-go (c .before .before .before .before .before .before .before .args .a .now) (c .before .before .before .before .before .before .before .args .b .now) (c .before .before .before .before .before .before .loop .i) (omega arith) (omega arith) (omega arith) (omega arith)))
+loop-again c =
+    let at = c .before .before .before .before .before .before .before .args in
+    let i = c .before .before .before .before .before .before .loop .i in
+    (omega arith, cc (before-go (at .a .now) (at .b .now) i (omega arith) (omega arith) (omega arith) (omega arith)))
 
 returns-4 : tie.Need-returns-4 Inv-loop μ-loop
-returns-4 c = cc (before-end (c .before .before .args .a .now) (c .before .before .args .b .now) (c .before .loop .i) (omega arith))
+returns-4 c =
+    let at = c .before .before .args in
+    let i = c .before .loop .i in
+    cc (before-end (at .a .now) (at .b .now) i (omega arith))
 
 pub sorts-before-spec : {M : Type 1} → statement M
 sorts-before-spec =

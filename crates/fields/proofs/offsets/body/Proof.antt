@@ -23,7 +23,9 @@ part-result-end : tie.Need-part-result-end
 part-result-end c = search needs
 
 returns : tie.Need-returns
-returns c = rw (c .before .next-field .ensures) (sym (body-at (c .before .before .before .args .s .now) (c .before .before .before .args .at)))
+returns c =
+    let at = c .before .before .before .args in
+    rw (c .before .next-field .ensures) (sym (body-at (at .s .now) (at .at)))
 
 pub body-spec : {M : Type 1} → statement M
 body-spec =

@@ -31,7 +31,9 @@ add-result : tie.Need-add-result
 add-result c = omega arith
 
 returns : tie.Need-returns
-returns c = cc (length-at (c .before .before .before .before .before .args .s .now) (c .before .before .before .before .before .args .at))
+returns c =
+    let at = c .before .before .before .before .before .args in
+    cc (length-at (at .s .now) (at .at))
 
 pub body-len-spec : {M : Type 1} → statement M
 body-len-spec =

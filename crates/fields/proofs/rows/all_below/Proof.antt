@@ -21,7 +21,10 @@ shared-slice-read-if1 : tie.Need-shared-slice-read-if1 Inv-loop μ-loop
 shared-slice-read-if1 c = omega arith
 
 returns : tie.Need-returns Inv-loop μ-loop
-returns c = cc (below-stop (c .before .before .before .before .args .names) (c .before .before .before .before .args .row .now) (c .before .before .before .loop .i) (omega arith) (omega arith))
+returns c =
+    let at = c .before .before .before .before .args in
+    let i = c .before .before .before .loop .i in
+    cc (below-stop (at .names) (at .row .now) i (omega arith) (omega arith))
 
 add-i : tie.Need-add-i Inv-loop μ-loop
 add-i c = omega arith
@@ -30,10 +33,16 @@ loop-less : tie.Need-loop-less Inv-loop μ-loop
 loop-less c = omega arith
 
 loop-again : tie.Need-loop-again Inv-loop μ-loop
-loop-again c = (omega arith, cc (below-go (c .before .before .before .before .args .names) (c .before .before .before .before .args .row .now) (c .before .before .before .loop .i) (omega arith) (omega arith)))
+loop-again c =
+    let at = c .before .before .before .before .args in
+    let i = c .before .before .before .loop .i in
+    (omega arith, cc (below-go (at .names) (at .row .now) i (omega arith) (omega arith)))
 
 returns-2 : tie.Need-returns-2 Inv-loop μ-loop
-returns-2 c = cc (below-end (c .before .before .args .names) (c .before .before .args .row .now) (c .before .loop .i) (omega arith))
+returns-2 c =
+    let at = c .before .before .args in
+    let i = c .before .loop .i in
+    cc (below-end (at .names) (at .row .now) i (omega arith))
 
 pub all-below-spec : {M : Type 1} → statement M
 all-below-spec =

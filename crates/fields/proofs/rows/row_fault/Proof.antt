@@ -8,16 +8,24 @@ use Rattle.fields.proofs.rows.row_fault.Statement.{statement}
 use Rattle.fields.proofs.rows.row_fault.Tie as tie
 
 returns : tie.Need-returns
-returns c = row-too-many (c .before .before .args .names) (c .before .before .args .count) (c .before .before .args .row .now) (omega arith)
+returns c =
+    let at = c .before .before .args in
+    row-too-many (at .names) (at .count) (at .row .now) (omega arith)
 
 row-ok-requires : tie.Need-row-ok-requires
 row-ok-requires c κs = search needs
 
 returns-2 : tie.Need-returns-2
-returns-2 c = let e = not-true (c .before .row-ok .result) (c .if2 .taken) in row-bad (c .before .before .before .before .args .names) (c .before .before .before .before .args .count) (c .before .before .before .before .args .row .now) (omega arith) (cc)
+returns-2 c =
+    let at = c .before .before .before .before .args in
+    let bad = not-true (c .before .row-ok .result) (c .if2 .taken) in
+    row-bad (at .names) (at .count) (at .row .now) (omega arith) (cc)
 
 returns-3 : tie.Need-returns-3
-returns-3 c = let e = not-false (c .before .row-ok .result) (c .if2 .left) in row-good (c .before .before .before .before .args .names) (c .before .before .before .before .args .count) (c .before .before .before .before .args .row .now) (omega arith) (cc)
+returns-3 c =
+    let at = c .before .before .before .before .args in
+    let good = not-false (c .before .row-ok .result) (c .if2 .left) in
+    row-good (at .names) (at .count) (at .row .now) (omega arith) (cc)
 
 pub row-fault-spec : {M : Type 1} → statement M
 row-fault-spec = tie.close (tie.spec returns row-ok-requires returns-2 returns-3)

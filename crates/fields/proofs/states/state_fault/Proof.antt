@@ -8,16 +8,24 @@ use Rattle.fields.proofs.states.state_fault.Statement.{statement}
 use Rattle.fields.proofs.states.state_fault.Tie as tie
 
 returns : tie.Need-returns
-returns c = state-too-many (c .before .before .args .names) (c .before .before .args .count) (c .before .before .args .state .now) (omega arith)
+returns c =
+    let at = c .before .before .args in
+    state-too-many (at .names) (at .count) (at .state .now) (omega arith)
 
 state-ok-requires : tie.Need-state-ok-requires
 state-ok-requires c κs = search needs
 
 returns-2 : tie.Need-returns-2
-returns-2 c = let e = not-true (c .before .state-ok .result) (c .if2 .taken) in state-bad (c .before .before .before .before .args .names) (c .before .before .before .before .args .count) (c .before .before .before .before .args .state .now) (omega arith) (cc)
+returns-2 c =
+    let at = c .before .before .before .before .args in
+    let bad = not-true (c .before .state-ok .result) (c .if2 .taken) in
+    state-bad (at .names) (at .count) (at .state .now) (omega arith) (cc)
 
 returns-3 : tie.Need-returns-3
-returns-3 c = let e = not-false (c .before .state-ok .result) (c .if2 .left) in state-good (c .before .before .before .before .args .names) (c .before .before .before .before .args .count) (c .before .before .before .before .args .state .now) (omega arith) (cc)
+returns-3 c =
+    let at = c .before .before .before .before .args in
+    let good = not-false (c .before .state-ok .result) (c .if2 .left) in
+    state-good (at .names) (at .count) (at .state .now) (omega arith) (cc)
 
 pub state-fault-spec : {M : Type 1} → statement M
 state-fault-spec = tie.close (tie.spec returns state-ok-requires returns-2 returns-3)

@@ -16,31 +16,46 @@ abbrev μ-loop : tie.MeasureT-loop
 μ-loop names state next₀ i₀ next i = length state - i
 
 returns : tie.Need-returns Inv-loop μ-loop
-returns c = sym (state-empty (c .before .args .names) (c .before .args .state .now) (omega arith))
+returns c =
+    let at = c .before .args in
+    sym (state-empty (at .names) (at .state .now) (omega arith))
 
 shared-slice-read-if2 : tie.Need-shared-slice-read-if2 Inv-loop μ-loop
 shared-slice-read-if2 c = omega arith
 
 returns-2 : tie.Need-returns-2 Inv-loop μ-loop
-returns-2 c = sym (state-first (c .before .before .before .args .names) (c .before .before .before .args .state .now) (omega arith))
+returns-2 c =
+    let at = c .before .before .before .args in
+    sym (state-first (at .names) (at .state .now) (omega arith))
 
 loop-holds : tie.Need-loop-holds Inv-loop μ-loop
-loop-holds c = (omega arith, arcs-begin (c .before .before .before .args .names) (c .before .before .before .args .state .now) (omega arith) (omega arith))
+loop-holds c =
+    let at = c .before .before .before .args in
+    (omega arith, arcs-begin (at .names) (at .state .now) (omega arith) (omega arith))
 
 sub-if3 : tie.Need-sub-if3 Inv-loop μ-loop
 sub-if3 c = omega arith
 
 returns-3 : tie.Need-returns-3 Inv-loop μ-loop
-returns-3 c = sym (arcs-cut (c .before .before .before .before .before .before .args .names) (c .before .before .before .before .before .before .args .state .now) (c .before .before .loop .next) (c .before .before .loop .i) (omega arith) (omega arith) (c .before .before .loop .inv .1))
+returns-3 c =
+    let at = c .before .before .before .before .before .before .args in
+    let loop = c .before .before .loop in
+    sym (arcs-cut (at .names) (at .state .now) (loop .next) (loop .i) (omega arith) (omega arith) (loop .inv .1))
 
 shared-slice-read-name : tie.Need-shared-slice-read-name Inv-loop μ-loop
 shared-slice-read-name c = omega arith
 
 returns-4 : tie.Need-returns-4 Inv-loop μ-loop
-returns-4 c = sym (arcs-unnamed (c .before .before .before .before .before .before .before .before .args .names) (c .before .before .before .before .before .before .before .before .args .state .now) (c .before .before .before .before .loop .next) (c .before .before .before .before .loop .i) (omega arith) (omega arith) (c .before .before .before .before .loop .inv .1))
+returns-4 c =
+    let at = c .before .before .before .before .before .before .before .before .args in
+    let loop = c .before .before .before .before .loop in
+    sym (arcs-unnamed (at .names) (at .state .now) (loop .next) (loop .i) (omega arith) (omega arith) (loop .inv .1))
 
 returns-5 : tie.Need-returns-5 Inv-loop μ-loop
-returns-5 c = sym (arcs-unordered (c .before .before .before .before .before .before .before .before .before .args .names) (c .before .before .before .before .before .before .before .before .before .args .state .now) (c .before .before .before .before .before .loop .next) (c .before .before .before .before .before .loop .i) (omega arith) (omega arith) (c .before .before .before .before .before .loop .inv .1))
+returns-5 c =
+    let at = c .before .before .before .before .before .before .before .before .before .args in
+    let loop = c .before .before .before .before .before .loop in
+    sym (arcs-unordered (at .names) (at .state .now) (loop .next) (loop .i) (omega arith) (omega arith) (loop .inv .1))
 
 add-next : tie.Need-add-next Inv-loop μ-loop
 add-next c = omega arith
@@ -52,10 +67,16 @@ loop-less : tie.Need-loop-less Inv-loop μ-loop
 loop-less c = omega arith
 
 loop-again : tie.Need-loop-again Inv-loop μ-loop
-loop-again c = (omega arith, arcs-go (c .before .before .before .before .before .before .before .before .before .args .names) (c .before .before .before .before .before .before .before .before .before .args .state .now) (c .before .before .before .before .before .loop .next) (c .before .before .before .before .before .loop .i) (omega arith) (omega arith) (omega arith) (omega arith) (c .before .before .before .before .before .loop .inv .1))
+loop-again c =
+    let at = c .before .before .before .before .before .before .before .before .before .args in
+    let loop = c .before .before .before .before .before .loop in
+    (omega arith, arcs-go (at .names) (at .state .now) (loop .next) (loop .i) (omega arith) (omega arith) (omega arith) (omega arith) (loop .inv .1))
 
 returns-6 : tie.Need-returns-6 Inv-loop μ-loop
-returns-6 c = sym (arcs-end (c .before .before .before .before .before .args .names) (c .before .before .before .before .before .args .state .now) (c .before .loop .next) (c .before .loop .i) (omega arith) (c .before .loop .inv .1))
+returns-6 c =
+    let at = c .before .before .before .before .before .args in
+    let loop = c .before .loop in
+    sym (arcs-end (at .names) (at .state .now) (loop .next) (loop .i) (omega arith) (loop .inv .1))
 
 pub state-ok-spec : {M : Type 1} → statement M
 state-ok-spec =
