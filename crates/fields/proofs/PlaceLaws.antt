@@ -1,6 +1,6 @@
 -- The places of the reader: where nothing refuses a field, the place after it is sound and stands for the file with that field. One
 -- law for each of a name, a class and an item, that is a row or a state. Assumes nothing.
-use mathlib.Core.Path.{_≡_, refl, sym, _∙_, ap, subst}
+use mathlib.Core.Path.{_≡_, refl, sym, _∙_, subst}
 use mathlib.Core.Bool.{Bool, true, false, not, _&&_}
 use mathlib.Core.List.{List, [], _∷_, _++_}
 use Prim.Native.Nat.{ℕ, zero, suc, _+_, _-_, _≤_, _<_}
@@ -11,7 +11,7 @@ use lib.Dec.{leb, eqb}
 use lib.ListN.{length, getD, take, drop}
 use Rattle.model.specs.Lists.{lastOr}
 use Rattle.model.specs.Limits.{when, firstOf}
-use Rattle.model.specs.Fields.{File, nameOk, above, settingsOk, classOk, rowOk, stateOk, nameFault, classFault, rowFault, stateFault, withField}
+use Rattle.model.specs.Fields.{File, nameOk, above, settingsOk, classOk, nameFault, classFault, rowFault, stateFault, withField}
 use Rattle.fields.specs.Offsets.{lengthAt, bodyAt, nextAt, offsetAt, fieldsAt}
 use Rattle.fields.specs.Judged.{NameJudged, RowJudged, StateJudged}
 use Rattle.fields.specs.Places.{fileOf, withItem, Sound, Whole, Grown, Faulty}
@@ -50,7 +50,8 @@ states-left f b e = leb-false 512 (length (f .items)) (no-when (leb 512 (length 
 pub class-bytes : (b : List ℕ) → classFault b ≡ 0 → length b ≡ 3
 unfolding classFault
 class-bytes b e =
-    eqb-true (length b) 3 (and-left (eqb (length b) 3) (settingsOk (getD b 0 0) (getD b 1 0) (getD b 2 0)) (not-false (classOk b) (no-when (not (classOk b)) 7 e)))
+    let good : classOk b ≡ true = not-false (classOk b) (no-when (not (classOk b)) 7 e) in
+    eqb-true (length b) 3 (and-left (eqb (length b) 3) (settingsOk (getD b 0 0) (getD b 1 0) (getD b 2 0)) good)
   where
     and-left : (x y : Bool) → (x && y) ≡ true → x ≡ true
     and-left true y g = refl
@@ -215,14 +216,16 @@ module _ (s : List ℕ) (p : Place) (whole : Whole s p) (name : List ℕ) (fault
   name-fault-is : nameFault (fileOf s p) (bodyAt s (p .at)) ≡ fault
   name-fault-is =
       let q : p .last + p .width - p .last ≡ p .width = omega arith in
-      let last : lastOr [] (fieldsAt s 0 (p .names)) ≡ take (p .last + p .width - p .last) (drop (p .last) s) = rw q (whole .sound .last-is) in
+      let last : lastOr [] (fieldsAt s 0 (p .names)) ≡ take (p .last + p .width - p .last) (drop (p .last) s) =
+      rw q (whole .sound .last-is) in
       subst (λ (b : List ℕ). nameFault (fileOf s p) b ≡ fault) bytes (judged .is (fileOf s p) last (length-fields s 0 (p .names)))
 
   pub name-refused : (fault ≡ 0 → ⊥) → Faulty (nameFault (fileOf s p) (bodyAt s (p .at))) fault
   name-refused n = faulty (nameFault (fileOf s p) (bodyAt s (p .at))) fault name-fault-is n
 
   pub name-goes : (next : ℕ) → next ≡ nextAt s (p .at) → p .stage ≤ 1 → fault ≡ 0
-      → Grown s p (nameFault (fileOf s p) (bodyAt s (p .at))) (withField (fileOf s p) 1 (bodyAt s (p .at))) (namePlace p next (length name))
+      → Grown s p (nameFault (fileOf s p) (bodyAt s (p .at))) (withField (fileOf s p) 1 (bodyAt s (p .at)))
+      (namePlace p next (length name))
   name-goes next n h e = rw (n, bytes, length-body s (p .at) (whole .fits)) (name-grows s p whole h (name-fault-is ∙ e))
 
 -- of a class:

@@ -1,5 +1,5 @@
 -- State fields: the test of their arcs from an offset on, and what refuses a state. Assumes nothing.
-use mathlib.Core.Path.{_≡_, refl, sym, _∙_, ap}
+use mathlib.Core.Path.{_≡_, refl, sym, _∙_}
 use mathlib.Core.Bool.{Bool, true, false, not, _&&_, and-false}
 use mathlib.Core.List.{List, [], _∷_}
 use Prim.Native.Nat.{ℕ, zero, suc, _+_, _-_, _≤_, _<_}
@@ -33,9 +33,14 @@ unfolding stateOk
 arcs-begin n [] g h = let z : ⊥ = omega arith in absurd z
 arcs-begin n (b ∷ s) g h = record { fuel = length s; enough = omega arith; rest = rw (le-leb b 1 h) }
 
--- with an arc at i the fuel is at least 1: the test is that of the arc, then of what comes after it
-arcs-turn : (n : ℕ) (s : List ℕ) (next i f : ℕ) → i < length s → arcsOk (suc f) n next (drop i s)
-    ≡ (leb 2 (length s - suc i) && ((ltb (getD s i 0) n && leb next (getD s i 0)) && arcsOk f n (suc (getD s i 0)) (drop (i + 3) s)))
+-- the test of the arc at i, then of what comes after it
+abbrev ArcTest : ℕ → List ℕ → ℕ → ℕ → ℕ → Bool
+ArcTest n s next i f =
+    let a = getD s i 0 in
+    leb 2 (length s - suc i) && ((ltb a n && leb next a) && arcsOk f n (suc a) (drop (i + 3) s))
+
+-- with an arc at i the fuel is at least 1
+arcs-turn : (n : ℕ) (s : List ℕ) (next i f : ℕ) → i < length s → arcsOk (suc f) n next (drop i s) ≡ ArcTest n s next i f
 unfolding arcsOk
 arcs-turn n s next i f h = rw (drop-cons s i 0 h, arcsOk, length-drop, drop-drop, add-two, add-three)
 
@@ -43,7 +48,7 @@ arcs-turn n s next i f h = rw (drop-cons s i 0 h, arcsOk, length-drop, drop-drop
 record ArcNow (n : ℕ) (s : List ℕ) (next i : ℕ) : Type 0 where
   more : ℕ
   suffices : length s ≤ i + suc more
-  turn : stateOk n s ≡ (leb 2 (length s - suc i) && ((ltb (getD s i 0) n && leb next (getD s i 0)) && arcsOk more n (suc (getD s i 0)) (drop (i + 3) s)))
+  turn : stateOk n s ≡ ArcTest n s next i more
 
 arc-now : (n : ℕ) (s : List ℕ) (next i : ℕ) → i < length s → ArcsLeft n s next i → ArcNow n s next i
 arc-now n s next i h left = go (left .fuel) (left .enough) (left .rest)

@@ -2,17 +2,17 @@
 -- reader say: of one field judged, of one field read, and of a whole file. Assumes nothing.
 use mathlib.Core.Path.{_≡_}
 use mathlib.Core.List.{List, []}
-use Prim.Native.Nat.{ℕ, zero, suc, _+_, _≤_, _<_}
+use Prim.Native.Nat.{ℕ, suc, _+_, _≤_, _<_}
 use lib.ListN.{length, getD, take, drop}
 use Rattle.model.specs.Lists.{lastOr}
 use Rattle.model.specs.Limits.{name-limit, state-limit}
-use Rattle.model.specs.Fields.{Class, class-of, File, file, FileKind, Read, refused, accepted-file, readFrom, readWith}
-use Rattle.model.specs.Fields.{nameFault, classFault, rowFault, stateFault, fieldFault, withField}
+use Rattle.model.specs.Fields.{Class, class-of, File, file, FileKind, Read, refused, accepted-file, readFrom, readWith, nameFault}
+use Rattle.model.specs.Fields.{classFault, rowFault, stateFault, fieldFault, withField}
 use Rattle.fields.specs.Offsets.{bodyAt, nextAt, offsetAt, fieldsAt}
 use Rattle.fields.specs.declared.Place.{Place}
 use Rattle.fields.specs.declared.Step.{Step}
-use Rattle.fields.specs.declared.Step.the-variants as step
 use Rattle.fields.specs.declared.Fields.{Fields}
+use Rattle.fields.specs.declared.Step.the-variants as step
 use Rattle.fields.specs.declared.Fields.the-variants as fields
 
 -- the file that is read at a place: names from the file's first byte on, rows or states from the place's start on

@@ -18,7 +18,8 @@ returns c =
     let start = c .before .before .before .before in
     let bytes = c .before .before .body in
     let fault = c .before .class-fault in
-    class-refused (start .args .s .now) (start .args .p) (start .pre .0) (bytes .result .now) (fault .result) (bytes .ensures) (fault .ensures) (c .if1 .taken)
+    class-refused (start .args .s .now) (start .args .p) (start .pre .0) (bytes .result .now) (fault .result) (bytes .ensures)
+    (fault .ensures) (c .if1 .taken)
 
 next-field-requires : tie.Need-next-field-requires
 next-field-requires c κs = search needs
@@ -50,7 +51,8 @@ returns-2 c =
     let bytes = c .before .before .before .before .before .before .body in
     let fault = c .before .before .before .before .before .class-fault in
     let next = c .before .before .before .next-field in
-    class-goes (start .args .s .now) (start .args .p) (start .pre .0) (bytes .result .now) (fault .result) (bytes .ensures) (fault .ensures)
+    class-goes (start .args .s .now) (start .args .p) (start .pre .0) (bytes .result .now) (fault .result) (bytes .ensures)
+    (fault .ensures)
     (next .result) (next .ensures) (start .pre .1) (c .before .before .before .before .if1 .left)
 
 pub class-field-spec : {M : Type 1} → statement M

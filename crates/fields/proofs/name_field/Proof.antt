@@ -27,7 +27,8 @@ returns c =
     let start = c .before .before .before .before .before .before in
     let bytes = c .before .before .before .body in
     let fault = c .before .name-fault in
-    name-refused (start .args .s .now) (start .args .p) (start .pre .0) (bytes .result .now) (fault .result) (bytes .ensures) (fault .ensures) (c .if1 .taken)
+    name-refused (start .args .s .now) (start .args .p) (start .pre .0) (bytes .result .now) (fault .result) (bytes .ensures)
+    (fault .ensures) (c .if1 .taken)
 
 next-field-requires : tie.Need-next-field-requires
 next-field-requires c κs = search needs
@@ -44,7 +45,8 @@ returns-2 c =
     let bytes = c .before .before .before .before .before .body in
     let fault = c .before .before .before .name-fault in
     let next = c .before .next-field in
-    name-goes (start .args .s .now) (start .args .p) (start .pre .0) (bytes .result .now) (fault .result) (bytes .ensures) (fault .ensures)
+    name-goes (start .args .s .now) (start .args .p) (start .pre .0) (bytes .result .now) (fault .result) (bytes .ensures)
+    (fault .ensures)
     (next .result) (next .ensures) (start .pre .1) (c .before .before .if1 .left)
 
 pub name-field-spec : {M : Type 1} → statement M

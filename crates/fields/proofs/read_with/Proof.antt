@@ -8,7 +8,8 @@ use lib.ListN.{length}
 use Rattle.model.specs.Fields.{class-of}
 use Rattle.fields.specs.Places.{Turned, Goes}
 use Rattle.fields.specs.declared.Step.{Step}
-use Rattle.fields.proofs.TurnLaws.{Reading, reading-begins, reading-goes, reading-refused, reading-accepted, reading-unfinished}
+use Rattle.fields.proofs.TurnLaws.{Reading, reading-begins, reading-goes, reading-refused, reading-accepted}
+use Rattle.fields.proofs.TurnLaws.{reading-unfinished}
 use Rattle.fields.proofs.read_with.Statement.{statement}
 use Rattle.fields.proofs.read_with.Tie as tie
 
@@ -34,7 +35,8 @@ loop-less c =
     let at = c .before .before .before .before .before .before .before .before .args in
     let loop = c .before .before .before .before .before .before .loop in
     let next = c .before .step .given in
-    let goes : Goes (at .is-table) (at .s .now) (loop .p) (next .0 .0) = subst (λ (r : Step). Turned (at .is-table) (at .s .now) (loop .p) r) (next .1) (c .before .before .before .field .ensures) in
+    let goes : Goes (at .is-table) (at .s .now) (loop .p) (next .0 .0) =
+    subst (λ (r : Step). Turned (at .is-table) (at .s .now) (loop .p) r) (next .1) (c .before .before .before .field .ensures) in
     omega (arith, goes .further, goes .sound .within)
 
 loop-again : tie.Need-loop-again Inv-loop μ-loop
@@ -42,7 +44,9 @@ loop-again c =
     let at = c .before .before .before .before .before .before .before .before .args in
     let loop = c .before .before .before .before .before .before .loop in
     let next = c .before .step .given in
-    reading-goes (class-of (at .kind) (at .first) (at .second)) (at .is-table) (at .s .now) (loop .p) (loop .inv) (next .0 .0) (subst (λ (r : Step). Turned (at .is-table) (at .s .now) (loop .p) r) (next .1) (c .before .before .before .field .ensures))
+    let class = class-of (at .kind) (at .first) (at .second) in
+    reading-goes class (at .is-table) (at .s .now) (loop .p) (loop .inv) (next .0 .0)
+    (subst (λ (r : Step). Turned (at .is-table) (at .s .now) (loop .p) r) (next .1) (c .before .before .before .field .ensures))
 
 enum-known-step-2 : tie.Need-enum-known-step-2 Inv-loop μ-loop
 enum-known-step-2 c = search needs
@@ -52,19 +56,23 @@ returns c =
     let at = c .before .before .before .before .before .before .before .before .args in
     let loop = c .before .before .before .before .before .before .loop in
     let next = c .before .step2 .given in
-    reading-refused (class-of (at .kind) (at .first) (at .second)) (at .is-table) (at .s .now) (loop .p) (loop .inv) (next .0 .0) (subst (λ (r : Step). Turned (at .is-table) (at .s .now) (loop .p) r) (next .1) (c .before .before .before .field .ensures))
+    let class = class-of (at .kind) (at .first) (at .second) in
+    reading-refused class (at .is-table) (at .s .now) (loop .p) (loop .inv) (next .0 .0)
+    (subst (λ (r : Step). Turned (at .is-table) (at .s .now) (loop .p) r) (next .1) (c .before .before .before .field .ensures))
 
 returns-2 : tie.Need-returns-2 Inv-loop μ-loop
 returns-2 c =
     let at = c .before .before .before .before .before .before .args in
     let loop = c .before .before .before .before .loop in
-    reading-accepted (class-of (at .kind) (at .first) (at .second)) (at .is-table) (at .s .now) (loop .p) (loop .inv) (omega arith) (omega arith)
+    let class = class-of (at .kind) (at .first) (at .second) in
+    reading-accepted class (at .is-table) (at .s .now) (loop .p) (loop .inv) (omega arith) (omega arith)
 
 returns-3 : tie.Need-returns-3 Inv-loop μ-loop
 returns-3 c =
     let at = c .before .before .before .before .before .before .args in
     let loop = c .before .before .before .before .loop in
-    reading-unfinished (class-of (at .kind) (at .first) (at .second)) (at .is-table) (at .s .now) (loop .p) (loop .inv) (omega arith) (omega arith)
+    let class = class-of (at .kind) (at .first) (at .second) in
+    reading-unfinished class (at .is-table) (at .s .now) (loop .p) (loop .inv) (omega arith) (omega arith)
 
 pub read-with-spec : {M : Type 1} → statement M
 read-with-spec =

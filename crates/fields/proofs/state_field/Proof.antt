@@ -15,7 +15,8 @@ returns c =
     let start = c .before .before .before .before in
     let bytes = c .before .before .body in
     let fault = c .before .state-fault in
-    state-refused (start .args .s .now) (start .args .p) (start .pre) (bytes .result .now) (fault .result) (bytes .ensures) (fault .ensures) (c .if1 .taken)
+    state-refused (start .args .s .now) (start .args .p) (start .pre) (bytes .result .now) (fault .result) (bytes .ensures)
+    (fault .ensures) (c .if1 .taken)
 
 next-field-requires : tie.Need-next-field-requires
 next-field-requires c κs = search needs
@@ -25,7 +26,8 @@ with-item-requires c κs =
     let start = c .before .before .before .before .before in
     let bytes = c .before .before .before .body in
     let fault = c .before .before .state-fault in
-    state-fewer (start .args .s .now) (start .args .p) (start .pre) (bytes .result .now) (fault .result) (bytes .ensures) (fault .ensures) (c .before .if1 .left)
+    state-fewer (start .args .s .now) (start .args .p) (start .pre) (bytes .result .now) (fault .result) (bytes .ensures)
+    (fault .ensures) (c .before .if1 .left)
 
 returns-2 : tie.Need-returns-2
 returns-2 c =

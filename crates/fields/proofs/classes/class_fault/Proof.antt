@@ -1,6 +1,5 @@
 -- `classes::class_fault` meets its contract. Assumes nothing.
 use lib.ListN.{length}
-use mathlib.Core.Path.{_≡_, refl}
 use native.Mathlib.Omega.{arith}
 use borrow.Author.Tests.{not-true, not-false, eq-eqb, ne-eqb}
 use Rattle.model.specs.Fields.{classFault}

@@ -1,5 +1,4 @@
 -- `names::continues_name` meets its contract. Assumes nothing.
-use mathlib.Core.Path.{_≡_, refl}
 use borrow.Author.Needs.{needs}
 use Rattle.fields.proofs.names.continues_name.Statement.{statement}
 use Rattle.fields.proofs.names.continues_name.Tie as tie

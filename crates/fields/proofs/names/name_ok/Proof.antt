@@ -1,6 +1,5 @@
 -- `names::name_ok` meets its contract. The loop's invariant: the bytes from i on pass exactly where the whole name does. Assumes nothing.
-use mathlib.Core.Path.{sym}
-use mathlib.Core.Path.{_≡_, refl}
+use mathlib.Core.Path.{sym, _≡_}
 use Prim.Native.Nat.{_≤_, _-_}
 use native.Mathlib.Omega.{arith}
 use borrow.Author.Needs.{needs}

@@ -1,7 +1,5 @@
 -- `offsets::body` meets its contract. Assumes nothing.
 use mathlib.Core.Path.{sym}
-use mathlib.Core.Path.{_≡_, refl}
-use native.Mathlib.Omega.{arith}
 use Rattle.fields.proofs.OffsetLaws.{body-at}
 use borrow.Author.Needs.{needs}
 use Rattle.fields.proofs.offsets.body.Statement.{statement}

@@ -1,5 +1,4 @@
 -- `offsets::body_len` meets its contract. Assumes nothing.
-use mathlib.Core.Path.{_≡_, refl}
 use native.Mathlib.Omega.{arith}
 use Rattle.fields.proofs.OffsetLaws.{length-at}
 use borrow.Author.Needs.{needs}

@@ -1,5 +1,4 @@
 -- `rows::row_ok` meets its contract. Assumes nothing.
-use mathlib.Core.Path.{_≡_, refl}
 use borrow.Author.Needs.{needs}
 use Rattle.fields.proofs.rows.row_ok.Statement.{statement}
 use Rattle.fields.proofs.rows.row_ok.Tie as tie

@@ -1,5 +1,4 @@
 -- `states::state_fault` meets its contract: one law for each answer. Assumes nothing.
-use mathlib.Core.Path.{_≡_, sym, _∙_}
 use native.Mathlib.Omega.{arith}
 use borrow.Author.Tests.{not-true, not-false}
 use Rattle.fields.proofs.StateLaws.{state-too-many, state-bad, state-good}

@@ -1,11 +1,11 @@
 -- `states::state_ok` meets its contract. The loop's invariant: the arcs from i on decide, the next one's name being `next` or above.
 -- Assumes nothing.
 use mathlib.Core.Path.{sym}
-use mathlib.Core.Path.{_≡_, refl}
 use Prim.Native.Nat.{_≤_, _-_}
 use native.Mathlib.Omega.{arith}
-use lib.ListN.{length, drop}
-use Rattle.fields.proofs.StateLaws.{ArcsLeft, state-empty, state-first, arcs-begin, arcs-cut, arcs-unnamed, arcs-unordered, arcs-go, arcs-end}
+use lib.ListN.{length}
+use Rattle.fields.proofs.StateLaws.{ArcsLeft, state-empty, state-first, arcs-begin, arcs-cut, arcs-unnamed, arcs-unordered}
+use Rattle.fields.proofs.StateLaws.{arcs-go, arcs-end}
 use Rattle.fields.proofs.states.state_ok.Statement.{statement}
 use Rattle.fields.proofs.states.state_ok.Tie as tie
 
@@ -70,7 +70,9 @@ loop-again : tie.Need-loop-again Inv-loop μ-loop
 loop-again c =
     let at = c .before .before .before .before .before .before .before .before .before .args in
     let loop = c .before .before .before .before .before .loop in
-    (omega arith, arcs-go (at .names) (at .state .now) (loop .next) (loop .i) (omega arith) (omega arith) (omega arith) (omega arith) (loop .inv .1))
+    let go =
+    arcs-go (at .names) (at .state .now) (loop .next) (loop .i) (omega arith) (omega arith) (omega arith) (omega arith) (loop .inv .1) in
+    (omega arith, go)
 
 returns-6 : tie.Need-returns-6 Inv-loop μ-loop
 returns-6 c =
