@@ -1,0 +1,80 @@
+-- A field's mark and the place in the order: one law for each arm of the reader's match, and one for what it refuses. Assumes nothing.
+use mathlib.Core.Path.{_≡_, refl, _∙_}
+use mathlib.Core.Bool.{Bool, true, false, not, _&&_, cond}
+use mathlib.Core.List.{List}
+use Prim.Native.Nat.{ℕ, _≤_, _<_}
+use native.Mathlib.Omega.{arith}
+use borrow.Author.Tests.{le-leb, lt-leb, eq-eqb, ne-eqb}
+use lib.Dec.{leb}
+use lib.ListN.{getD}
+use Rattle.model.specs.Fields.{FileKind, File, mayCome, nameFault, classFault, rowFault, stateFault, fieldFault, withField}
+use Rattle.fields.specs.Offsets.{bodyAt}
+use Rattle.fields.specs.Places.{fileOf, Stepped, NameStep, ClassStep, RowStep, StateStep, FieldStep}
+use Rattle.fields.specs.declared.Place.{Place}
+use Rattle.fields.specs.declared.Step.{Step}
+use Rattle.fields.specs.declared.Step.the-variants.{Refused}
+
+-- the definition's choice by the kind of file, as the code's tests
+cond-none : (k : Bool) → cond k false false ≡ false
+cond-none true = refl
+cond-none false = refl
+
+cond-book : (k x : Bool) → cond k false x ≡ (not k && x)
+cond-book true x = refl
+cond-book false x = refl
+
+cond-table : (k x : Bool) → cond k x false ≡ (k && x)
+cond-table true x = refl
+cond-table false x = refl
+
+-- a mark not allowed next is refused with 3
+misplaced-fault : (kind : FileKind) (f : File) (mark : ℕ) (b : List ℕ) → mayCome kind (f .stage) mark ≡ false → fieldFault kind f mark b ≡ 3
+unfolding fieldFault
+misplaced-fault kind f mark b e = rw e
+
+module _ (kind : FileKind) (s : List ℕ) (p : Place) where
+  pub misplaced : mayCome kind (p .stage) (getD s (p .at) 0) ≡ false → FieldStep kind s p (Refused 3)
+  misplaced e =
+      record { is = misplaced-fault kind (fileOf s p) (getD s (p .at) 0) (bodyAt s (p .at)) e; some = omega arith }
+
+  -- what the arm for a mark found is what the mark's field comes to
+  by-mark : (r : Step) (mark fault : ℕ) → getD s (p .at) 0 ≡ mark → fieldFault kind (fileOf s p) mark (bodyAt s (p .at)) ≡ fault
+      → Stepped s p fault (withField (fileOf s p) mark (bodyAt s (p .at))) r → FieldStep kind s p r
+  by-mark r mark fault m e h = rw (m, e) h
+
+  pub name-arm : (r : Step) → getD s (p .at) 0 ≡ 1 → p .stage ≤ 1
+      → NameStep s p r → FieldStep kind s p r
+  unfolding fieldFault
+  name-arm r m h = by-mark r 1 (nameFault (fileOf s p) (bodyAt s (p .at))) m (rw (le-leb (p .stage) 1 h))
+
+  pub class-arm : (r : Step) → getD s (p .at) 0 ≡ 2 → p .stage ≡ 1
+      → ClassStep s p r → FieldStep kind s p r
+  unfolding fieldFault
+  class-arm r m h = by-mark r 2 (classFault (bodyAt s (p .at))) m (rw (eq-eqb (p .stage) 1 h))
+
+  pub row-arm : (r : Step) → getD s (p .at) 0 ≡ 3 → (not kind && leb 1 (p .stage)) ≡ true
+      → RowStep s p r → FieldStep kind s p r
+  unfolding fieldFault
+  row-arm r m h = by-mark r 3 (rowFault (fileOf s p) (bodyAt s (p .at))) m (rw (cond-book kind (leb 1 (p .stage)), h))
+
+  pub state-arm : (r : Step) → getD s (p .at) 0 ≡ 4 → (kind && leb 2 (p .stage)) ≡ true
+      → StateStep s p r → FieldStep kind s p r
+  unfolding fieldFault
+  state-arm r m h = by-mark r 4 (stateFault (fileOf s p) (bodyAt s (p .at))) m (rw (cond-table kind (leb 2 (p .stage)), h))
+
+-- marks that may not come at a stage
+pub no-name : (kind : FileKind) (stage mark : ℕ) → mark ≡ 1 → 1 < stage → mayCome kind stage mark ≡ false
+no-name kind stage mark m h = rw (m, lt-leb stage 1 h) (cond-none kind)
+
+pub no-class : (kind : FileKind) (stage mark : ℕ) → mark ≡ 2 → (stage ≡ 1 → ⊥) → mayCome kind stage mark ≡ false
+no-class kind stage mark m h = rw (m, ne-eqb stage 1 h) (cond-none kind)
+
+pub no-row : (kind : FileKind) (stage mark : ℕ) → mark ≡ 3 → (not kind && leb 1 stage) ≡ false → mayCome kind stage mark ≡ false
+no-row kind stage mark m h = rw m (cond-book kind (leb 1 stage) ∙ h)
+
+pub no-state : (kind : FileKind) (stage mark : ℕ) → mark ≡ 4 → (kind && leb 2 stage) ≡ false → mayCome kind stage mark ≡ false
+no-state kind stage mark m h = rw m (cond-table kind (leb 2 stage) ∙ h)
+
+pub no-mark : (kind : FileKind) (stage mark : ℕ) → (mark ≡ 1 → ⊥) → (mark ≡ 2 → ⊥) → (mark ≡ 3 → ⊥) → (mark ≡ 4 → ⊥)
+    → mayCome kind stage mark ≡ false
+no-mark kind stage mark a b c d = rw (ne-eqb mark 1 a, ne-eqb mark 2 b, ne-eqb mark 3 c, ne-eqb mark 4 d) (cond-none kind)

@@ -1,0 +1,122 @@
+-- The file that a place of the reader stands for; what holds of every place that the reader reaches; and what the answers of the
+-- reader say: of one field judged, of one field read, and of a whole file. Assumes nothing.
+use mathlib.Core.Path.{_≡_}
+use mathlib.Core.List.{List, []}
+use Prim.Native.Nat.{ℕ, suc, _+_, _≤_, _<_}
+use lib.ListN.{length, getD, take, drop}
+use Rattle.model.specs.Lists.{lastOr}
+use Rattle.model.specs.Limits.{name-limit, state-limit}
+use Rattle.model.specs.Fields.{Class, class-of, File, file, FileKind, Read, refused, accepted-file, readFrom, readWith, nameFault}
+use Rattle.model.specs.Fields.{classFault, rowFault, stateFault, fieldFault, withField}
+use Rattle.fields.specs.Offsets.{bodyAt, nextAt, offsetAt, fieldsAt}
+use Rattle.fields.specs.declared.Place.{Place}
+use Rattle.fields.specs.declared.Step.{Step}
+use Rattle.fields.specs.declared.Fields.{Fields}
+use Rattle.fields.specs.declared.Step.the-variants as step
+use Rattle.fields.specs.declared.Fields.the-variants as fields
+
+-- the file that is read at a place: names from the file's first byte on, rows or states from the place's start on
+abbrev pub fileOf : List ℕ → Place → File
+fileOf s p =
+    file (p .stage) (fieldsAt s 0 (p .names)) (class-of (p .kind) (p .first) (p .second)) (fieldsAt s (p .start) (p .items))
+
+-- the place after one row or state more, which ends where the field at `next` begins
+abbrev pub withItem : Place → ℕ → Place
+withItem p next =
+    record {
+      at = next;
+      stage = 3;
+      names = p .names;
+      last = p .last;
+      width = p .width;
+      kind = p .kind;
+      first = p .first;
+      second = p .second;
+      start = p .start;
+      items = p .items + 1;
+    }
+
+-- every offset lies within the input, and the names, and the rows or states, end where the next field begins
+pub record Sound (s : List ℕ) (p : Place) : Type 0 where
+  pub within : p .at ≤ length s
+  pub few-names : p .names ≤ name-limit
+  pub few-items : p .items ≤ state-limit
+  pub names-within : offsetAt s 0 (p .names) ≤ p .at
+  pub names-end : p .stage ≤ 1 → offsetAt s 0 (p .names) ≡ p .at
+  pub last-within : p .last + p .width ≤ length s
+  pub last-is : lastOr [] (fieldsAt s 0 (p .names)) ≡ take (p .width) (drop (p .last) s)
+  pub items-end : offsetAt s (p .start) (p .items) ≡ p .at
+  pub no-items : p .stage ≤ 2 → p .items ≡ 0
+
+-- a sound place whose next field does not run past the end
+pub record Whole (s : List ℕ) (p : Place) : Type 0 where
+  pub sound : Sound s p
+  pub fits : nextAt s (p .at) ≤ length s
+
+-- a field judged: nothing refuses it, and the new place stands for the file with that field; or this is its refusal
+pub record Grown (s : List ℕ) (p : Place) (fault : ℕ) (grown : File) (q : Place) : Type 0 where
+  pub no-fault : fault ≡ 0
+  pub sound : Sound s q
+  pub file-is : fileOf s q ≡ grown
+  pub after : q .at ≡ nextAt s (p .at)
+
+pub record Faulty (fault number : ℕ) : Type 0 where
+  pub is : fault ≡ number
+  pub some : 0 < number
+
+abbrev pub Stepped : List ℕ → Place → ℕ → File → Step → Type 0
+Stepped s p fault grown (step.Go q) = Grown s p fault grown q
+Stepped s p fault grown (step.Refused k) = Faulty fault k
+
+-- the field at a place, judged as a name, a class, a row or a state
+abbrev pub NameStep : List ℕ → Place → Step → Type 0
+NameStep s p r =
+    Stepped s p (nameFault (fileOf s p) (bodyAt s (p .at))) (withField (fileOf s p) 1 (bodyAt s (p .at))) r
+
+abbrev pub ClassStep : List ℕ → Place → Step → Type 0
+ClassStep s p r = Stepped s p (classFault (bodyAt s (p .at))) (withField (fileOf s p) 2 (bodyAt s (p .at))) r
+
+abbrev pub RowStep : List ℕ → Place → Step → Type 0
+RowStep s p r =
+    Stepped s p (rowFault (fileOf s p) (bodyAt s (p .at))) (withField (fileOf s p) 3 (bodyAt s (p .at))) r
+
+abbrev pub StateStep : List ℕ → Place → Step → Type 0
+StateStep s p r =
+    Stepped s p (stateFault (fileOf s p) (bodyAt s (p .at))) (withField (fileOf s p) 4 (bodyAt s (p .at))) r
+
+-- the field at a place, judged by its mark
+abbrev pub FieldStep : FileKind → List ℕ → Place → Step → Type 0
+FieldStep kind s p r =
+    let mark = getD s (p .at) 0 in
+    let body = bodyAt s (p .at) in
+    Stepped s p (fieldFault kind (fileOf s p) mark body) (withField (fileOf s p) mark body) r
+
+-- a field read: reading from the new place is what reading from the old one comes to; or it comes to this refusal
+pub record Goes (kind : FileKind) (s : List ℕ) (p q : Place) : Type 0 where
+  pub sound : Sound s q
+  pub further : p .at < q .at
+  pub reads : (l : ℕ) → readFrom (suc l) kind (fileOf s p) (drop (p .at) s) ≡ readFrom l kind (fileOf s q) (drop (q .at) s)
+
+pub record Refuses (kind : FileKind) (s : List ℕ) (p : Place) (number : ℕ) : Type 0 where
+  pub some : 0 < number
+  pub reads : (l : ℕ) → readFrom (suc l) kind (fileOf s p) (drop (p .at) s) ≡ refused number
+
+abbrev pub Turned : FileKind → List ℕ → Place → Step → Type 0
+Turned kind s p (step.Go q) = Goes kind s p q
+Turned kind s p (step.Refused k) = Refuses kind s p k
+
+-- what an answer stands for: document 01's number, and the file
+abbrev pub answerOf : List ℕ → Fields → Read
+answerOf s (fields.Accepted p) = accepted-file (fileOf s p)
+answerOf s (fields.Refused k) = refused k
+
+-- a place of an accepted file is sound, and a refusal is not 0
+abbrev pub Kept : List ℕ → Fields → Type 0
+Kept s (fields.Accepted p) = Sound s p
+Kept s (fields.Refused k) = 0 < k
+
+-- a file read: the answer is what the definition gives, for a book that names no class with this one; at default-class the
+-- definition is readFields
+pub record ReadAs (class : Class) (kind : FileKind) (s : List ℕ) (answer : Fields) : Type 0 where
+  pub is : answerOf s answer ≡ readWith class kind s
+  pub kept : Kept s answer

@@ -1,0 +1,26 @@
+// Class fields and their refusal, 8.
+use crate::limits::BAD_CLASS;
+use crate::limits::SETTING_LIMIT;
+ghost use mathlib.Core.Path.{_≡_};
+ghost use Rattle.model.specs.Fields.{settingsOk, classFault};
+
+// Whether the two settings go with the kind.
+pub fn settings_ok(kind: u8, x: u8, y: u8) -> bool
+    ensures { λ r. ⌜ r ≡ settingsOk kind x y ⌝ }
+{
+    (kind == 0) & (((1 <= x) & (x <= SETTING_LIMIT)) & ((1 <= y) & (y <= x)))
+        | ((kind == 1) & ((x == 0) & (y == 0)) | (kind == 2) & ((x <= SETTING_LIMIT) & (y == 0)))
+}
+
+// What refuses a class field with these bytes; 0 for nothing.
+pub fn class_fault(body: &[u8]) -> u8
+    ensures { λ r. ⌜ r ≡ classFault (now (body .entry)) ⌝ }
+{
+    if body.len() != 3 {
+        return BAD_CLASS;
+    }
+    if !settings_ok(body[0], body[1], body[2]) {
+        return BAD_CLASS;
+    }
+    0
+}

@@ -1,0 +1,259 @@
+// The reader of books and tables: fields in file order, each judged by the refusals that concern it, nothing copied. What is accepted
+// stays where it is, and a Place says where: specs/Places has the file that a place stands for.
+pub mod classes;
+pub mod limits;
+pub mod names;
+pub mod offsets;
+pub mod rows;
+pub mod states;
+
+use limits::CLASS_MARK;
+use limits::CLASS_MET;
+use limits::CUT_OFF;
+use limits::ITEMS_MET;
+use limits::MISPLACED;
+use limits::NAME_DUE;
+use limits::NAME_MARK;
+use limits::NAMES_MET;
+use limits::ROW_MARK;
+use limits::STATE_MARK;
+use limits::UNFINISHED;
+use offsets::body;
+use offsets::body_len;
+use offsets::next_field;
+ghost use mathlib.Core.Path.{_≡_};
+ghost use Prim.Native.Nat.{_≤_, _<_};
+ghost use lib.ListN.{length};
+ghost use Rattle.model.specs.Limits.{state-limit};
+ghost use Rattle.model.specs.Fields.{class-of, default-class};
+ghost use Rattle.fields.specs.Places.{withItem, Sound, Whole, NameStep, ClassStep, RowStep, StateStep, FieldStep, Turned, ReadAs};
+
+// How far reading has come, and where what was read stands.
+pub struct Place {
+    // where the next field begins
+    pub at: usize,
+    // what was met last: one of NAME_DUE, NAMES_MET, CLASS_MET, ITEMS_MET
+    pub stage: u8,
+    // how many names; the first of them begins at offset 0
+    pub names: u8,
+    // where the last name's bytes begin, and how many they are; 0 and 0 where there is no name yet
+    pub last: usize,
+    pub width: usize,
+    // the class: its kind and its two settings
+    pub kind: u8,
+    pub first: u8,
+    pub second: u8,
+    // where the first row or state begins, and how many there are; where there is none yet, the next field's offset and 0
+    pub start: usize,
+    pub items: usize,
+}
+
+// One field's answer: the place after it, or its refusal, which is not 0.
+pub enum Step {
+    Go(Place),
+    Refused(u8),
+}
+
+// A file's answer: where its parts stand, or its first refusal, which is not 0.
+pub enum Fields {
+    Accepted(Place),
+    Refused(u8),
+}
+
+// A name field, where a name may come: the place after it, or what refuses it.
+fn name_field(s: &[u8], p: Place) -> Step
+    requires { ⌜ Whole (now s) p ⌝ }
+    requires { ⌜ p .stage ≤ 1 ⌝ }
+    ensures { λ r. ⌜ NameStep (now (s .entry)) p r ⌝ }
+{
+    let at = p.at;
+    let last = p.last;
+    let end = last + p.width;
+    let name = body(s, at);
+    let fault = names::name_fault(&s[last..end], p.names, name);
+    if fault != 0 {
+        return Step::Refused(fault);
+    }
+    let next = next_field(s, at);
+    Step::Go(Place {
+        at: next,
+        stage: NAMES_MET,
+        names: p.names + 1,
+        last: at + 3,
+        width: name.len(),
+        kind: p.kind,
+        first: p.first,
+        second: p.second,
+        start: next,
+        items: 0,
+    })
+}
+
+// A class field, where the class may come: the place after it, or what refuses it.
+fn class_field(s: &[u8], p: Place) -> Step
+    requires { ⌜ Whole (now s) p ⌝ }
+    requires { ⌜ p .stage ≤ 2 ⌝ }
+    ensures { λ r. ⌜ ClassStep (now (s .entry)) p r ⌝ }
+{
+    let at = p.at;
+    let class = body(s, at);
+    let fault = classes::class_fault(class);
+    if fault != 0 {
+        return Step::Refused(fault);
+    }
+    let next = next_field(s, at);
+    Step::Go(Place {
+        at: next,
+        stage: CLASS_MET,
+        names: p.names,
+        last: p.last,
+        width: p.width,
+        kind: class[0],
+        first: class[1],
+        second: class[2],
+        start: next,
+        items: 0,
+    })
+}
+
+// The place after one row or state more, the next field being at `next`.
+fn with_item(p: Place, next: usize) -> Place
+    requires { ⌜ p .items < state-limit ⌝ }
+    ensures { λ r. ⌜ r ≡ withItem p next ⌝ }
+{
+    Place {
+        at: next,
+        stage: ITEMS_MET,
+        names: p.names,
+        last: p.last,
+        width: p.width,
+        kind: p.kind,
+        first: p.first,
+        second: p.second,
+        start: p.start,
+        items: p.items + 1,
+    }
+}
+
+// A row field, where a row may come: the place after it, or what refuses it.
+fn row_field(s: &[u8], p: Place) -> Step
+    requires { ⌜ Whole (now s) p ⌝ }
+    ensures { λ r. ⌜ RowStep (now (s .entry)) p r ⌝ }
+{
+    let at = p.at;
+    let fault = rows::row_fault(p.names, p.items, body(s, at));
+    if fault != 0 {
+        return Step::Refused(fault);
+    }
+    let next = next_field(s, at);
+    Step::Go(with_item(p, next))
+}
+
+// A state field, where a state may come: the place after it, or what refuses it.
+fn state_field(s: &[u8], p: Place) -> Step
+    requires { ⌜ Whole (now s) p ⌝ }
+    ensures { λ r. ⌜ StateStep (now (s .entry)) p r ⌝ }
+{
+    let at = p.at;
+    let fault = states::state_fault(p.names, p.items, body(s, at));
+    if fault != 0 {
+        return Step::Refused(fault);
+    }
+    let next = next_field(s, at);
+    Step::Go(with_item(p, next))
+}
+
+// A field that does not run past the end: its mark decides how it is read, and a mark not allowed at this place is refused.
+fn whole_field(s: &[u8], is_table: bool, p: Place) -> Step
+    requires { ⌜ Whole (now s) p ⌝ }
+    ensures { λ r. ⌜ FieldStep «is_table» (now (s .entry)) p r ⌝ }
+{
+    let at = p.at;
+    let stage = p.stage;
+    let mark = s[at];
+    match mark {
+        NAME_MARK => {
+            if stage <= NAMES_MET {
+                return name_field(s, p);
+            }
+            Step::Refused(MISPLACED)
+        }
+        CLASS_MARK => {
+            if stage == NAMES_MET {
+                return class_field(s, p);
+            }
+            Step::Refused(MISPLACED)
+        }
+        ROW_MARK => {
+            if !is_table & (NAMES_MET <= stage) {
+                return row_field(s, p);
+            }
+            Step::Refused(MISPLACED)
+        }
+        STATE_MARK => {
+            if is_table & (CLASS_MET <= stage) {
+                return state_field(s, p);
+            }
+            Step::Refused(MISPLACED)
+        }
+        _ => Step::Refused(MISPLACED),
+    }
+}
+
+// The field at a place, judged by 2 and then by what concerns it.
+fn field(s: &[u8], is_table: bool, p: Place) -> Step
+    requires { ⌜ Sound (now s) p ⌝ }
+    requires { ⌜ p .at < length (now s) ⌝ }
+    ensures { λ r. ⌜ Turned «is_table» (now (s .entry)) p r ⌝ }
+{
+    let at = p.at;
+    if s.len() - at < 3 {
+        return Step::Refused(CUT_OFF);
+    }
+    if s.len() - at - 3 < body_len(s, at) {
+        return Step::Refused(CUT_OFF);
+    }
+    whole_field(s, is_table, p)
+}
+
+// A whole book, or a whole table, where a book that names no class has the one given: the answer is that of the definition readWith.
+pub fn read_with(s: &[u8], is_table: bool, kind: u8, first: u8, second: u8) -> Fields
+    ensures { λ r. ⌜ ReadAs (class-of kind first second) «is_table» (now (s .entry)) r ⌝ }
+{
+    let mut p = Place {
+        at: 0,
+        stage: NAME_DUE,
+        names: 0,
+        last: 0,
+        width: 0,
+        kind: kind,
+        first: first,
+        second: second,
+        start: 0,
+        items: 0,
+    };
+    while p.at < s.len() {
+        let step = field(s, is_table, p);
+        match step {
+            Step::Go(q) => {
+                p = q;
+            }
+            Step::Refused(k) => {
+                return Fields::Refused(k);
+            }
+        }
+    }
+    if p.stage == ITEMS_MET {
+        Fields::Accepted(p)
+    } else {
+        Fields::Refused(UNFINISHED)
+    }
+}
+
+// A whole book, or a whole table: where its parts stand, or its first refusal. Nothing is required of the input, and nothing is
+// copied; the answer is that of the definition readFields, and every offset of an accepted file lies within the input.
+pub fn read_fields(s: &[u8], is_table: bool) -> Fields
+    ensures { λ r. ⌜ ReadAs default-class «is_table» (now (s .entry)) r ⌝ }
+{
+    read_with(s, is_table, 0, 2, 1)
+}
