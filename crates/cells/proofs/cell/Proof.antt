@@ -28,7 +28,10 @@ wide8-requires c κs = search needs
 
 -- the first byte read is the high byte
 high-is : (c : tie.After-wide8)
-    → c .wide8 .result ≡ getD (c .before .before .before .args .work .now) (128 * c .before .before .before .args .row + 2 * c .before .before .before .args .column) 0
+    → c .wide8 .result
+    ≡ getD (c .before .before .before .args .work .now)
+    (128 * c .before .before .before .args .row + 2 * c .before .before .before .args .column)
+    0
 high-is c = c .wide8 .ensures
 
 high-small : (c : tie.After-wide8) → c .wide8 .result < 256
