@@ -1,5 +1,6 @@
 -- Why a partition that the passes' promises describe has the table of the book. Assumes nothing.
 pub mod Words
+pub mod Kernels
 pub mod Joined
 pub mod Keys
 pub mod Contexts
