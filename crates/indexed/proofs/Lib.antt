@@ -2,6 +2,7 @@
 pub mod Words
 pub mod Kernels
 pub mod Joined
+pub mod Alike
 pub mod Keys
 pub mod Contexts
 pub mod Functions
