@@ -2,24 +2,24 @@
 -- inside it. Assumes nothing.
 use mathlib.Core.Path.{_≡_, refl, sym, ap, _∙_, subst, subst₂}
 use mathlib.Core.Logic.{_↔_}
-use mathlib.Core.Bool.{Bool, true, false}
-use mathlib.Core.List.{List, [], _∷_, _++_, List·Memᴰ as In, Memᴰ·cast}
-use Prim.Native.Nat.{ℕ, zero, suc, _+_, _-_, _<_, _≤_}
+use mathlib.Core.Bool.{true, false}
+use mathlib.Core.List.{List, _++_, List·Memᴰ as In, Memᴰ·cast}
+use Prim.Native.Nat.{ℕ, _+_, _-_, _<_, _≤_}
 use native.Mathlib.Omega.{arith}
 use lib.Dec.{eqb}
 use lib.ListN.{length, getD, take, drop, length-drop, take-append-drop}
 use Rattle.model.specs.Fields.{Class}
 use Rattle.model.specs.Classes.{Word, fOf, lastNames}
 use Rattle.model.specs.Joinings.{treeOf, joinedGroups}
-use Rattle.model.proofs.Notions.{Fits, Ways, OneContext, Closed, Inside, Ker, SameF, _▸_}
+use Rattle.model.proofs.Notions.{Fits, Ways, OneContext, Closed, Inside, Ker, _▸_}
 use Rattle.model.proofs.Trees.{treeOf-tree}
 use Rattle.model.proofs.Transitions.{beginning-in, walks-down}
 use Rattle.model.proofs.Sound.{walks-ways}
-use Rattle.model.proofs.Joined.{Joined, joinedGroups-joined, joined-closed, members-agree}
+use Rattle.model.proofs.Joined.{joinedGroups-joined, joined-closed, members-agree}
 use Rattle.indexed.specs.Trees.{wordAt, TreeArrays, AcceptsArray, SameSuffix}
 use Rattle.indexed.specs.Partitions.{Refines, ForkClosed, Share, ContextClosed, EndsClosed, BackClosed}
 use Rattle.indexed.proofs.Words.{wordAt-in, suffix-words}
-use Rattle.indexed.proofs.Kernels.{parent-below, arc-into, number-ker, ker-number, TwoWays, share-ways}
+use Rattle.indexed.proofs.Kernels.{parent-below, arc-into, number-ker, ker-number, share-ways}
 
 -- equal classes are equal f
 pub record ClassesOfF (c : Class) (rows : List Word) (classes : List ℕ) : Type 0 where
@@ -31,7 +31,10 @@ pub record ClassesOfF (c : Class) (rows : List Word) (classes : List ℕ) : Type
 
 length-last : (i : ℕ) (w : Word) → i ≤ length w → length (lastNames i w) ≡ i
 unfolding lastNames
-length-last i w h = let e : length (drop (length w - i) w) ≡ length w - (length w - i) = length-drop (length w - i) w in omega arith
+length-last i w h =
+    let n = length w - i in
+    let e : length (drop n w) ≡ length w - n = length-drop n w in
+    omega arith
 
 -- the last i names of a node lead into it, from a node
 way-into :
@@ -60,11 +63,14 @@ module _ (c : Class) (rows : List Word) (parents names : List ℕ) (tree : TreeA
   closed : Closed c rows (treeOf rows) (Ker (treeOf rows) (joinedGroups c rows))
   closed = joined-closed c rows (joinedGroups c rows) (joinedGroups-joined c rows)
 
-  one : (v w : ℕ) → v < length (treeOf rows) → w < length (treeOf rows) → getD (joinedGroups c rows) v 0 ≡ getD (joinedGroups c rows) w 0 →
+  one :
+      (v w : ℕ) → v < length (treeOf rows) → w < length (treeOf rows) →
+      getD (joinedGroups c rows) v 0 ≡ getD (joinedGroups c rows) w 0 →
       Ker (treeOf rows) (joinedGroups c rows) (wordAt rows v) (wordAt rows w)
   one = number-ker rows (joinedGroups c rows) joined-fits
 
-  told-one : (v w : ℕ) → v < length (treeOf rows) → w < length (treeOf rows) →
+  told-one :
+      (v w : ℕ) → v < length (treeOf rows) → w < length (treeOf rows) →
       Ker (treeOf rows) (joinedGroups c rows) (wordAt rows v) (wordAt rows w) →
       getD (joinedGroups c rows) v 0 ≡ getD (joinedGroups c rows) w 0
   told-one = ker-number rows (joinedGroups c rows) joined-fits
@@ -160,5 +166,6 @@ module _ (c : Class) (rows : List Word) (parents names : List ℕ) (tree : TreeA
       Refines (length (treeOf rows)) (joinedGroups c rows) classes
   joined-refines-classes kind classes told v w hv hw e =
       let agree = members-agree c rows (joinedGroups c rows) (joinedGroups-joined c rows) kind in
+      let k = one v w hv hw e in
       told .told v w hv hw .1
-      (agree .related (wordAt rows v) (wordAt rows w) (wordAt-in rows v hv) (wordAt-in rows w hw) (one v w hv hw e .one-group) .same-f)
+      (agree .related (wordAt rows v) (wordAt rows w) (k .left-node) (k .right-node) (k .one-group) .same-f)

@@ -1,12 +1,12 @@
 -- The kernel of a partition by state number, the tree's arcs by number, and ways out of two states by one word, which are names
 -- that they share. Assumes nothing.
-use mathlib.Core.Path.{_≡_, refl, sym, ap, ap₂, _∙_, subst, subst₂}
-use mathlib.Core.List.{List, [], _∷_, _++_, List·Memᴰ as In, Memᴰ·cast}
-use Prim.Native.Nat.{ℕ, zero, suc, _<_, _≤_}
+use mathlib.Core.Path.{_≡_, refl, sym, ap, _∙_, subst, subst₂}
+use mathlib.Core.List.{List, [], _∷_, List·Memᴰ as In, Memᴰ·cast}
+use Prim.Native.Nat.{ℕ, zero, suc, _<_}
 use native.Mathlib.Omega.{arith}
 use lib.ListN.{length, getD}
 use Rattle.model.specs.Classes.{Word}
-use Rattle.model.specs.Joinings.{treeOf, groupAt}
+use Rattle.model.specs.Joinings.{treeOf}
 use Rattle.model.proofs.Notions.{Fits, Ways, Ker, _▸_}
 use Rattle.indexed.specs.Trees.{wordAt, TreeArrays}
 use Rattle.indexed.specs.Partitions.{Share}
@@ -35,7 +35,8 @@ module _ (rows : List Word) (parents names : List ℕ) (tree : TreeArrays rows p
   arc-number u a m =
       let r = number-of rows (u ▸ a) m in
       let pos : 0 < r .0 = above (r .0) (r .2) in
-      let parts = snoc-word (wordAt rows (getD parents (r .0) 0)) u (getD names (r .0) 0) a (sym (tree .word (r .0) pos (r .1)) ∙ r .2) in
+      let p = getD parents (r .0) 0 in
+      let parts = snoc-word (wordAt rows p) u (getD names (r .0) 0) a (sym (tree .word (r .0) pos (r .1)) ∙ r .2) in
       record {
         number = r .0;
         not-root = pos;
@@ -157,5 +158,6 @@ module _ (rows : List Word) (parents names groups : List ℕ) (tree : TreeArrays
           i .by-name ∙ sym (j .by-name),
           sym (ker-numbers rows groups fits v (getD parents (i .number) 0) x (s .0) h (i .parent-low) e (i .from-word) (s .2)),
           sym (ker-numbers rows groups fits w (getD parents (j .number) 0) y (r .0) k (j .parent-low) f (j .from-word) (r .2)),
-          ways-share q (i .number) (j .number) (s .0 ▸ a) (r .0 ▸ a) t z (i .low) (j .low) (i .is-word) (j .is-word) (s .4) (r .4),
+          ways-share q (i .number) (j .number) (s .0 ▸ a) (r .0 ▸ a) t z (i .low) (j .low) (i .is-word) (j .is-word)
+              (s .4) (r .4),
         )

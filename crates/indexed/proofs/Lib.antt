@@ -2,6 +2,7 @@
 pub mod Words
 pub mod Kernels
 pub mod Joined
+pub mod KernelWays
 pub mod Alike
 pub mod Keys
 pub mod Contexts

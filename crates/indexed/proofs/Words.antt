@@ -7,14 +7,14 @@ use mathlib.Core.List.{List, [], _∷_, _++_, List·Memᴰ as In, List·Memᴰ·
 use mathlib.Core.List.{List·Memᴰ·not-nil, List·Memᴰ·cases-cons, Memᴰ·cast, head-eq-of-cons-eq, tail-eq-of-cons-eq}
 use Prim.Native.Nat.{ℕ, zero, suc, _+_, _-_, _<_, _≤_}
 use native.Mathlib.Omega.{arith}
-use lib.ListN.{length, getD, drop, length-append}
+use lib.ListN.{length, getD, length-append}
 use lib.Seq.{drop-length, drop-append-le}
 use Rattle.model.specs.Limits.{state-limit}
 use Rattle.model.specs.Lists.{hasRow}
 use Rattle.model.specs.Classes.{Word, lastNames}
 use Rattle.model.specs.Joinings.{beginnings, withStates, withRows, treeOf, groupAt}
 use Rattle.model.proofs.Lists.{Distinct}
-use Rattle.model.proofs.Notions.{Tree, Fits, Inside, Ker, _▸_}
+use Rattle.model.proofs.Notions.{Fits, Inside, Ker, _▸_}
 use Rattle.model.proofs.GroupCases.{groupAt-first, groupAt-later, no-groups, fits-rest}
 use Rattle.model.proofs.Trees.{treeOf-tree}
 use Rattle.indexed.specs.Trees.{wordAt, TreeArrays, Arrays, SameSuffix}
