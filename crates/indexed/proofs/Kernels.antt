@@ -92,72 +92,72 @@ pub record TwoWays (rows : List Word) (groups : List ℕ) (m : ℕ) (v w : ℕ) 
   pub way-v : Ways (treeOf rows) (Ker (treeOf rows) groups) (wordAt rows v) by to-v
   pub way-w : Ways (treeOf rows) (Ker (treeOf rows) groups) (wordAt rows w) by to-w
 
-module _ (rows : List Word) (parents names groups : List ℕ) (tree : TreeArrays rows parents names) (fits : Fits (treeOf rows) groups)
-  where
-    -- one step more in front of a way
-    way-more :
-        (v x a : ℕ) (q t : Word) → v < length (treeOf rows) → 0 < x → x < length (treeOf rows) → getD names x 0 ≡ a →
-        getD groups (getD parents x 0) 0 ≡ getD groups v 0 →
-        Ways (treeOf rows) (Ker (treeOf rows) groups) (wordAt rows x) q t →
-        Ways (treeOf rows) (Ker (treeOf rows) groups) (wordAt rows v) (a ∷ q) t
-    way-more v x a q t h pos low e g f =
-        let p = getD parents x 0 in
-        let below = parent-below rows parents names tree x pos low in
-        let is-word : wordAt rows x ≡ wordAt rows p ▸ a = tree .word x pos low ∙ ap (λ (b : ℕ). wordAt rows p ▸ b) e in (
-          wordAt rows p,
-          wordAt-in rows p below,
-          number-ker rows groups fits v p h below (sym g),
-          Memᴰ·cast (sym is-word) (wordAt-in rows x low),
-          subst (λ (u : Word). Ways (treeOf rows) (Ker (treeOf rows) groups) u q t) is-word f,
-        )
+module _ (rows : List Word) (parents names groups : List ℕ) (tree : TreeArrays rows parents names)
+    (fits : Fits (treeOf rows) groups) where
+  -- one step more in front of a way
+  way-more :
+      (v x a : ℕ) (q t : Word) → v < length (treeOf rows) → 0 < x → x < length (treeOf rows) → getD names x 0 ≡ a →
+      getD groups (getD parents x 0) 0 ≡ getD groups v 0 →
+      Ways (treeOf rows) (Ker (treeOf rows) groups) (wordAt rows x) q t →
+      Ways (treeOf rows) (Ker (treeOf rows) groups) (wordAt rows v) (a ∷ q) t
+  way-more v x a q t h pos low e g f =
+      let p = getD parents x 0 in
+      let below = parent-below rows parents names tree x pos low in
+      let is-word : wordAt rows x ≡ wordAt rows p ▸ a = tree .word x pos low ∙ ap (λ (b : ℕ). wordAt rows p ▸ b) e in (
+        wordAt rows p,
+        wordAt-in rows p below,
+        number-ker rows groups fits v p h below (sym g),
+        Memᴰ·cast (sym is-word) (wordAt-in rows x low),
+        subst (λ (u : Word). Ways (treeOf rows) (Ker (treeOf rows) groups) u q t) is-word f,
+      )
 
-    pub share-ways :
-        (m v w : ℕ) → v < length (treeOf rows) → w < length (treeOf rows) →
-        Share (length (treeOf rows)) parents names groups m v w → TwoWays rows groups m v w
-    share-ways zero v w h k s =
-        record {
-          by = [];
-          size = refl;
-          to-v = wordAt rows v;
-          to-w = wordAt rows w;
-          to-v-node = wordAt-in rows v h;
-          to-w-node = wordAt-in rows w k;
-          way-v = number-ker rows groups fits v v h h refl;
-          way-w = number-ker rows groups fits w w k k refl;
-        }
-    share-ways (suc j) v w h k s =
-        let x = s .0 in
-        let y = s .1 in
-        let rest = share-ways j x y (s .4) (s .5) (s .9) in
-        record {
-          by = getD names x 0 ∷ rest .by;
-          size = ap suc (rest .size);
-          to-v = rest .to-v;
-          to-w = rest .to-w;
-          to-v-node = rest .to-v-node;
-          to-w-node = rest .to-w-node;
-          way-v = way-more v x (getD names x 0) (rest .by) (rest .to-v) h (s .2) (s .4) refl (s .7) (rest .way-v);
-          way-w = way-more w y (getD names x 0) (rest .by) (rest .to-w) k (s .3) (s .5) (sym (s .6)) (s .8) (rest .way-w);
-        }
+  pub share-ways :
+      (m v w : ℕ) → v < length (treeOf rows) → w < length (treeOf rows) →
+      Share (length (treeOf rows)) parents names groups m v w → TwoWays rows groups m v w
+  share-ways zero v w h k s =
+      record {
+        by = [];
+        size = refl;
+        to-v = wordAt rows v;
+        to-w = wordAt rows w;
+        to-v-node = wordAt-in rows v h;
+        to-w-node = wordAt-in rows w k;
+        way-v = number-ker rows groups fits v v h h refl;
+        way-w = number-ker rows groups fits w w k k refl;
+      }
+  share-ways (suc j) v w h k s =
+      let x = s .0 in
+      let y = s .1 in
+      let rest = share-ways j x y (s .4) (s .5) (s .9) in
+      record {
+        by = getD names x 0 ∷ rest .by;
+        size = ap suc (rest .size);
+        to-v = rest .to-v;
+        to-w = rest .to-w;
+        to-v-node = rest .to-v-node;
+        to-w-node = rest .to-w-node;
+        way-v = way-more v x (getD names x 0) (rest .by) (rest .to-v) h (s .2) (s .4) refl (s .7) (rest .way-v);
+        way-w = way-more w y (getD names x 0) (rest .by) (rest .to-w) k (s .3) (s .5) (sym (s .6)) (s .8) (rest .way-w);
+      }
 
-    pub ways-share :
-        (q : Word) (v w : ℕ) (x y t z : Word) → v < length (treeOf rows) → w < length (treeOf rows) →
-        wordAt rows v ≡ x → wordAt rows w ≡ y →
-        Ways (treeOf rows) (Ker (treeOf rows) groups) x q t → Ways (treeOf rows) (Ker (treeOf rows) groups) y q z →
-        Share (length (treeOf rows)) parents names groups (length q) v w
-    ways-share [] v w x y t z h k e f s r = tt
-    ways-share (a ∷ q) v w x y t z h k e f s r =
-        let i = arc-number rows parents names tree (s .0) a (s .3) in
-        let j = arc-number rows parents names tree (r .0) a (r .3) in (
-          i .number,
-          j .number,
-          i .not-root,
-          j .not-root,
-          i .low,
-          j .low,
-          i .by-name ∙ sym (j .by-name),
-          sym (ker-numbers rows groups fits v (getD parents (i .number) 0) x (s .0) h (i .parent-low) e (i .from-word) (s .2)),
-          sym (ker-numbers rows groups fits w (getD parents (j .number) 0) y (r .0) k (j .parent-low) f (j .from-word) (r .2)),
-          ways-share q (i .number) (j .number) (s .0 ▸ a) (r .0 ▸ a) t z (i .low) (j .low) (i .is-word) (j .is-word)
-              (s .4) (r .4),
-        )
+  pub ways-share :
+      (q : Word) (v w : ℕ) (x y t z : Word) → v < length (treeOf rows) → w < length (treeOf rows) →
+      wordAt rows v ≡ x → wordAt rows w ≡ y →
+      Ways (treeOf rows) (Ker (treeOf rows) groups) x q t → Ways (treeOf rows) (Ker (treeOf rows) groups) y q z →
+      Share (length (treeOf rows)) parents names groups (length q) v w
+  ways-share [] v w x y t z h k e f s r = tt
+  ways-share (a ∷ q) v w x y t z h k e f s r =
+      let i = arc-number rows parents names tree (s .0) a (s .3) in
+      let j = arc-number rows parents names tree (r .0) a (r .3) in (
+        i .number,
+        j .number,
+        i .not-root,
+        j .not-root,
+        i .low,
+        j .low,
+        i .by-name ∙ sym (j .by-name),
+        sym (ker-numbers rows groups fits v (getD parents (i .number) 0) x (s .0) h (i .parent-low) e (i .from-word) (s .2)),
+        sym (ker-numbers rows groups fits w (getD parents (j .number) 0) y (r .0) k (j .parent-low) f (j .from-word) (r .2)),
+        ways-share q (i .number) (j .number) (s .0 ▸ a) (r .0 ▸ a) t z (i .low) (j .low) (i .is-word) (j .is-word)
+            (s .4) (r .4),
+      )
