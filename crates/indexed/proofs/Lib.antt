@@ -2,6 +2,8 @@
 pub mod Words
 pub mod Joined
 pub mod Keys
+pub mod Labels
+pub mod Suffixes
 pub mod Contexts
 pub mod Functions
 pub mod Closing
