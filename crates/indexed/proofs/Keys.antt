@@ -36,6 +36,14 @@ number-at n v h =
     let sum-is : 0 + v ≡ v = omega arith in
     nth-number n 0 v h ∙ sum-is
 
+-- a state whose name is one is not the root
+pub named-not-root :
+    (n : ℕ) (parents names : List ℕ) → Arrays n parents names → (v : ℕ) → getD names v 0 < name-limit → 0 < v
+named-not-root n parents names arrays zero h =
+    let root : getD names 0 0 ≡ name-limit = arrays .root-name in
+    omega arith
+named-not-root n parents names arrays (suc v) h = omega arith
+
 pub forks-keys :
     (n : ℕ) (parents names groups : List ℕ) → Arrays n parents names → ForkClosed n parents names groups →
     KeyClosed n parents (numbersFrom n 0) names groups
@@ -43,13 +51,8 @@ forks-keys n parents names groups arrays closed v w hv hw below same-name one =
     let at-v : getD (numbersFrom n 0) v 0 ≡ v = number-at n v hv in
     let at-w : getD (numbersFrom n 0) w 0 ≡ w = number-at n w hw in
     let below-w : getD names w 0 < name-limit = omega arith in
-    rw (at-v, at-w) (closed v w (named v below) (named w below-w) hv hw same-name one)
-  where
-    named : (x : ℕ) → getD names x 0 < name-limit → 0 < x
-    named zero h =
-        let root : getD names 0 0 ≡ name-limit = arrays .root-name in
-        omega arith
-    named (suc x) h = omega arith
+    let not-root : (x : ℕ) → getD names x 0 < name-limit → 0 < x = named-not-root n parents names arrays in
+    rw (at-v, at-w) (closed v w (not-root v below) (not-root w below-w) hv hw same-name one)
 
 pub keys-forks :
     (n : ℕ) (parents names groups : List ℕ) → Arrays n parents names → KeyClosed n parents (numbersFrom n 0) names groups →

@@ -5,5 +5,7 @@ pub mod Keys
 pub mod Labels
 pub mod Suffixes
 pub mod Contexts
+pub mod Bits
+pub mod Sets
 pub mod Functions
 pub mod Closing
