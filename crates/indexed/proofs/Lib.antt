@@ -7,5 +7,7 @@ pub mod Suffixes
 pub mod Contexts
 pub mod Bits
 pub mod Sets
+pub mod Values
+pub mod ArcKeys
 pub mod Functions
 pub mod Closing

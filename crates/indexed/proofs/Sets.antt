@@ -123,9 +123,10 @@ seen-in a [] = (λ m. m, λ m. m)
 seen-in a (x ∷ w) = go (seen-in a w)
   where
     go : In a (seenSet w) ↔ In a w → In a (putName x (seenSet w)) ↔ In a (x ∷ w)
-    go rest =
-        (λ m. ⊎-elim (λ e. here e) (λ n. there (rest .0 n)) (put-in a x (seenSet w) m),
-        λ m. in-put a x (seenSet w) (⊎-elim (λ e. inl e) (λ n. inr (rest .1 n)) (List·Memᴰ·cases-cons m)))
+    go rest = (
+      λ m. ⊎-elim (λ e. here e) (λ n. there (rest .0 n)) (put-in a x (seenSet w) m),
+      λ m. in-put a x (seenSet w) (⊎-elim (λ e. inl e) (λ n. inr (rest .1 n)) (List·Memᴰ·cases-cons m)),
+    )
 
 -- words of the same names have the same seen set
 pub seen-same : (u w : Word) → ((a : ℕ) → In a u ↔ In a w) → seenSet u ≡ seenSet w
