@@ -5,7 +5,7 @@ use mathlib.Core.Path.{_≡_, refl, sym, ap, _∙_, subst}
 use mathlib.Core.Logic.{_⊎_, inl, inr, _↔_}
 use mathlib.Core.Bool.{Bool, _||_}
 use mathlib.Core.List.{List}
-use Prim.Native.Nat.{ℕ, zero, suc, _+_, _<_, _≤_}
+use Prim.Native.Nat.{ℕ, zero, suc, _+_, _<_}
 use native.Mathlib.Omega.{arith}
 use lib.Dec.{eqb}
 use lib.ListN.{length, getD}
@@ -46,7 +46,7 @@ module _ (n : ℕ) (parents names : List ℕ) (arrays : Arrays n parents names) 
   alike-test : ℕ → ℕ → ℕ → Bool
   alike-test h v w = eqb v w || sameSuffix parents names h v w
 
-  alike-equivalence : (h : ℕ) → Equivalence n (alike-test h) (Alike h)
+  alike-equivalence : (h : ℕ) → Equivalence (alike-test h) (Alike h)
   unfolding alike-test
   alike-equivalence h =
       record {

@@ -17,7 +17,7 @@ use Rattle.indexed.specs.Passes.{BySuffix, NamesAbove, SeenSets, BySeen,
 use Rattle.indexed.proofs.Keys.{number-at, named-not-root}
 use Rattle.indexed.proofs.Suffixes.{parent-below, up-below, suffix-cast, suffix-up, suffix-more}
 use Rattle.indexed.proofs.Contexts.{suffix-forks}
-use Rattle.indexed.proofs.ArcKeys.{seen-forward, seen-before, key-is, Keyed, keyed}
+use Rattle.indexed.proofs.ArcKeys.{seen-forward, seen-before, key-is, keyed}
 pub use Rattle.indexed.proofs.Values.{last-classes, seen-classes}
 
 -- the classes of f are closed under forks themselves: f of a word with one name more depends on f of the word

@@ -1,16 +1,15 @@
 -- Laws of partitions by number that the passes share: forks as keys, labels, and what a join of two groups does to refinement
 -- and to the sum. Assumes nothing.
 use mathlib.Core.Path.{_≡_, refl, sym, ap, _∙_, subst}
-use mathlib.Core.Logic.{_⊎_, inl, inr, ⊎-elim, _↔_}
 use mathlib.Core.Bool.{Bool, true, false, cond}
-use mathlib.Core.List.{List, [], _∷_, map}
+use mathlib.Core.List.{List, [], _∷_}
 use Prim.Native.Nat.{ℕ, zero, suc, _+_, _<_, _≤_}
 use native.Mathlib.Nat.{add-zero, not-suc-le-zero}
 use native.Mathlib.Omega.{arith}
 use lib.Dec.{eqb}
 use lib.ListN.{length, getD, length-map}
 use borrow.Author.Tests.{eqb-true, eqb-false}
-use Rattle.model.specs.Limits.{name-limit, state-limit}
+use Rattle.model.specs.Limits.{name-limit}
 use Rattle.model.specs.Lists.{numbersFrom}
 use Rattle.indexed.specs.Trees.{Arrays}
 use Rattle.indexed.specs.Partitions.{Refines, Labelled, KeyClosed, ForkClosed, sum}

@@ -63,17 +63,18 @@ listed-at f (suc n) i (suc v) h =
     let sum-is : suc i + v ≡ i + suc v = omega arith in
     listed-at f n (suc i) v (omega arith) ∙ ap f sum-is
 
--- what the test tells of states below n is an equivalence
-pub record Equivalence (n : ℕ) (test : ℕ → ℕ → Bool) (R : ℕ → ℕ → Type 0) : Type 0 where
+-- what the test tells is an equivalence
+pub record Equivalence (test : ℕ → ℕ → Bool) (R : ℕ → ℕ → Type 0) : Type 0 where
   pub told : (v w : ℕ) → Tells (test v w) (R v w)
   pub reflexive : (v : ℕ) → R v v
   pub symmetric : (v w : ℕ) → R v w → R w v
   pub transitive : (u v w : ℕ) → R u v → R v w → R u w
 
+-- for each of n states the first that it is equivalent to
 pub labels : (ℕ → ℕ → Bool) → ℕ → List ℕ
 labels test n = listed (λ (v : ℕ). first (test v) n 0) n 0
 
-module _ (n : ℕ) (test : ℕ → ℕ → Bool) (R : ℕ → ℕ → Type 0) (equivalence : Equivalence n test R) where
+module _ (n : ℕ) (test : ℕ → ℕ → Bool) (R : ℕ → ℕ → Type 0) (equivalence : Equivalence test R) where
   label-at : (v : ℕ) → v < n → getD (labels test n) v 0 ≡ first (test v) n 0
   unfolding labels
   label-at v h =
