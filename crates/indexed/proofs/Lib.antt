@@ -5,6 +5,12 @@ pub mod Joined
 pub mod KernelWays
 pub mod Alike
 pub mod Keys
+pub mod Labels
+pub mod Suffixes
 pub mod Contexts
+pub mod Bits
+pub mod Sets
+pub mod Values
+pub mod ArcKeys
 pub mod Functions
 pub mod Closing
