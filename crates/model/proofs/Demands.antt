@@ -1,32 +1,32 @@
 -- Demand 3, whole, and that tables read back as written and are rewritten to the same bytes: `demands`. Assumes nothing.
 use mathlib.Core.Path.{_≡_, refl, sym, ap, _∙_, subst}
-use mathlib.Core.Logic.{_↔_, ⊎-elim}
-use mathlib.Core.Bool.{Bool, true, false, _||_, not, false≢true}
-use mathlib.Core.List.{List, [], _∷_, _++_, map, append-assoc, List·Memᴰ as In, List·Memᴰ·head as here, Memᴰ·append-left, Memᴰ·append-right}
+use mathlib.Core.Logic.{_↔_}
+use mathlib.Core.Bool.{Bool, true, false, _||_}
+use mathlib.Core.List.{List, _++_, map, List·Memᴰ as In, List·Memᴰ·head as here, Memᴰ·append-left, Memᴰ·append-right}
 use Prim.Native.Nat.{ℕ, zero, suc, _≤_, _<_}
 use native.Mathlib.Omega.{arith}
-use lib.Dec.{eqb, ltb}
+use lib.Dec.{ltb}
 use lib.ListN.{length}
 use borrow.Author.Tests.{ltb-false, le-ltb}
 use Rattle.model.specs.Limits.{state-limit, input-limit, work-bytes, when, firstOf}
-use Rattle.model.specs.Limits.{bad-sizes, tree-too-large, bad-numbering}
-use Rattle.model.specs.Lists.{hasRow}
+use Rattle.model.specs.Limits.{bad-sizes, tree-too-large}
 use Rattle.model.specs.Fields.{File, file, Class, Read, table, book, readFields, accepted-file}
-use Rattle.model.specs.Tables.{State, stateBody, statesIn, isFirstMet, tableBytes, admits}
-use Rattle.model.specs.Classes.{Word, InClass}
-use Rattle.model.specs.Joinings.{Step, treeOf, apart, transitionsOf, isFull, isFullJoining, afterSteps, joinedGroups}
+use Rattle.model.specs.Tables.{State, stateBody, statesIn, isFirstMet, tableBytes}
+use Rattle.model.specs.Classes.{Word}
+use Rattle.model.specs.Joinings.{Step, treeOf, apart, isFullJoining, afterSteps, joinedGroups}
 use Rattle.model.specs.Quotients.{statesOf, bookStates, bookTable, tableAfter}
 use Rattle.model.specs.Calls.{bookOf, bookFault, sizesFault, tableOf, tableFault, tableStates}
-use Rattle.model.specs.Claims.{Accepted, allAmong, SameBook, Admitted, Demand-3, Same-bytes, Reads-back, Demands}
-use Rattle.model.proofs.Tests.{Tells, tells-hasRow, tells-all}
-use Rattle.model.proofs.Notions.{Tree, Fits, Deterministic, _▸_}
+use Rattle.model.specs.Claims.{Accepted, allAmong, SameBook, Demand-3, Same-bytes, Reads-back, Demands}
+use Rattle.model.proofs.Tests.{tells-hasRow, tells-all}
+use Rattle.model.proofs.Notions.{_▸_}
 use Rattle.model.proofs.Trees.{treeOf-tree, node-begins-row}
 use Rattle.model.proofs.Ends.{joined-full, joined-is-full-joining}
 use Rattle.model.proofs.Joined.{Joined, joining-joined, joinedGroups-joined, joined-deterministic, joined-states}
-use Rattle.model.proofs.InTheClass.{Admits, admits-row, admits-in-class, admits-smallest}
+use Rattle.model.proofs.InTheClass.{admits-row, admits-in-class, admits-smallest}
 use Rattle.model.proofs.Writable.{Writable}
 use Rattle.model.proofs.WritableStates.{states-writable}
-use Rattle.model.proofs.Reading.{accepted-has-row, accepted-entries, reads-written, states-read, written-length, rewrites-same}
+use Rattle.model.proofs.Reading.{accepted-has-row, accepted-entries, reads-written, states-read, written-length}
+use Rattle.model.proofs.Reading.{rewrites-same}
 
 -- ---- what an accepted book and a like book give
 

@@ -14,7 +14,8 @@ use Rattle.model.proofs.Tests.{Tells, tells-eqb, tells-and, tells-any, 
 use Rattle.model.proofs.Lists.{Distinct, map-in, distinct-length, distinct-shorter}
 use Rattle.model.proofs.GroupCases.{groupAt-first, groupAt-later, first-or-later, no-groups, fits-rest}
 use Rattle.model.proofs.GroupCases.{memberOf-first, memberOf-later}
-use Rattle.model.proofs.GroupCases.{lower, lower-cases, told-either, merged-either, merged-neither, groupsIn-kept, groupsIn-new}
+use Rattle.model.proofs.GroupCases.{lower, lower-cases, told-either, merged-either, merged-neither, groupsIn-kept}
+use Rattle.model.proofs.GroupCases.{groupsIn-new}
 use Rattle.model.proofs.Notions.{Fits}
 
 -- ---- the groups at the start

@@ -1,13 +1,12 @@
 -- What the table of a full joining admits: the rows, and a set of words of the class, and nothing that some set of the class
 -- that holds the rows does without. Assumes nothing.
 use mathlib.Core.Path.{_≡_, refl, sym, ap, _∙_, subst}
-use mathlib.Core.Logic.{_↔_}
 use mathlib.Core.Bool.{Bool, true, false, cond}
 use mathlib.Core.List.{List, [], _∷_, _++_, append-assoc, append-nil, List·Memᴰ as In}
-use Prim.Native.Nat.{ℕ, zero, suc, _+_, _-_, _≤_}
+use Prim.Native.Nat.{ℕ, _-_, _≤_}
 use native.Mathlib.Omega.{arith}
 use lib.Dec.{eqb}
-use lib.ListN.{length, take, drop, length-append, take-append-drop, length-drop}
+use lib.ListN.{length, take, drop, take-append-drop, length-drop}
 use lib.Seq.{length-take-le}
 use Rattle.model.specs.Fields.{Class}
 use Rattle.model.specs.Classes.{Word, fOf, TailsEqual, Contextual, Distinguishable, InClass}
@@ -15,10 +14,10 @@ use Rattle.model.specs.Joinings.{Transition, transition, transitionsOf, 
 use Rattle.model.specs.Tables.{admits}
 use Rattle.model.specs.Quotients.{statesOf}
 use Rattle.model.proofs.Tests.{Tells}
-use Rattle.model.proofs.Notions.{Tree, Fits, Walks, Ways, Closed, Inside, SameF, Deterministic, _▸_}
+use Rattle.model.proofs.Notions.{Walks, Ways, Inside, _▸_}
 use Rattle.model.proofs.Groups.{group-in, tells-accepts}
 use Rattle.model.proofs.Transitions.{transitions-in, walks-append, walks-split, walks-unique, walks-down}
-use Rattle.model.proofs.Rules.{Ruled, TwoPaths, full-equal}
+use Rattle.model.proofs.Rules.{Ruled, full-equal}
 use Rattle.model.proofs.Sound.{walks-ways}
 use Rattle.model.proofs.Complete.{group-f}
 use Rattle.model.proofs.Functions.{f-append, tails-closed, ways-tails}

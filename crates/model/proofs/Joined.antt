@@ -1,10 +1,10 @@
 -- Full joinings of a book's prefix tree, in any order and from any book with the same set of rows: they lie inside one another,
 -- so they have one table. And the joining law, by which a program may join in batches and in any order. Assumes nothing.
-use mathlib.Core.Path.{_≡_, refl, sym, ap, _∙_, subst}
+use mathlib.Core.Path.{_≡_, sym, ap, _∙_, subst}
 use mathlib.Core.Logic.{_↔_}
 use mathlib.Core.Bool.{Bool, true, false}
-use mathlib.Core.List.{List, [], _∷_, _++_, List·Memᴰ as In}
-use Prim.Native.Nat.{ℕ, zero, suc}
+use mathlib.Core.List.{List, [], _∷_, List·Memᴰ as In}
+use Prim.Native.Nat.{ℕ}
 use lib.Dec.{eqb}
 use Rattle.model.specs.Fields.{Class}
 use Rattle.model.specs.Classes.{Word}
@@ -20,7 +20,7 @@ use Rattle.model.proofs.Complete.{ker-closed, full-deterministic}
 use Rattle.model.proofs.Functions.{sameF-closed}
 use Rattle.model.proofs.Trees.{treeOf-tree, same-nodes}
 use Rattle.model.proofs.Ends.{joined-is-full-joining}
-use Rattle.model.proofs.Numbering.{SamePartition, numbering-law}
+use Rattle.model.proofs.Numbering.{numbering-law}
 
 -- ---- closed relations do not see the order of nodes and rows
 

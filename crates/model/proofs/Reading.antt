@@ -8,7 +8,8 @@ use native.Mathlib.Omega.{arith}
 use lib.ListN.{length, length-append}
 use Rattle.model.specs.Limits.{name-limit, state-limit, input-limit, when, firstOf, bad-numbering}
 use Rattle.model.specs.Fields.{file, table, readFields, readWith, default-class, accepted-file}
-use Rattle.model.specs.Tables.{State, fieldBytes, nameFields, classField, stateFields, stateBody, statesIn, tableBytes, isFirstMet}
+use Rattle.model.specs.Tables.{State, fieldBytes, nameFields, classField, stateFields, stateBody, statesIn, tableBytes}
+use Rattle.model.specs.Tables.{isFirstMet}
 use Rattle.model.specs.Calls.{bookOf, sizesFault, tableStates, tableFault, rewritten}
 use Rattle.model.specs.Claims.{Accepted, AllBytes}
 use Rattle.model.proofs.Writable.{Writable, arcCount}

@@ -12,7 +12,8 @@ use Rattle.model.specs.Classes.{Word}
 use Rattle.model.specs.Joinings.{Transition, transition, transitionsOf, groupsIn, forks, intoOne}
 use Rattle.model.specs.Joinings.{byContext, fOfGroup, byF, byRule, groupAccepts}
 use Rattle.model.specs.Joinings.{Step, step, isOpen, stepsBetween, openSteps, isFull}
-use Rattle.model.proofs.Tests.{Tells, tells-eqb, tells-same, tells-and, tells-or, tells-not, tells-by, tells-anyTwo, tells-isIn}
+use Rattle.model.proofs.Tests.{Tells, tells-eqb, tells-same, tells-and, tells-or, tells-not, tells-by, tells-anyTwo}
+use Rattle.model.proofs.Tests.{tells-isIn}
 use Rattle.model.proofs.Tests.{eq-dec}
 use Rattle.model.proofs.Lists.{in-map, in-flatMap, in-filterBy, filterBy-in}
 use Rattle.model.proofs.Groups.{in-groupsIn, groupsIn-in}

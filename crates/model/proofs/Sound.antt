@@ -8,7 +8,8 @@ use Prim.Native.Nat.{ℕ}
 use lib.Dec.{eqb}
 use Rattle.model.specs.Fields.{Class}
 use Rattle.model.specs.Classes.{Word}
-use Rattle.model.specs.Joinings.{Transition, transition, transitionsOf, apart, groupAt, merged, memberOf, groupAccepts, fOfGroup}
+use Rattle.model.specs.Joinings.{Transition, transition, transitionsOf, apart, groupAt, merged, memberOf, groupAccepts}
+use Rattle.model.specs.Joinings.{fOfGroup}
 use Rattle.model.specs.Joinings.{Step, isOpen, afterSteps, allOpen}
 use Rattle.model.proofs.Notions.{Tree, Fits, Walks, Ways, OneContext, Closed, Inside, _▸_}
 use Rattle.model.proofs.Groups.{apart-single, merged-fits, groupAt-merged, mergedTo-cases, member-of, tells-accepts}

@@ -1,24 +1,30 @@
 -- The worked days hold: everything that document 01's table of days, its notes and its listing say is computed by the
 -- definitions. One theorem, by computation; its line `unfolding` names every definition that computes. Assumes nothing.
 use mathlib.Core.Path.{_≡_, refl}
-use mathlib.Core.Bool.{Bool, true, false}
+use mathlib.Core.Bool.{true}
 use mathlib.Core.List.{flatMap}
 use Rattle.model.specs.Lists.{any, anyTwo, all, filterBy, numbersFrom, isIn, indexIn, same, hasRow, before, lastOr}
-use Rattle.model.specs.Fields.{nameOk, allBelow, above, nameFault, classFault, rowFault, stateFault, stateOk, arcsOk, fieldFault}
+use Rattle.model.specs.Fields.{nameOk, allBelow, above, nameFault, classFault, rowFault, stateFault, stateOk, arcsOk}
+use Rattle.model.specs.Fields.{fieldFault}
 use Rattle.model.specs.Fields.{withField, readFrom, readWith}
-use Rattle.model.specs.Tables.{fieldBytes, nameFields, classField, arcBytes, stateBody, stateFields, tableBytes, arcsIn, stateIn}
+use Rattle.model.specs.Tables.{fieldBytes, nameFields, classField, arcBytes, stateBody, stateFields, tableBytes, arcsIn}
+use Rattle.model.specs.Tables.{stateIn}
 use Rattle.model.specs.Tables.{statesIn, metByArcs, metByStates, isFirstMet, targetIn, walkFrom, walk, reachedState, admits}
 use Rattle.model.specs.Tables.{outcome, longestBeginning, nameSet, nextNames, nextCount}
 use Rattle.model.specs.Classes.{putName, seenSet, lastNames, fOf}
-use Rattle.model.specs.Joinings.{beginnings, withStates, withRows, treeOf, apart, groupAt, groupsIn, mergedTo, merged, memberOf}
-use Rattle.model.specs.Joinings.{groupAccepts, transitionsInto, transitionsOf, forks, routesFrom, afterSameArc, byContext, intoOne}
-use Rattle.model.specs.Joinings.{fOfGroup, byF, byRule, isOpen, stepsBetween, openSteps, isFull, afterSteps, allOpen, isFullJoining}
+use Rattle.model.specs.Joinings.{beginnings, withStates, withRows, treeOf, apart, groupAt, groupsIn, mergedTo, merged}
+use Rattle.model.specs.Joinings.{memberOf}
+use Rattle.model.specs.Joinings.{groupAccepts, transitionsInto, transitionsOf, forks, routesFrom, afterSameArc, byContext}
+use Rattle.model.specs.Joinings.{intoOne}
+use Rattle.model.specs.Joinings.{fOfGroup, byF, byRule, isOpen, stepsBetween, openSteps, isFull, afterSteps, allOpen}
+use Rattle.model.specs.Joinings.{isFullJoining}
 use Rattle.model.specs.Joinings.{joinFrom, joinedGroups}
 use Rattle.model.specs.Quotients.{putArc, arcsOutOf, metWith, metFrom, metGroups, renumbered, stateOf, statesOf, bookStates}
 use Rattle.model.specs.Quotients.{bookTable, tableAfter}
 use Rattle.model.specs.Calls.{bookOf, bookFault, joinsOf, tableOf, tableStates}
 use Rattle.model.specs.Listing.{digits, arcText, stateLine, stateLines, listing, refusalText, listingFault, listingOf}
-use Rattle.model.specs.WorkedDays.{sameRows, rowsOfLength, shortRows, acceptingIn, remarkHolds, dayHolds, isExample, exampleHolds}
+use Rattle.model.specs.WorkedDays.{sameRows, rowsOfLength, shortRows, acceptingIn, remarkHolds, dayHolds, isExample}
+use Rattle.model.specs.WorkedDays.{exampleHolds}
 use Rattle.model.specs.WorkedDays.{daysHold}
 
 pub worked-days-hold : daysHold ≡ true
