@@ -15,7 +15,7 @@ use Rattle.model.specs.Lists.{indexIn}
 use Rattle.model.specs.Tables.{Arc, arc, State, no-state, targetIn, Walk, walk-at, walkFrom, walk, reachedState, admits}
 use Rattle.model.specs.Joinings.{Transition, transition, transitionsOf, groupAt, groupAccepts}
 use Rattle.model.specs.Quotients.{arcsOutOf, metGroups, renumbered, stateOf, statesOf}
-use Rattle.model.proofs.Tests.{Tells, tells-and, tells-by, tells-eqb, eq-dec}
+use Rattle.model.proofs.Tests.{Tells, tells-and, tells-by, tells-eqb, tells-itself, eq-dec}
 use Rattle.model.proofs.Notions.{Tree, Fits, Walks, Deterministic}
 use Rattle.model.proofs.Transitions.{walks-unique}
 use Rattle.model.proofs.Arcs.{arcsOutOf-in, in-arcsOutOf}
@@ -206,11 +206,6 @@ tells-admits rows nodes groups tree fits det r =
     from-root : walkFrom states (indexIn root met) 0 r ≡ walkFrom states 0 0 r
     from-root = ap (λ (q : ℕ). walkFrom states q 0 r) (met-root nodes groups tree fits)
 
-    accepts-told :
-        Tells (getD states (walkFrom states 0 0 r .at-state) no-state .accepts)
-        (getD states (walkFrom states 0 0 r .at-state) no-state .accepts ≡ true)
-    accepts-told = record { fact = λ e. e; test = λ e. e }
-
     go : Walked ts states met root 0 r → Tells (admitsBy states r (walkFrom states 0 0 r)) Goes
     go (all-taken y w m e) =
         let all : 0 + length r ≡ length r = omega arith in
@@ -226,6 +221,6 @@ tells-admits rows nodes groups tree fits det r =
     go (stopped none few) =
         let fewer : walkFrom states 0 0 r .taken < 0 + length r = subst (λ (v : Walk). v .taken < 0 + length r) from-root few in
         tells-by
-        (tells-and (tells-eqb (walkFrom states 0 0 r .taken) (length r)) accepts-told)
+        (tells-and (tells-eqb (walkFrom states 0 0 r .taken) (length r)) (tells-itself (getD states (walkFrom states 0 0 r .at-state) no-state .accepts)))
         (λ both. let taken : walkFrom states 0 0 r .taken ≡ length r = both .0 in let z : ⊥ = omega arith in absurd z)
         (λ h. absurd (none (h .0) (h .1)))

@@ -2,7 +2,7 @@
 -- numbers of its names, and at least one of them. Assumes nothing.
 use mathlib.Core.Path.{_≡_, refl, sym, subst}
 use mathlib.Core.Logic.{⊎-elim}
-use mathlib.Core.Bool.{true, false≢true}
+use mathlib.Core.Bool.{true, false≢true, and-eq-true-iff}
 use mathlib.Core.List.{List, [], _∷_, _++_, append-nil, append-assoc, List·Memᴰ as In, List·Memᴰ·head as here}
 use mathlib.Core.List.{List·Memᴰ·tail as there}
 use mathlib.Core.List.{List·Memᴰ·not-nil, List·Memᴰ·cases-cons, List·Memᴰ·append-cases, List·Memᴰ·eq-of-singleton}
@@ -17,7 +17,7 @@ use Rattle.model.specs.Joinings.{treeOf}
 use Rattle.model.specs.Calls.{bookOf, bookFault}
 use Rattle.model.specs.Claims.{Accepted}
 use Rattle.model.proofs.Tests.{Tells, tells-by, tells-and, tells-ltb}
-use Rattle.model.proofs.FieldLaws.{NameFits, RowFits, Fitting, a-name, a-class, a-row, a-state, fitting, first-of, both}
+use Rattle.model.proofs.FieldLaws.{NameFits, RowFits, Fitting, a-name, a-class, a-row, a-state, fitting, first-of}
 use Rattle.model.proofs.FieldLaws.{ClassOk, class-parts}
 use Rattle.model.proofs.Turns.{read-keeps}
 
@@ -93,7 +93,7 @@ with-row :
     (f : File) (body : List ℕ) → 1 ≤ f .stage → RowFits (length (f .names)) (f .items) body → BookOk f → BookOk (withField f 3 body)
 unfolding withField
 with-row f body high fits ok =
-    let below = both (leb (length body) row-limit) (allBelow (length (f .names)) body) (fits .row-ok) .1 in
+    let below = and-eq-true-iff (leb (length body) row-limit) (allBelow (length (f .names)) body) .0 (fits .row-ok) .1 in
     record {
       names-ok = ok .names-ok;
       named = λ h. ok .named high;

@@ -2,7 +2,7 @@
 -- round. Assumes nothing.
 use mathlib.Core.Path.{_≡_, refl, ap, subst}
 use mathlib.Core.Logic.{_⊎_, inl, inr, ⊎-elim}
-use mathlib.Core.Bool.{Bool, true, false, _&&_, not, false≢true}
+use mathlib.Core.Bool.{Bool, true, false, not, and-eq-true-iff}
 use mathlib.Core.List.{List}
 use Prim.Native.Nat.{ℕ, zero, suc, _≤_, _<_}
 use native.Mathlib.Omega.{arith}
@@ -19,10 +19,6 @@ use Rattle.model.proofs.Tests.{tells-eqb, tells-leb, tells-and, tells-o
 pub first-of : (a b : ℕ) → firstOf a b ≡ 0 → (a ≡ 0) × (b ≡ 0)
 first-of zero b e = (refl, e)
 first-of (suc a) b e = let z : ⊥ = omega arith in absurd z
-
-pub both : (a b : Bool) → (a && b) ≡ true → (a ≡ true) × (b ≡ true)
-both true b e = (refl, e)
-both false b e = absurd (false≢true e)
 
 when-not : (t : Bool) (n : ℕ) → when (not t) (suc n) ≡ 0 → t ≡ true
 when-not true n e = refl
@@ -81,7 +77,7 @@ ClassOk c = settingsOk (c .kind) (c .first) (c .second) ≡ true
 
 pub class-parts : (body : List ℕ) → classOk body ≡ true → (length body ≡ 3) × ClassOk (classFrom body)
 class-parts body ok =
-    let p = both (eqb (length body) 3) (settingsOk (getD body 0 0) (getD body 1 0) (getD body 2 0)) ok in
+    let p = and-eq-true-iff (eqb (length body) 3) (settingsOk (getD body 0 0) (getD body 1 0) (getD body 2 0)) .0 ok in
     (eqb-true (length body) 3 (p .0), p .1)
 
 pub row-fits : (f : File) (body : List ℕ) → rowFault f body ≡ 0 → RowFits (length (f .names)) (f .items) body

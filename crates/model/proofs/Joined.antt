@@ -2,7 +2,7 @@
 -- so they have one table. And the joining law, by which a program may join in batches and in any order. Assumes nothing.
 use mathlib.Core.Path.{_≡_, sym, ap, _∙_, subst}
 use mathlib.Core.Logic.{_↔_}
-use mathlib.Core.Bool.{Bool, true, false}
+use mathlib.Core.Bool.{true, false, and-eq-true-iff}
 use mathlib.Core.List.{List, [], _∷_, List·Memᴰ as In}
 use Prim.Native.Nat.{ℕ}
 use lib.Dec.{eqb}
@@ -11,7 +11,6 @@ use Rattle.model.specs.Classes.{Word}
 use Rattle.model.specs.Joinings.{Transition, transition, transitionsOf, groupAt, treeOf, apart, Step, isFull}
 use Rattle.model.specs.Joinings.{afterSteps, allOpen, isFullJoining, joinedGroups}
 use Rattle.model.specs.Quotients.{statesOf}
-use Rattle.model.proofs.Tests.{Tells, tells-and}
 use Rattle.model.proofs.Notions.{Tree, Fits, Ways, OneContext, Closed, Inside, Ker, SameF, Deterministic, _▸_}
 use Rattle.model.proofs.Groups.{apart-fits}
 use Rattle.model.proofs.Transitions.{transitions-in}
@@ -83,15 +82,12 @@ joining-joined c rows steps e =
     let nodes = treeOf rows in
     let start : Fits nodes (apart nodes) = apart-fits nodes in
     let parts : (allOpen c rows nodes (apart nodes) steps ≡ true) × (isFull c rows nodes (afterSteps (apart nodes) steps) ≡ true) =
-    tells-and (itself (allOpen c rows nodes (apart nodes) steps)) (itself (isFull c rows nodes (afterSteps (apart nodes) steps))) .fact e in
+    and-eq-true-iff (allOpen c rows nodes (apart nodes) steps) (isFull c rows nodes (afterSteps (apart nodes) steps)) .0 e in
     record {
       fits = after-fits nodes (apart nodes) steps start;
       full = parts .1;
       inside = λ R closed. sound c rows nodes R (treeOf-tree rows) closed (apart nodes) steps start (parts .0) (apart-inside c rows nodes R closed);
     }
-  where
-    itself : (b : Bool) → Tells b (b ≡ true)
-    itself b = record { fact = λ x. x; test = λ x. x }
 
 pub joinedGroups-joined : (c : Class) (rows : List Word) → Joined c rows (joinedGroups c rows)
 joinedGroups-joined c rows =

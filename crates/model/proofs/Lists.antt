@@ -3,26 +3,17 @@
 use mathlib.Core.Path.{_≡_, refl, sym, ap, _∙_, subst}
 use mathlib.Core.Logic.{_⊎_, inl, inr, ⊎-elim}
 use mathlib.Core.Bool.{Bool, true, false, cond, false≢true}
-use mathlib.Core.List.{List, [], _∷_, map, flatMap, List·Memᴰ as In, List·Memᴰ·head as here, List·Memᴰ·tail as there}
-use mathlib.Core.List.{List·Memᴰ·not-nil, List·Memᴰ·cases-cons, Memᴰ·cast, Memᴰ·append-left, Memᴰ·append-right}
-use mathlib.Core.List.{List·Memᴰ·append-cases}
+use mathlib.Core.List.{List, [], _∷_, _++_, map, flatMap, List·Memᴰ as In, List·Memᴰ·head as here, List·Memᴰ·tail as there}
+use mathlib.Core.List.{List·Memᴰ·not-nil, List·Memᴰ·cases-cons, List·Memᴰ·append-cases, List·Memᴰ·eq-of-singleton}
+use mathlib.Core.List.{Memᴰ·cast, Memᴰ·of-map, Memᴰ·append-left, Memᴰ·append-right}
 use Prim.Native.Nat.{suc, _≤_, _<_}
 use native.Mathlib.Omega.{arith}
 use lib.ListN.{length}
 use Rattle.model.specs.Lists.{filterBy}
 
 module _ {A B : Type 0} where
-  pub in-map : (f : A → B) {x : A} {xs : List A} → In x xs → In (f x) (map f xs)
-  in-map f (here e) = here (ap f e)
-  in-map f (there m) = there (in-map f m)
-
   pub map-in : (f : A → B) (xs : List A) {y : B} → In y (map f xs) → (x : A) × In x xs × (y ≡ f x)
-  map-in f [] m = absurd (List·Memᴰ·not-nil m)
-  map-in f (x ∷ xs) m = go (map-in f xs) (List·Memᴰ·cases-cons m)
-    where
-      go : {y : B} → (In y (map f xs) → (z : A) × In z xs × (y ≡ f z)) → (y ≡ f x) ⊎ In y (map f xs) → (z : A) × In z (x ∷ xs) × (y ≡ f z)
-      go again (inl e) = (x, here refl, e)
-      go again (inr n) = let r = again n in (r .0, there (r .1), r .2)
+  map-in f xs m = let r = Memᴰ·of-map f xs m in (r .0, r .1, sym (r .2))
 
   pub in-flatMap : (f : A → List B) {x : A} {y : B} (xs : List A) → In x xs → In y (f x) → In y (flatMap f xs)
   unfolding flatMap
@@ -64,6 +55,13 @@ module _ {A : Type 0} where
   abbrev pub Distinct : List A → Type 0
   Distinct [] = Unit {0}
   Distinct (x ∷ xs) = (In x xs → ⊥) × Distinct xs
+
+  pub distinct-snoc : (xs : List A) (y : A) → Distinct xs → (In y xs → ⊥) → Distinct (xs ++ (y ∷ []))
+  distinct-snoc [] y d out = (λ m. List·Memᴰ·not-nil m, tt)
+  distinct-snoc (x ∷ xs) y d out = (
+    λ m. ⊎-elim (λ n. d .0 n) (λ n. out (here (sym (List·Memᴰ·eq-of-singleton n)))) (List·Memᴰ·append-cases xs m),
+    distinct-snoc xs y (d .1) (λ n. out (there n)),
+  )
 
   -- the list without one occurrence of an element
   without : {x : A} (ys : List A) → In x ys → (zs : List A) × (length ys ≡ suc (length zs)) × ((z : A) → In z ys → (z ≡ x → ⊥) → In z zs)

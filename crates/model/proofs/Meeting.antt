@@ -17,7 +17,7 @@ use Rattle.model.specs.Tables.{Arc}
 use Rattle.model.specs.Joinings.{Transition, transition}
 use Rattle.model.specs.Quotients.{arcsOutOf, metWith, metFrom}
 use Rattle.model.proofs.Tests.{tells-isIn, not-told, eq-dec}
-use Rattle.model.proofs.Lists.{Distinct}
+use Rattle.model.proofs.Lists.{Distinct, distinct-snoc}
 use Rattle.model.proofs.Arcs.{arcsOutOf-in}
 
 -- ---- more groups met
@@ -55,13 +55,6 @@ grown-by P Q xs ys f r =
       distinct = r .distinct;
       whence = λ g m. ⊎-elim (λ n. inl n) (λ p. inr (f g p)) (r .whence g m);
     }
-
-distinct-snoc : (xs : List ℕ) (y : ℕ) → Distinct xs → (In y xs → ⊥) → Distinct (xs ++ (y ∷ []))
-distinct-snoc [] y d out = (λ m. List·Memᴰ·not-nil m, tt)
-distinct-snoc (x ∷ xs) y d out = (
-  λ m. ⊎-elim (λ n. d .0 n) (λ n. out (here (sym (List·Memᴰ·eq-of-singleton n)))) (List·Memᴰ·append-cases xs m),
-  distinct-snoc xs y (d .1) (λ n. out (there n)),
-)
 
 -- one group more, if it is new
 abbrev pub withOne : List ℕ → ℕ → List ℕ

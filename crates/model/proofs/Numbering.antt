@@ -3,7 +3,6 @@
 -- arcs, first-met order, numbers and acceptance of corresponding groups agree. Assumes nothing.
 use mathlib.Core.Path.{_≡_, refl, sym, ap, ap₂, _∙_, subst}
 use mathlib.Core.Logic.{_↔_}
-use mathlib.Core.Bool.{Bool, true, false}
 use mathlib.Core.List.{List, [], _∷_, List·Memᴰ as In, Forall₂ as Paired, Forall₂·nil as none, Forall₂·cons as pair}
 use Prim.Native.Nat.{ℕ}
 use lib.Dec.{eqb}
@@ -12,7 +11,7 @@ use Rattle.model.specs.Classes.{Word}
 use Rattle.model.specs.Tables.{Arc, arc, state}
 use Rattle.model.specs.Joinings.{Transition, transition, transitionsOf, groupAt}
 use Rattle.model.specs.Quotients.{arcsOutOf, metFrom, metGroups, stateOf, statesOf}
-use Rattle.model.proofs.Tests.{Tells, tells-eqb}
+use Rattle.model.proofs.Tests.{tells-eqb, same-tests}
 use Rattle.model.proofs.Lists.{same-length}
 use Rattle.model.proofs.Notions.{Tree, Fits, Inside, Ker, Deterministic, _▸_}
 use Rattle.model.proofs.Groups.{tells-accepts}
@@ -32,16 +31,6 @@ pub record SamePartition (rows rows′ nodes nodes′ : List Word) (groups group
   pub same-rows : (r : Word) → In r rows ↔ In r rows′
   pub inside : Inside nodes groups (Ker nodes′ groups′)
   pub inside′ : Inside nodes′ groups′ (Ker nodes groups)
-
--- tests of facts that follow from each other are equal
-same-tests : {b c : Bool} {P Q : Type 0} → Tells b P → Tells c Q → (P → Q) → (Q → P) → b ≡ c
-same-tests {b} {c} {P} {Q} s t f g = go b c refl refl
-  where
-    go : (x y : Bool) → b ≡ x → c ≡ y → b ≡ c
-    go true true d e = d ∙ sym e
-    go false false d e = d ∙ sym e
-    go true false d e = d ∙ sym (t .test (f (s .fact d)))
-    go false true d e = s .test (g (t .fact e)) ∙ sym e
 
 -- the descriptions the other way round
 swapped :

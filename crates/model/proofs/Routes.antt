@@ -4,7 +4,7 @@ use mathlib.Core.Path.{_≡_, refl, sym, ap, _∙_, subst}
 use mathlib.Core.Logic.{⊎-elim}
 use mathlib.Core.Bool.{Bool, true, false, false≢true}
 use mathlib.Core.List.{List, [], _∷_, _++_, map, List·Memᴰ as In, List·Memᴰ·head as here, List·Memᴰ·tail as there}
-use mathlib.Core.List.{List·Memᴰ·not-nil, List·Memᴰ·cases-cons, List·Memᴰ·eq-of-singleton, Memᴰ·cast}
+use mathlib.Core.List.{List·Memᴰ·not-nil, List·Memᴰ·cases-cons, List·Memᴰ·eq-of-singleton, Memᴰ·cast, Memᴰ·map}
 use Prim.Native.Nat.{ℕ, zero, suc, _+_, _-_, _≤_, _<_}
 use native.Mathlib.Omega.{arith}
 use lib.Dec.{eqb}
@@ -13,7 +13,7 @@ use Rattle.model.specs.Classes.{Word}
 use Rattle.model.specs.Lists.{numbersFrom}
 use Rattle.model.specs.Joinings.{Transition, transition, Route, route, routesFrom, afterSameArc}
 use Rattle.model.proofs.Tests.{Tells, tells-eqb, tells-and, tells-any, tells-by, eq-dec}
-use Rattle.model.proofs.Lists.{in-map, map-in, in-flatMap, flatMap-in}
+use Rattle.model.proofs.Lists.{map-in, in-flatMap, flatMap-in}
 use Rattle.model.proofs.Notions.{Walks}
 
 -- ---- numbers in succession
@@ -115,7 +115,7 @@ module _ (ts : List Transition) where
             | true ↦ map (λ (r : Route). route (a ∷ r .names) (g ∷ r .groups)) (routesFrom ts n z)
             | false ↦ []
           ])
-      go true e = in-map (λ (r : Route). route (a ∷ r .names) (g ∷ r .groups)) k
+      go true e = Memᴰ·map (λ (r : Route). route (a ∷ r .names) (g ∷ r .groups)) k
       go false e = absurd (false≢true e)
 
   -- a path by these names whose group after arc i is x

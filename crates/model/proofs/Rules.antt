@@ -2,7 +2,7 @@
 use mathlib.Core.Path.{_≡_, refl, sym, _∙_}
 use mathlib.Core.Logic.{_⊎_, inl, inr, ⊎-elim}
 use mathlib.Core.Bool.{Bool, true, false, _||_, true≢false, false≢true}
-use mathlib.Core.List.{List, [], _∷_, map, List·Memᴰ as In, Memᴰ·cast, List·Memᴰ·not-nil}
+use mathlib.Core.List.{List, [], _∷_, map, List·Memᴰ as In, Memᴰ·cast, Memᴰ·map, List·Memᴰ·not-nil}
 use Prim.Native.Nat.{ℕ}
 use native.Mathlib.Omega.{arith}
 use lib.Dec.{eqb}
@@ -14,8 +14,8 @@ use Rattle.model.specs.Joinings.{byContext, fOfGroup, byF, byRule, group
 use Rattle.model.specs.Joinings.{Step, step, isOpen, stepsBetween, openSteps, isFull}
 use Rattle.model.proofs.Tests.{Tells, tells-eqb, tells-same, tells-and, tells-or, tells-not, tells-by, tells-anyTwo}
 use Rattle.model.proofs.Tests.{tells-isIn}
-use Rattle.model.proofs.Tests.{eq-dec}
-use Rattle.model.proofs.Lists.{in-map, in-flatMap, in-filterBy, filterBy-in}
+use Rattle.model.proofs.Tests.{tells-itself, eq-dec}
+use Rattle.model.proofs.Lists.{in-flatMap, in-filterBy, filterBy-in}
 use Rattle.model.proofs.Groups.{in-groupsIn, groupsIn-in}
 use Rattle.model.proofs.Contexts.{paths-from}
 pub use Rattle.model.proofs.Contexts.{TwoPaths, tells-context}
@@ -91,9 +91,6 @@ tells-intoOne ts x y =
       Memᴰ·cast (λ i. transition (sym from-y i) (same-name i) (same-to i)) n,
     )
 
-tells-itself : (b : Bool) → Tells b (b ≡ true)
-tells-itself b = record { fact = λ e. e; test = λ e. e }
-
 module _ (c : Class) (rows nodes : List Word) (groups : List ℕ) (x y : ℕ) where
   -- equal f, and both accept or one name leads from both into the same group
   abbrev ByF : Type 0
@@ -166,7 +163,7 @@ tells-open c rows nodes groups x y =
 -- every step between two of the groups is tried
 in-stepsBetween : (xs ys : List ℕ) (x y : ℕ) → In x xs → In y ys → In (step x y) (stepsBetween xs ys)
 unfolding stepsBetween
-in-stepsBetween xs ys x y m n = in-flatMap (λ (z : ℕ). map (step z) ys) xs m (in-map (step x) n)
+in-stepsBetween xs ys x y m n = in-flatMap (λ (z : ℕ). map (step z) ys) xs m (Memᴰ·map (step x) n)
 
 -- the open steps are those that are open, and no other
 pub in-openSteps :

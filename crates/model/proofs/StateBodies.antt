@@ -1,7 +1,7 @@
 -- State fields' bytes: what is written for a state is read as that state, has one byte and three for each arc, and passes the
 -- test where arcs ascend; and bytes that pass the test are written again as they stood. Assumes nothing.
 use mathlib.Core.Path.{_≡_, refl, ap, ap₂}
-use mathlib.Core.Bool.{Bool, true, false, _&&_, false≢true}
+use mathlib.Core.Bool.{Bool, true, false, _&&_, false≢true, and-eq-true-iff}
 use mathlib.Core.List.{List, [], _∷_, map, flatMap, List·Memᴰ as In, List·Memᴰ·head as here, List·Memᴰ·tail as there}
 use Prim.Native.Nat.{ℕ, zero, suc, _+_, _*_, _/_, _%_, _≤_, _<_}
 use native.Mathlib.Omega.{arith}
@@ -12,7 +12,6 @@ use Rattle.model.specs.Limits.{when}
 use Rattle.model.specs.Fields.{arcsOk, stateOk}
 use Rattle.model.specs.Tables.{Arc, arc, State, state, arcBytes, stateBody, arcsIn, stateIn, statesIn}
 use Rattle.model.proofs.Arcs.{Ascending}
-use Rattle.model.proofs.FieldLaws.{both}
 
 pub two-bytes : (n : ℕ) → 256 * (n / 256) + n % 256 ≡ n
 two-bytes n = omega arith
@@ -87,8 +86,8 @@ arcs-rewritten (suc f) n next [] h bytes ok = refl
 arcs-rewritten (suc f) n next (a ∷ []) h bytes ok = absurd (false≢true ok)
 arcs-rewritten (suc f) n next (a ∷ (x ∷ [])) h bytes ok = absurd (false≢true ok)
 arcs-rewritten (suc f) n next (a ∷ (x ∷ (y ∷ s))) h bytes ok =
-    let p = both (leb 2 (length (x ∷ (y ∷ s)))) ((ltb a n && leb next a) && arcsOk f n (suc a) s) ok in
-    let q = both (ltb a n && leb next a) (arcsOk f n (suc a) s) (p .1) in
+    let p = and-eq-true-iff (leb 2 (length (x ∷ (y ∷ s)))) ((ltb a n && leb next a) && arcsOk f n (suc a) s) .0 ok in
+    let q = and-eq-true-iff (ltb a n && leb next a) (arcsOk f n (suc a) s) .0 (p .1) in
     let more = arcs-rewritten f n (suc a) s (omega arith) (bytes .1 .1 .1) (q .1) in
     let low : y < 256 = bytes .1 .1 .0 in
     let high-byte : (256 * x + y) / 256 ≡ x = omega arith in
@@ -105,6 +104,6 @@ pub body-rewritten : (n : ℕ) (body : List ℕ) → Bytes body → stateOk n bo
 unfolding stateBody stateIn stateOk
 body-rewritten n [] bytes ok = absurd (false≢true ok)
 body-rewritten n (b ∷ s) bytes ok =
-    let p = both (leb b 1) (arcsOk (length s) n 0 s) ok in
+    let p = and-eq-true-iff (leb b 1) (arcsOk (length s) n 0 s) .0 ok in
     ap₂ (λ (x : ℕ) (xs : List ℕ). x ∷ xs) (accepts-rewritten b (leb-true b 1 (p .0)))
     (arcs-rewritten (length s) n 0 s (omega arith) (bytes .1) (p .1))

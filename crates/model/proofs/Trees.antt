@@ -5,12 +5,13 @@ use mathlib.Core.Logic.{_⊎_, inl, inr, ⊎-elim}
 use mathlib.Core.Bool.{Bool, true, false, cond}
 use mathlib.Core.List.{List, [], _∷_, _++_, map, append-assoc, append-nil, append-ne-nil-of-right-ne-nil, cons≢nil}
 use mathlib.Core.List.{List·Memᴰ as In, List·Memᴰ·head as here, List·Memᴰ·tail as there, List·Memᴰ·not-nil, List·Memᴰ·cases-cons}
-use mathlib.Core.List.{Memᴰ·cast, Memᴰ·append-left, Memᴰ·append-right, List·Memᴰ·append-cases, List·Memᴰ·eq-of-singleton}
+use mathlib.Core.List.{Memᴰ·cast, Memᴰ·map, Memᴰ·append-left, Memᴰ·append-right, List·Memᴰ·append-cases}
+use mathlib.Core.List.{List·Memᴰ·eq-of-singleton}
 use Rattle.model.specs.Lists.{hasRow}
 use Rattle.model.specs.Classes.{Word}
 use Rattle.model.specs.Joinings.{beginnings, withStates, withRows, treeOf}
 use Rattle.model.proofs.Tests.{tells-hasRow, not-told}
-use Rattle.model.proofs.Lists.{Distinct, in-map, map-in}
+use Rattle.model.proofs.Lists.{Distinct, distinct-snoc, map-in}
 use Rattle.model.proofs.Notions.{Tree, _▸_}
 
 -- the word begins a row
@@ -23,7 +24,7 @@ pub in-beginnings : (w v : Word) → In w (beginnings (w ++ v))
 unfolding beginnings
 in-beginnings [] [] = here refl
 in-beginnings [] (x ∷ v) = here refl
-in-beginnings (x ∷ w) v = there (in-map (λ (u : Word). x ∷ u) (in-beginnings w v))
+in-beginnings (x ∷ w) v = there (Memᴰ·map (λ (u : Word). x ∷ u) (in-beginnings w v))
 
 pub beginnings-in : (row w : Word) → In w (beginnings row) → (v : Word) × (w ++ v ≡ row)
 unfolding beginnings
@@ -74,13 +75,6 @@ extends-by s f g =
       distinct = s .distinct;
     }
 
-distinct-append : (nodes : List Word) (w : Word) → Distinct nodes → (In w nodes → ⊥) → Distinct (nodes ++ (w ∷ []))
-distinct-append [] w d out = (List·Memᴰ·not-nil, tt)
-distinct-append (u ∷ nodes) w d out = (
-  λ m. ⊎-elim (d .0) (λ n. out (here (sym (List·Memᴰ·eq-of-singleton n)))) (List·Memᴰ·append-cases nodes m),
-  distinct-append nodes w (d .1) (λ n. out (there n)),
-)
-
 extends-one : (nodes : List Word) (w : Word) → Extends nodes (λ u. u ≡ w) (cond (hasRow w nodes) nodes (nodes ++ (w ∷ [])))
 extends-one nodes w = go (hasRow w nodes) refl
   where
@@ -91,7 +85,7 @@ extends-one nodes w = go (hasRow w nodes) refl
           kept = λ u m. Memᴰ·append-left (w ∷ []) m;
           added = λ u p. Memᴰ·append-right nodes (here p);
           origin = λ u m. ⊎-elim (λ n. inl n) (λ n. inr (List·Memᴰ·eq-of-singleton n)) (List·Memᴰ·append-cases nodes m);
-          distinct = λ d. distinct-append nodes w d (not-told (tells-hasRow w nodes) e);
+          distinct = λ d. distinct-snoc nodes w d (not-told (tells-hasRow w nodes) e);
         }
 
 withStates-extends : (nodes ws : List Word) → Extends nodes (λ u. In u ws) (withStates nodes ws)

@@ -1,7 +1,7 @@
 -- How many bytes written names and states take: a name at most 35, a state 4 and 3 for each of its arcs; and names that are
 -- allowed are at most 64. Assumes nothing.
 use mathlib.Core.Path.{_≡_, refl}
-use mathlib.Core.Bool.{true, _&&_}
+use mathlib.Core.Bool.{true, _&&_, and-eq-true-iff}
 use mathlib.Core.List.{List, [], _∷_, _++_, flatMap}
 use Prim.Native.Nat.{ℕ, _+_, _*_, _≤_, _<_}
 use native.Mathlib.Omega.{arith}
@@ -13,7 +13,6 @@ use Rattle.model.specs.Limits.{name-limit, name-bytes}
 use Rattle.model.specs.Fields.{nameOk, startsName, continuesName}
 use Rattle.model.specs.Tables.{State, fieldBytes, nameFields, stateFields, stateBody}
 use Rattle.model.proofs.Writable.{arcCount}
-use Rattle.model.proofs.FieldLaws.{both}
 use Rattle.model.proofs.StateBodies.{body-length}
 use Rattle.model.proofs.Books.{NamesOk}
 
@@ -26,7 +25,7 @@ unfolding nameOk
 name-length [] ok = omega arith
 name-length (b ∷ bs) ok =
     let n = length (b ∷ bs) in
-    leb-true n name-bytes (both (leb n name-bytes) (startsName b && all continuesName bs) ok .0)
+    leb-true n name-bytes (and-eq-true-iff (leb n name-bytes) (startsName b && all continuesName bs) .0 ok .0)
 
 pub name-fields-length : (names more : List (List ℕ)) → NamesOk names more → length (nameFields more) ≤ (3 + name-bytes) * length more
 unfolding nameFields flatMap
