@@ -10,9 +10,8 @@ use Rattle.model.specs.Classes.{Word, fOf}
 use Rattle.model.specs.Joinings.{transition, transitionsOf, groupAt, memberOf, fOfGroup, isFull}
 use Rattle.model.proofs.Notions.{Tree, Fits, Walks, Ways, OneContext, Closed, Inside, Ker, SameF, Deterministic, _▸_}
 use Rattle.model.proofs.Groups.{group-in, member-of, tells-accepts}
-use Rattle.model.proofs.Transitions.{in-transitions}
+use Rattle.model.proofs.Transitions.{in-transitions, target-in}
 use Rattle.model.proofs.Rules.{Ruled, forked, by-context, by-ends, by-back, TwoPaths, full-equal}
-use Rattle.model.proofs.Sound.{arc-node}
 
 -- an arc of a related node leaves the node's own group
 arc-from :
@@ -45,12 +44,8 @@ pub full-deterministic :
     (c : Class) (rows nodes : List Word) (groups : List ℕ) → Tree nodes → Fits nodes groups →
     isFull c rows nodes groups ≡ true → Deterministic (transitionsOf nodes groups)
 full-deterministic c rows nodes groups tree fits full x a y z m n =
-    full-equal c rows nodes groups full y z (entered y m) (entered z n) (forked x a m n)
-  where
-    entered : (g : ℕ) → In (transition x a g) (transitionsOf nodes groups) → In g groups
-    entered g k =
-        let r = arc-node nodes groups tree x a g k in
-        subst (λ (h : ℕ). In h groups) (r .4) (group-in nodes groups (r .0 ▸ a) fits (r .2))
+    full-equal c rows nodes groups full y z (target-in nodes groups fits x a y m) (target-in nodes groups fits x a z n)
+    (forked x a m n)
 
 module _ (c : Class) (rows nodes : List Word) (groups : List ℕ) (fits : Fits nodes groups)
     (full : isFull c rows nodes groups ≡ true) where

@@ -13,13 +13,13 @@ use borrow.Author.Tests.{eq-eqb, ne-eqb}
 use Rattle.model.specs.Classes.{Word}
 use Rattle.model.specs.Lists.{indexIn}
 use Rattle.model.specs.Tables.{arc}
-use Rattle.model.specs.Joinings.{Transition, transition, transitionsOf, groupAt, groupsIn, memberOf}
+use Rattle.model.specs.Joinings.{transition, transitionsOf, groupAt, groupsIn, memberOf}
 use Rattle.model.specs.Quotients.{arcsOutOf, metGroups, stateOf, statesOf}
 use Rattle.model.proofs.Tests.{eq-dec}
 use Rattle.model.proofs.Lists.{Distinct, distinct-length, same-length}
-use Rattle.model.proofs.Notions.{Tree, Fits, Deterministic, Walks, _▸_}
+use Rattle.model.proofs.Notions.{Tree, Fits, Deterministic, Walks}
 use Rattle.model.proofs.Groups.{group-in, member-of, in-groupsIn, groupsIn-in, groupsIn-distinct}
-use Rattle.model.proofs.Transitions.{transitions-in, walks-down}
+use Rattle.model.proofs.Transitions.{target-in, walks-down}
 use Rattle.model.proofs.Arcs.{in-arcsOutOf}
 use Rattle.model.proofs.Meeting.{MetUpTo, look-all}
 
@@ -96,10 +96,16 @@ module _ (nodes : List Word) (groups : List ℕ) (tree : Tree nodes) (fits : Fit
     where
       go : (g ≡ groupAt nodes groups []) ⊎ ((x a : ℕ) × In (transition x a g) (transitionsOf nodes groups)) → In g groups
       go (inl e) = Memᴰ·cast e (group-in nodes groups [] fits (tree .root))
-      go (inr t) =
-          let r = transitions-in nodes groups (transition (t .0) (t .1) g) (t .2) in
-          Memᴰ·cast (ap (λ (z : Transition). z .to) (r .3)) (group-in nodes groups (r .0 ▸ r .1) fits (r .2))
+      go (inr t) = target-in nodes groups fits (t .0) (t .1) g (t .2)
 
+  -- so there are no more than nodes
+  pub met-few : length (metGroups nodes groups) ≤ length nodes
+  met-few =
+      let few : length (metGroups nodes groups) ≤ length groups = distinct-length (metGroups nodes groups) groups met-distinct met-in in
+      let size : length groups ≡ length nodes = fits .lengths in
+      omega arith
+
+  -- the target of an arc of a group met is met
   pub met-closed :
       Deterministic (transitionsOf nodes groups) → (x a y : ℕ) → In x (metGroups nodes groups) →
       In (transition x a y) (transitionsOf nodes groups) → In y (metGroups nodes groups)
@@ -107,8 +113,7 @@ module _ (nodes : List Word) (groups : List ℕ) (tree : Tree nodes) (fits : Fit
       let met : List ℕ = metGroups nodes groups in
       let place = nth-of-index met x m in
       let inside : indexIn x met < length met = place .0 in
-      let few : length met ≤ length groups = distinct-length met groups met-distinct met-in in
-      let size : length groups ≡ length nodes = fits .lengths in
+      let few : length met ≤ length nodes = met-few in
       met-all-looked-at .closed (indexIn x met) (omega arith) inside (arc a y)
       (subst (λ (g : ℕ). In (arc a y) (arcsOutOf g (transitionsOf nodes groups))) (sym (place .1))
       (in-arcsOutOf x a y (transitionsOf nodes groups) det n))
@@ -129,13 +134,16 @@ module _ (nodes : List Word) (groups : List ℕ) (tree : Tree nodes) (fits : Fit
       (walked-met det (groupAt nodes groups []) (groupAt nodes groups member) member root-met
       (walks-down nodes groups tree [] member (r .0)))
 
+  pub states-length : (rows : List Word) → length (statesOf rows nodes groups) ≡ length (metGroups nodes groups)
+  unfolding statesOf
+  states-length rows = length-map (metGroups nodes groups) (stateOf rows nodes groups (metGroups nodes groups))
+
   -- so the number of states is the number of groups
   pub states-are-groups :
       Deterministic (transitionsOf nodes groups) → (rows : List Word) →
       length (statesOf rows nodes groups) ≡ length (groupsIn groups)
-  unfolding statesOf
   states-are-groups det rows =
-      length-map (metGroups nodes groups) (stateOf rows nodes groups (metGroups nodes groups))
+      states-length rows
       ∙ same-length (metGroups nodes groups) (groupsIn groups) met-distinct (groupsIn-distinct groups)
       (λ g m. in-groupsIn groups g (met-in g m))
       (λ g m. all-met det g (groupsIn-in groups g m))

@@ -16,7 +16,7 @@ use Rattle.model.specs.Quotients.{statesOf}
 use Rattle.model.proofs.Tests.{Tells}
 use Rattle.model.proofs.Notions.{Walks, Ways, Inside, _▸_}
 use Rattle.model.proofs.Groups.{group-in, tells-accepts}
-use Rattle.model.proofs.Transitions.{transitions-in, walks-append, walks-split, walks-unique, walks-down}
+use Rattle.model.proofs.Transitions.{arc-node, target-in, walks-append, walks-split, walks-unique, walks-down}
 use Rattle.model.proofs.Rules.{Ruled, full-equal}
 use Rattle.model.proofs.Sound.{walks-ways}
 use Rattle.model.proofs.Complete.{group-f}
@@ -59,11 +59,7 @@ module _ (c : Class) (rows : List Word) (groups : List ℕ) (joined : Joined c r
   walks-in : (x y : ℕ) (p : Word) → In x groups → Walks (automaton rows groups) x p y → In y groups
   walks-in x y [] m f = subst (λ (g : ℕ). In g groups) f m
   walks-in x y (a ∷ p) m f =
-      let t = transitions-in (treeOf rows) groups (transition x a (f .0)) (f .1) in
-      let end : groupAt (treeOf rows) groups (t .0 ▸ t .1) ≡ f .0 = sym (ap (λ (q : Transition). q .to) (t .3)) in
-      walks-in (f .0) y p
-      (subst (λ (g : ℕ). In g groups) end (group-in (treeOf rows) groups (t .0 ▸ t .1) (joined .fits) (t .2)))
-      (f .2)
+      walks-in (f .0) y p (target-in (treeOf rows) groups (joined .fits) x a (f .0) (f .1)) (f .2)
 
   start-in : In (start rows groups) groups
   start-in = group-in (treeOf rows) groups [] (joined .fits) (treeOf-tree rows .root)
@@ -167,19 +163,12 @@ module _ (c : Class) (rows : List Word) (groups : List ℕ) (joined : Joined c r
       ∙ group-f c (treeOf rows) groups (treeOf-tree rows) (joined .fits) (members-agree c rows groups joined kind) u m
       ∙ ap (fOf c) (sym (append-nil u))
   f-walked kind (a ∷ p) u x m f =
-      let t = transitions-in (treeOf rows) groups (transition (groupAt (treeOf rows) groups u) a (f .0)) (f .1) in
+      let t = arc-node (treeOf rows) groups (treeOf-tree rows) (groupAt (treeOf rows) groups u) a (f .0) (f .1) in
       let v : Word = t .0 in
-      let from-v : groupAt (treeOf rows) groups u ≡ groupAt (treeOf rows) groups v = ap (λ (q : Transition). q .from) (t .3) in
-      let name-v : t .1 ≡ a = sym (ap (λ (q : Transition). q .name) (t .3)) in
-      let to-v : f .0 ≡ groupAt (treeOf rows) groups (v ▸ t .1) = ap (λ (q : Transition). q .to) (t .3) in
-      let node : In (v ▸ a) (treeOf rows) = subst (λ (b : ℕ). In (v ▸ b) (treeOf rows)) name-v (t .2) in
-      let v-node : In v (treeOf rows) = treeOf-tree rows .parent v a node in
-      let end : f .0 ≡ groupAt (treeOf rows) groups (v ▸ a) =
-      to-v ∙ ap (λ (b : ℕ). groupAt (treeOf rows) groups (v ▸ b)) name-v in
       let on : Walks (automaton rows groups) (groupAt (treeOf rows) groups (v ▸ a)) p x =
-      subst (λ (z : ℕ). Walks (automaton rows groups) z p x) end (f .2) in
-      let agree : fOf c v ≡ fOf c u = members-agree c rows groups joined kind .related v u v-node m (sym from-v) .same-f in
-      f-walked kind p (v ▸ a) x node on
+      subst (λ (z : ℕ). Walks (automaton rows groups) z p x) (sym (t .4)) (f .2) in
+      let agree : fOf c v ≡ fOf c u = members-agree c rows groups joined kind .related v u (t .1) m (t .3) .same-f in
+      f-walked kind p (v ▸ a) x (t .2) on
       ∙ ap (fOf c) (append-assoc v (a ∷ []) p)
       ∙ f-append c v u (a ∷ p) agree
 

@@ -1,6 +1,6 @@
 -- Full joinings of a book's prefix tree, in any order and from any book with the same set of rows: they lie inside one another,
 -- so they have one table. And the joining law, by which a program may join in batches and in any order. Assumes nothing.
-use mathlib.Core.Path.{_≡_, sym, ap, _∙_, subst}
+use mathlib.Core.Path.{_≡_, sym, _∙_, subst}
 use mathlib.Core.Logic.{_↔_}
 use mathlib.Core.Bool.{true, false, and-eq-true-iff}
 use mathlib.Core.List.{List, [], _∷_, List·Memᴰ as In}
@@ -8,12 +8,12 @@ use Prim.Native.Nat.{ℕ}
 use lib.Dec.{eqb}
 use Rattle.model.specs.Fields.{Class}
 use Rattle.model.specs.Classes.{Word}
-use Rattle.model.specs.Joinings.{Transition, transition, transitionsOf, groupAt, treeOf, apart, Step, isFull}
+use Rattle.model.specs.Joinings.{transitionsOf, treeOf, apart, Step, isFull}
 use Rattle.model.specs.Joinings.{afterSteps, allOpen, isFullJoining, joinedGroups}
 use Rattle.model.specs.Quotients.{statesOf}
 use Rattle.model.proofs.Notions.{Tree, Fits, Ways, OneContext, Closed, Inside, Ker, SameF, Deterministic, _▸_}
 use Rattle.model.proofs.Groups.{apart-fits}
-use Rattle.model.proofs.Transitions.{transitions-in}
+use Rattle.model.proofs.Transitions.{arc-node}
 use Rattle.model.proofs.Sound.{sound, after-fits, apart-inside}
 use Rattle.model.proofs.Complete.{ker-closed, full-deterministic}
 use Rattle.model.proofs.Functions.{sameF-closed}
@@ -136,23 +136,11 @@ pub closed-deterministic :
     (c : Class) (rows nodes : List Word) (groups : List ℕ) → Tree nodes → Closed c rows nodes (Ker nodes groups) →
     Deterministic (transitionsOf nodes groups)
 closed-deterministic c rows nodes groups tree closed x a y z m n =
-    let s = transitions-in nodes groups (transition x a y) m in
-    let t = transitions-in nodes groups (transition x a z) n in
-    let from-s : x ≡ groupAt nodes groups (s .0) = ap (λ (q : Transition). q .from) (s .3) in
-    let from-t : x ≡ groupAt nodes groups (t .0) = ap (λ (q : Transition). q .from) (t .3) in
-    let name-s : a ≡ s .1 = ap (λ (q : Transition). q .name) (s .3) in
-    let name-t : a ≡ t .1 = ap (λ (q : Transition). q .name) (t .3) in
-    let to-s : y ≡ groupAt nodes groups (s .0 ▸ s .1) = ap (λ (q : Transition). q .to) (s .3) in
-    let to-t : z ≡ groupAt nodes groups (t .0 ▸ t .1) = ap (λ (q : Transition). q .to) (t .3) in
-    let node-s : In (s .0 ▸ a) nodes = subst (λ (b : ℕ). In (s .0 ▸ b) nodes) (sym name-s) (s .2) in
-    let node-t : In (t .0 ▸ a) nodes = subst (λ (b : ℕ). In (t .0 ▸ b) nodes) (sym name-t) (t .2) in
+    let s = arc-node nodes groups tree x a y m in
+    let t = arc-node nodes groups tree x a z n in
     let one : Ker nodes groups (s .0) (t .0) =
-    record { left-node = tree .parent (s .0) a node-s; right-node = tree .parent (t .0) a node-t; one-group = sym from-s ∙ from-t } in
-    to-s
-    ∙ ap (λ (b : ℕ). groupAt nodes groups (s .0 ▸ b)) (sym name-s)
-    ∙ closed .fork (s .0) (t .0) a one node-s node-t .one-group
-    ∙ ap (λ (b : ℕ). groupAt nodes groups (t .0 ▸ b)) name-t
-    ∙ sym to-t
+    record { left-node = s .1; right-node = t .1; one-group = s .3 ∙ sym (t .3) } in
+    sym (s .4) ∙ closed .fork (s .0) (t .0) a one (s .2) (t .2) .one-group ∙ t .4
 
 -- a partition that lies inside the joined one, and is itself closed, has the joined one's states: whatever order its joins
 -- were found in, and however its nodes are listed

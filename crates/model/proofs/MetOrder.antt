@@ -17,6 +17,7 @@ use Rattle.model.specs.Tables.{Arc, arc, State, metByArcs, metByStates}
 use Rattle.model.specs.Joinings.{Transition, transitionsOf}
 use Rattle.model.specs.Quotients.{arcsOutOf, metWith, metFrom, renumbered, stateOf}
 use Rattle.model.proofs.Tests.{tells-isIn, tells-eqb, not-told}
+use Rattle.model.proofs.Meeting.{metWith-grown}
 
 -- ---- places in a list that goes on
 
@@ -40,19 +41,6 @@ indexIn-next x (z ∷ xs) ys out =
 
 -- ---- what is met is only added to
 
-metWith-appends : (met : List ℕ) (arcs : List Arc) → (more : List ℕ) × (metWith met arcs ≡ met ++ more)
-unfolding metWith
-metWith-appends met [] = ([], sym (append-nil met))
-metWith-appends met (a ∷ arcs) = go (isIn (a .to) met) (λ m. metWith-appends m arcs)
-  where
-    go :
-        (b : Bool) → ((m : List ℕ) → (more : List ℕ) × (metWith m arcs ≡ m ++ more)) →
-        (more : List ℕ) × (metWith (cond b met (met ++ (a .to ∷ []))) arcs ≡ met ++ more)
-    go true again = again met
-    go false again =
-        let r = again (met ++ (a .to ∷ [])) in
-        (a .to ∷ r .0, r .1 ∙ append-assoc met (a .to ∷ []) (r .0))
-
 metFrom-appends : (n i : ℕ) (ts : List Transition) (met : List ℕ) → (more : List ℕ) × (metFrom n i ts met ≡ met ++ more)
 unfolding metFrom
 metFrom-appends zero i ts met = ([], sym (append-nil met))
@@ -63,9 +51,9 @@ metFrom-appends (suc n) i ts met = go (ltb i (length met)) (λ m. metFrom-append
         (more : List ℕ) × (metFrom n (suc i) ts (cond b (metWith met (arcsOutOf (getD met i 0) ts)) met) ≡ met ++ more)
     go false again = again met
     go true again =
-        let q = metWith-appends met (arcsOutOf (getD met i 0) ts) in
+        let q = metWith-grown met (arcsOutOf (getD met i 0) ts) in
         let r = again (metWith met (arcsOutOf (getD met i 0) ts)) in
-        (q .0 ++ r .0, r .1 ∙ ap (λ (m : List ℕ). m ++ r .0) (q .1) ∙ append-assoc met (q .0) (r .0))
+        (q .more ++ r .0, r .1 ∙ ap (λ (m : List ℕ). m ++ r .0) (q .begins) ∙ append-assoc met (q .more) (r .0))
 
 -- past the last met group nothing more is met
 metFrom-ends : (n i : ℕ) (ts : List Transition) (met : List ℕ) → length met ≤ i → metFrom n i ts met ≡ met
@@ -101,19 +89,21 @@ metByArcs-follows every (a ∷ arcs) met rest e =
         metByArcs (length met) (arc (a .name) (indexIn (a .to) every) ∷ renumbered every arcs)
         ≡ length (metWith (cond b met (met ++ (a .to ∷ []))) arcs)
     go true t h again =
-        let q = metWith-appends met arcs in
-        let whole : every ≡ met ++ (q .0 ++ rest) = h ∙ ap (λ (m : List ℕ). m ++ rest) (q .1) ∙ append-assoc met (q .0) rest in
+        let q = metWith-grown met arcs in
+        let whole : every ≡ met ++ (q .more ++ rest) =
+        h ∙ ap (λ (m : List ℕ). m ++ rest) (q .begins) ∙ append-assoc met (q .more) rest in
         let low : indexIn (a .to) every < length met =
         subst (λ (z : List ℕ). indexIn (a .to) z < length met) (sym whole)
-        (indexIn-first (a .to) met (q .0 ++ rest) (tells-isIn (a .to) met .fact t)) in
+        (indexIn-first (a .to) met (q .more ++ rest) (tells-isIn (a .to) met .fact t)) in
         metByArcs-old (length met) (arc (a .name) (indexIn (a .to) every)) (renumbered every arcs) low ∙ again met h
     go false t h again =
         let longer = met ++ (a .to ∷ []) in
-        let q = metWith-appends longer arcs in
-        let whole : every ≡ met ++ (a .to ∷ (q .0 ++ rest)) =
-        h ∙ ap (λ (m : List ℕ). m ++ rest) (q .1) ∙ append-assoc longer (q .0) rest ∙ append-assoc met (a .to ∷ []) (q .0 ++ rest) in
+        let q = metWith-grown longer arcs in
+        let whole : every ≡ met ++ (a .to ∷ (q .more ++ rest)) =
+        h ∙ ap (λ (m : List ℕ). m ++ rest) (q .begins) ∙ append-assoc longer (q .more) rest
+        ∙ append-assoc met (a .to ∷ []) (q .more ++ rest) in
         let next : indexIn (a .to) every ≡ length met =
-        ap (indexIn (a .to)) whole ∙ indexIn-next (a .to) met (q .0 ++ rest) (not-told (tells-isIn (a .to) met) t) in
+        ap (indexIn (a .to)) whole ∙ indexIn-next (a .to) met (q .more ++ rest) (not-told (tells-isIn (a .to) met) t) in
         let size : suc (length met) ≡ length longer = omega (arith, length-append met (a .to ∷ [])) in
         metByArcs-new (length met) (arc (a .name) (indexIn (a .to) every)) (renumbered every arcs) next
         ∙ ap (λ (m : ℕ). metByArcs m (renumbered every arcs)) size ∙ again longer h

@@ -1,7 +1,7 @@
 -- The numbering law: the table depends on the set of nodes, the set of rows and the kernel of the partition alone, not on the
 -- order of the nodes or on the groups' own numbers. Groups of the two descriptions correspond where they hold a common node;
 -- arcs, first-met order, numbers and acceptance of corresponding groups agree. Assumes nothing.
-use mathlib.Core.Path.{_≡_, refl, sym, ap, ap₂, _∙_, subst}
+use mathlib.Core.Path.{_≡_, refl, sym, ap₂, _∙_, subst}
 use mathlib.Core.Logic.{_↔_}
 use mathlib.Core.List.{List, [], _∷_, List·Memᴰ as In, Forall₂ as Paired, Forall₂·nil as none, Forall₂·cons as pair}
 use Prim.Native.Nat.{ℕ}
@@ -9,13 +9,13 @@ use lib.Dec.{eqb}
 use lib.ListN.{length}
 use Rattle.model.specs.Classes.{Word}
 use Rattle.model.specs.Tables.{Arc, arc, state}
-use Rattle.model.specs.Joinings.{Transition, transition, transitionsOf, groupAt}
+use Rattle.model.specs.Joinings.{transition, transitionsOf, groupAt}
 use Rattle.model.specs.Quotients.{arcsOutOf, metFrom, metGroups, stateOf, statesOf}
 use Rattle.model.proofs.Tests.{tells-eqb, same-tests}
 use Rattle.model.proofs.Lists.{same-length}
 use Rattle.model.proofs.Notions.{Tree, Fits, Inside, Ker, Deterministic, _▸_}
 use Rattle.model.proofs.Groups.{tells-accepts}
-use Rattle.model.proofs.Transitions.{in-transitions, transitions-in}
+use Rattle.model.proofs.Transitions.{in-transitions, arc-node}
 use Rattle.model.proofs.Arcs.{arcsOutOf-ascending, arcsOutOf-in, in-arcsOutOf}
 use Rattle.model.proofs.Paired.{ArcsAgree, ascending-paired, metFrom-paired, renumbered-paired, paired-map}
 
@@ -81,17 +81,12 @@ module _
         (g g′ : ℕ) → Corresponds nodes nodes′ groups groups′ g g′ → (a : Arc) → In a (arcsOutOf g (transitionsOf nodes groups)) →
         (b : Arc) × In b (arcsOutOf g′ (transitionsOf nodes′ groups′)) × ArcsAgree (Corresponds nodes nodes′ groups groups′) a b
     arc-there g g′ r a m =
-        let t = transitions-in nodes groups (transition g (a .name) (a .to))
-        (arcsOutOf-in g (a .name) (a .to) (transitionsOf nodes groups) m) in
+        let x : ℕ = a .name in
+        let t = arc-node nodes groups (same .tree) g x (a .to) (arcsOutOf-in g x (a .to) (transitionsOf nodes groups) m) in
         let w : Word = t .0 in
-        let x : ℕ = t .1 in
         let end : In (w ▸ x) nodes = t .2 in
-        let begin : In w nodes = same .tree .parent w x end in
-        let from : g ≡ groupAt nodes groups w = ap (λ (u : Transition). u .from) (t .3) in
-        let named : a .name ≡ x = ap (λ (u : Transition). u .name) (t .3) in
-        let to : a .to ≡ groupAt nodes groups (w ▸ x) = ap (λ (u : Transition). u .to) (t .3) in
         let from′ : groupAt nodes′ groups′ w ≡ g′ =
-        one-group (groupAt nodes groups w) (groupAt nodes′ groups′ w) g g′ (at-node w begin) r (sym from) in
+        one-group (groupAt nodes groups w) (groupAt nodes′ groups′ w) g g′ (at-node w (t .1)) r (t .3) in
         let y : ℕ = groupAt nodes′ groups′ (w ▸ x) in
         let goes : In (transition g′ x y) (transitionsOf nodes′ groups′) =
         subst (λ (z : ℕ). In (transition z x y) (transitionsOf nodes′ groups′)) from′
@@ -99,8 +94,8 @@ module _
           arc x y,
           in-arcsOutOf g′ x y (transitionsOf nodes′ groups′) (same .det′) goes,
           record {
-            names = named;
-            targets = subst (λ (z : ℕ). Corresponds nodes nodes′ groups groups′ z y) (sym to) (at-node (w ▸ x) end);
+            names = refl;
+            targets = subst (λ (z : ℕ). Corresponds nodes nodes′ groups groups′ z y) (t .4) (at-node (w ▸ x) end);
           },
         )
 

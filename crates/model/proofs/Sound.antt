@@ -1,6 +1,6 @@
 -- Every joining stays inside every closed relation that its start lies in: arcs and walks between groups as arcs and ways
 -- between their nodes, then what each rule joins, then one merge, then all the steps. Assumes nothing.
-use mathlib.Core.Path.{_≡_, sym, ap, _∙_, subst, subst₂}
+use mathlib.Core.Path.{_≡_, sym, _∙_, subst, subst₂}
 use mathlib.Core.Logic.{_⊎_, inl, inr}
 use mathlib.Core.Bool.{true, false, and-eq-true-iff}
 use mathlib.Core.List.{List, [], _∷_, List·Memᴰ as In}
@@ -8,29 +8,13 @@ use Prim.Native.Nat.{ℕ}
 use lib.Dec.{eqb}
 use Rattle.model.specs.Fields.{Class}
 use Rattle.model.specs.Classes.{Word}
-use Rattle.model.specs.Joinings.{Transition, transition, transitionsOf, apart, groupAt, merged, memberOf, groupAccepts}
+use Rattle.model.specs.Joinings.{transition, transitionsOf, apart, groupAt, merged, memberOf, groupAccepts}
 use Rattle.model.specs.Joinings.{fOfGroup}
 use Rattle.model.specs.Joinings.{Step, isOpen, afterSteps, allOpen}
 use Rattle.model.proofs.Notions.{Tree, Fits, Walks, Ways, OneContext, Closed, Inside, _▸_}
 use Rattle.model.proofs.Groups.{apart-single, merged-fits, groupAt-merged, mergedTo-cases, member-of, tells-accepts}
-use Rattle.model.proofs.Transitions.{transitions-in}
+use Rattle.model.proofs.Transitions.{arc-node}
 use Rattle.model.proofs.Rules.{Ruled, forked, by-context, by-ends, by-back, TwoPaths, tells-open}
-
--- an arc between groups is an arc between two of their members
-pub arc-node :
-    (nodes : List Word) (groups : List ℕ) → Tree nodes → (x a z : ℕ) → In (transition x a z) (transitionsOf nodes groups) →
-    (v : Word) × In v nodes × In (v ▸ a) nodes × (groupAt nodes groups v ≡ x) × (groupAt nodes groups (v ▸ a) ≡ z)
-arc-node nodes groups tree x a z m =
-    let r = transitions-in nodes groups (transition x a z) m in
-    let name-is : a ≡ r .1 = ap (λ (t : Transition). t .name) (r .3) in
-    let there : In (r .0 ▸ a) nodes = subst (λ (b : ℕ). In (r .0 ▸ b) nodes) (sym name-is) (r .2) in
-    let ends : z ≡ groupAt nodes groups (r .0 ▸ r .1) = ap (λ (t : Transition). t .to) (r .3) in (
-      r .0,
-      tree .parent (r .0) a there,
-      there,
-      sym (ap (λ (t : Transition). t .from) (r .3)),
-      subst (λ (b : ℕ). groupAt nodes groups (r .0 ▸ b) ≡ z) (sym name-is) (sym ends),
-    )
 
 -- a node of the group
 pub record Member (nodes : List Word) (groups : List ℕ) (g : ℕ) : Type 0 where

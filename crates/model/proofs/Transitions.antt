@@ -9,7 +9,8 @@ use Prim.Native.Nat.{ℕ}
 use Rattle.model.specs.Classes.{Word}
 use Rattle.model.specs.Lists.{lastOr}
 use Rattle.model.specs.Joinings.{Transition, transition, transitionsInto, transitionsOf, groupAt}
-use Rattle.model.proofs.Notions.{Tree, Walks, _▸_, Deterministic}
+use Rattle.model.proofs.Notions.{Tree, Fits, Walks, _▸_, Deterministic}
+use Rattle.model.proofs.Groups.{group-in}
 
 -- ---- a word that is not empty, as a word with one name more
 
@@ -85,6 +86,30 @@ pub transitions-in :
     (w : Word) × (a : ℕ) × In (w ▸ a) nodes × (t ≡ transition (groupAt nodes groups w) a (groupAt nodes groups (w ▸ a)))
 unfolding transitionsOf
 transitions-in nodes groups t m = transitionsInto-in nodes groups nodes t m
+
+-- an arc between groups is an arc between two of their members
+pub arc-node :
+    (nodes : List Word) (groups : List ℕ) → Tree nodes → (x a z : ℕ) → In (transition x a z) (transitionsOf nodes groups) →
+    (v : Word) × In v nodes × In (v ▸ a) nodes × (groupAt nodes groups v ≡ x) × (groupAt nodes groups (v ▸ a) ≡ z)
+arc-node nodes groups tree x a z m =
+    let r = transitions-in nodes groups (transition x a z) m in
+    let name-is : a ≡ r .1 = ap (λ (t : Transition). t .name) (r .3) in
+    let node : In (r .0 ▸ a) nodes = subst (λ (b : ℕ). In (r .0 ▸ b) nodes) (sym name-is) (r .2) in
+    let ends : z ≡ groupAt nodes groups (r .0 ▸ r .1) = ap (λ (t : Transition). t .to) (r .3) in (
+      r .0,
+      tree .parent (r .0) a node,
+      node,
+      sym (ap (λ (t : Transition). t .from) (r .3)),
+      subst (λ (b : ℕ). groupAt nodes groups (r .0 ▸ b) ≡ z) (sym name-is) (sym ends),
+    )
+
+-- an arc leads to a group
+pub target-in :
+    (nodes : List Word) (groups : List ℕ) → Fits nodes groups → (x a z : ℕ) →
+    In (transition x a z) (transitionsOf nodes groups) → In z groups
+target-in nodes groups fits x a z m =
+    let r = transitions-in nodes groups (transition x a z) m in
+    Memᴰ·cast (ap (λ (t : Transition). t .to) (r .3)) (group-in nodes groups (r .0 ▸ r .1) fits (r .2))
 
 -- ---- walks
 
