@@ -3,12 +3,12 @@ use mathlib.Core.Path.{_≡_, refl, sym, ap, _∙_, subst}
 use mathlib.Core.Logic.{_↔_}
 use mathlib.Core.Bool.{Bool, true, false, _||_}
 use mathlib.Core.List.{List, _++_, map, List·Memᴰ as In, List·Memᴰ·head as here, Memᴰ·append-left, Memᴰ·append-right}
-use Prim.Native.Nat.{ℕ, zero, suc, _≤_, _<_}
+use Prim.Native.Nat.{ℕ, suc, _≤_, _<_}
 use native.Mathlib.Omega.{arith}
 use lib.Dec.{ltb}
 use lib.ListN.{length}
 use borrow.Author.Tests.{ltb-false, le-ltb}
-use Rattle.model.specs.Limits.{state-limit, input-limit, work-bytes, when, firstOf}
+use Rattle.model.specs.Limits.{state-limit, input-limit, work-bytes, when}
 use Rattle.model.specs.Limits.{bad-sizes, tree-too-large}
 use Rattle.model.specs.Fields.{File, file, Class, Read, table, book, readFields, accepted-file}
 use Rattle.model.specs.Tables.{State, stateBody, statesIn, isFirstMet, tableBytes}
@@ -17,28 +17,22 @@ use Rattle.model.specs.Joinings.{Step, treeOf, apart, isFullJoining, aft
 use Rattle.model.specs.Quotients.{statesOf, bookStates, bookTable, tableAfter}
 use Rattle.model.specs.Calls.{bookOf, bookFault, sizesFault, tableOf, tableFault, tableStates}
 use Rattle.model.specs.Claims.{Accepted, allAmong, SameBook, Demand-3, Same-bytes, Reads-back, Demands}
-use Rattle.model.proofs.Tests.{tells-hasRow, tells-all}
+use Rattle.model.proofs.Tests.{tells-hasRow, tells-all, or-false}
 use Rattle.model.proofs.Notions.{_▸_}
 use Rattle.model.proofs.Trees.{treeOf-tree, node-begins-row}
 use Rattle.model.proofs.Ends.{joined-full, joined-is-full-joining}
 use Rattle.model.proofs.Joined.{Joined, joining-joined, joinedGroups-joined, joined-deterministic, joined-states}
 use Rattle.model.proofs.InTheClass.{admits-row, admits-in-class, admits-smallest}
 use Rattle.model.proofs.Writable.{Writable}
+use Rattle.model.proofs.FieldLaws.{first-of}
+use Rattle.model.proofs.StateBodies.{states-read-back}
 use Rattle.model.proofs.WritableStates.{states-writable}
-use Rattle.model.proofs.Reading.{accepted-has-row, accepted-entries, reads-written, states-read, written-length}
+use Rattle.model.proofs.Reading.{accepted-has-row, accepted-entries, reads-written, written-length}
 use Rattle.model.proofs.Reading.{rewrites-same}
 
 -- ---- what an accepted book and a like book give
 
--- the first refusal of two is none
-none-first : (a b : ℕ) → firstOf a b ≡ 0 → a ≡ 0
-none-first zero b e = refl
-none-first (suc a) b e = e
-
-none-second : (a b : ℕ) → firstOf a b ≡ 0 → b ≡ 0
-none-second zero b e = e
-none-second (suc a) b e = let z : ⊥ = omega arith in absurd z
-
+-- a refusal that is none: its test is false
 not-when : (b : Bool) (n : ℕ) → when b (suc n) ≡ 0 → b ≡ false
 not-when true n e = let z : ⊥ = omega arith in absurd z
 not-when false n e = refl
@@ -48,7 +42,7 @@ unfolding bookFault
 accepted-tree s ok =
     let size = length (treeOf (bookOf s .items)) in
     let refusal = when (ltb state-limit size) tree-too-large in
-    ltb-false state-limit size (not-when (ltb state-limit size) 9 (none-second (readFields book s .number) refusal ok))
+    ltb-false state-limit size (not-when (ltb state-limit size) 9 (first-of (readFields book s .number) refusal ok .1))
 
 all-there : (rows others : List Word) → allAmong rows others ≡ true → (r : Word) → In r rows → In r others
 unfolding allAmong
@@ -145,15 +139,11 @@ read-states : (s : List ℕ) → Accepted s → tableStates (bookTable (bookOf s
 unfolding tableStates tableOf
 read-states s ok =
     ap (λ (r : Read). statesIn (r .file-is .items)) (read-table s ok)
-    ∙ states-read (length (bookOf s .names)) (bookStates (bookOf s)) (book-writable s ok)
+    ∙ states-read-back (bookStates (bookOf s))
 
 table-length : (s : List ℕ) → Accepted s → length (bookTable (bookOf s)) ≤ input-limit
 unfolding bookTable
 table-length s ok = written-length s (bookStates (bookOf s)) ok (book-writable s ok)
-
--- no refusal where there is no fault
-no-fault : (a b : Bool) (n : ℕ) → a ≡ false → b ≡ false → when (a || b) n ≡ 0
-no-fault a b n p q = rw (p, q)
 
 read-no-fault : (s work : List ℕ) → Accepted s → work-bytes ≤ length work → tableFault (bookTable (bookOf s)) work ≡ 0
 unfolding tableFault sizesFault
@@ -161,8 +151,8 @@ read-no-fault s work ok long =
     let bytes : List ℕ = bookTable (bookOf s) in
     let short : length bytes ≤ input-limit = table-length s ok in
     let sizes : when (ltb input-limit (length bytes) || ltb (length work) work-bytes) bad-sizes ≡ 0 =
-    no-fault (ltb input-limit (length bytes)) (ltb (length work) work-bytes) bad-sizes
-    (le-ltb input-limit (length bytes) short) (le-ltb (length work) work-bytes long) in
+    ap (λ (t : Bool). when t bad-sizes)
+    (or-false (le-ltb input-limit (length bytes) short) (le-ltb (length work) work-bytes long)) in
     let number : readFields table bytes .number ≡ 0 = ap (λ (r : Read). r .number) (read-table s ok) in
     let numbered : isFirstMet (tableStates bytes) ≡ true = ap isFirstMet (read-states s ok) ∙ book-writable s ok .first-met in
     rw (sizes, number, numbered)

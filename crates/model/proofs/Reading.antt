@@ -8,13 +8,13 @@ use native.Mathlib.Omega.{arith}
 use lib.ListN.{length, length-append}
 use Rattle.model.specs.Limits.{name-limit, state-limit, input-limit, when, firstOf, bad-numbering}
 use Rattle.model.specs.Fields.{file, table, readFields, readWith, default-class, accepted-file}
-use Rattle.model.specs.Tables.{State, fieldBytes, nameFields, classField, stateFields, stateBody, statesIn, tableBytes}
+use Rattle.model.specs.Tables.{State, fieldBytes, nameFields, classField, stateFields, stateBody, tableBytes}
 use Rattle.model.specs.Tables.{isFirstMet}
 use Rattle.model.specs.Calls.{bookOf, sizesFault, tableStates, tableFault, rewritten}
 use Rattle.model.specs.Claims.{Accepted, AllBytes}
 use Rattle.model.proofs.Writable.{Writable, arcCount}
 use Rattle.model.proofs.FieldLaws.{first-of}
-use Rattle.model.proofs.StateBodies.{body-ok, states-read-back}
+use Rattle.model.proofs.StateBodies.{body-ok}
 use Rattle.model.proofs.Books.{accepted-book, tells-allBelow}
 use Rattle.model.proofs.ReadBack.{reads-table}
 use Rattle.model.proofs.WrittenLengths.{name-fields-length, names-few, state-fields-length}
@@ -48,9 +48,7 @@ reads-written s states ok w =
     (λ t m. body-ok (length names) t (w .ascending t m) (λ a n. w .names-below t a m n)) (w .some-state) (w .few-states)
     (suc (length bytes)) (omega arith)
 
-pub states-read : (n : ℕ) (states : List State) → Writable n states → statesIn (map stateBody states) ≡ states
-states-read n states w = states-read-back states
-
+-- and has no more bytes than an input may have
 pub written-length :
     (s : List ℕ) (states : List State) → Accepted s → Writable (length (bookOf s .names)) states →
     length (tableBytes (bookOf s .names) (bookOf s .class-is) states) ≤ input-limit
