@@ -3,7 +3,7 @@
 use mathlib.Core.Path.{_≡_, refl, sym, ap, _∙_, subst}
 use mathlib.Core.Logic.{_⊎_, inl, inr, ⊎-elim}
 use mathlib.Core.Bool.{Bool, true, false, _&&_}
-use mathlib.Core.List.{List, [], _∷_, map, List·Memᴰ as In, List·Memᴰ·head as here, List·Memᴰ·tail as there}
+use mathlib.Core.List.{List, [], _∷_, List·Memᴰ as In, List·Memᴰ·head as here, List·Memᴰ·tail as there}
 use mathlib.Core.List.{List·Memᴰ·not-nil, List·Memᴰ·cases-cons}
 use Prim.Native.Nat.{ℕ, suc, _+_, _-_, _<_}
 use native.Mathlib.Omega.{arith}
@@ -16,10 +16,11 @@ use Rattle.model.specs.Tables.{Arc, arc, State, no-state, targetIn, Walk
 use Rattle.model.specs.Joinings.{Transition, transition, transitionsOf, groupAt, groupAccepts}
 use Rattle.model.specs.Quotients.{arcsOutOf, metGroups, renumbered, stateOf, statesOf}
 use Rattle.model.proofs.Tests.{Tells, tells-and, tells-by, tells-eqb, tells-itself, eq-dec}
+use Rattle.model.proofs.Places.{map-at-index}
 use Rattle.model.proofs.Notions.{Tree, Fits, Walks, Deterministic}
 use Rattle.model.proofs.Transitions.{walks-unique}
 use Rattle.model.proofs.Arcs.{arcsOutOf-in, in-arcsOutOf}
-use Rattle.model.proofs.FirstMet.{index-here, index-there, met-root, root-met, met-closed}
+use Rattle.model.proofs.FirstMet.{met-root, root-met, met-closed}
 
 -- ---- the target by a name
 
@@ -54,22 +55,6 @@ target met (b ∷ arcs) a = go (eq-dec a (b .name)) (target met arcs a)
         (targetIn-there a new (renumbered met arcs) other ∙ t)
 
 -- ---- the state of a group met
-
--- what a list becomes at the place of x is what x becomes
-pub map-at-index :
-    {A : Type 0} (f : ℕ → A) (d : A) (xs : List ℕ) (x : ℕ) → In x xs → getD (map f xs) (indexIn x xs) d ≡ f x
-map-at-index f d [] x m = absurd (List·Memᴰ·not-nil m)
-map-at-index {A} f d (y ∷ ys) x m = go (eq-dec x y) (map-at-index f d ys x) (List·Memᴰ·cases-cons m)
-  where
-    at : ℕ → A
-    at i = getD (map f (y ∷ ys)) i d
-
-    go :
-        (x ≡ y) ⊎ (x ≡ y → ⊥) → (In x ys → getD (map f ys) (indexIn x ys) d ≡ f x) → (x ≡ y) ⊎ In x ys →
-        getD (map f (y ∷ ys)) (indexIn x (y ∷ ys)) d ≡ f x
-    go (inl e) again n = ap at (index-here x y ys e) ∙ ap f (sym e)
-    go (inr no-head) again (inl e) = absurd (no-head e)
-    go (inr no-head) again (inr n) = ap at (index-there x y ys no-head) ∙ again n
 
 module _ (rows nodes : List Word) (groups : List ℕ) where
   pub state-of-met :

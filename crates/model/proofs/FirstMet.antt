@@ -3,68 +3,24 @@
 use mathlib.Core.Path.{_≡_, refl, sym, ap, _∙_, subst}
 use mathlib.Core.Logic.{_⊎_, inl, inr}
 use mathlib.Core.List.{List, [], _∷_}
-use mathlib.Core.List.{List·Memᴰ as In, List·Memᴰ·head as here, List·Memᴰ·tail as there}
-use mathlib.Core.List.{List·Memᴰ·not-nil, List·Memᴰ·cases-cons, List·Memᴰ·eq-of-singleton}
+use mathlib.Core.List.{List·Memᴰ as In, List·Memᴰ·head as here}
+use mathlib.Core.List.{List·Memᴰ·not-nil, List·Memᴰ·eq-of-singleton}
 use mathlib.Core.List.{Memᴰ·cast}
-use Prim.Native.Nat.{ℕ, zero, suc, _+_, _≤_, _<_}
+use Prim.Native.Nat.{ℕ, _+_, _≤_, _<_}
 use native.Mathlib.Omega.{arith}
-use lib.ListN.{length, getD, length-map}
-use borrow.Author.Tests.{eq-eqb, ne-eqb}
+use lib.ListN.{length, length-map}
 use Rattle.model.specs.Classes.{Word}
 use Rattle.model.specs.Lists.{indexIn}
 use Rattle.model.specs.Tables.{arc}
 use Rattle.model.specs.Joinings.{transition, transitionsOf, groupAt, groupsIn, memberOf}
 use Rattle.model.specs.Quotients.{arcsOutOf, metGroups, stateOf, statesOf}
-use Rattle.model.proofs.Tests.{eq-dec}
 use Rattle.model.proofs.Lists.{Distinct, distinct-length, same-length}
+use Rattle.model.proofs.Places.{index-here, nth-of-index}
 use Rattle.model.proofs.Notions.{Tree, Fits, Deterministic, Walks}
 use Rattle.model.proofs.Groups.{group-in, member-of, in-groupsIn, groupsIn-in, groupsIn-distinct}
 use Rattle.model.proofs.Transitions.{target-in, walks-down}
 use Rattle.model.proofs.Arcs.{in-arcsOutOf}
 use Rattle.model.proofs.Meeting.{MetUpTo, look-all}
-
--- ---- places in a list
-
-pub index-here : (x y : ℕ) (ys : List ℕ) → x ≡ y → indexIn x (y ∷ ys) ≡ 0
-unfolding indexIn
-index-here x y ys e = rw (eq-eqb x y e, indexIn)
-
-pub index-there : (x y : ℕ) (ys : List ℕ) → (x ≡ y → ⊥) → indexIn x (y ∷ ys) ≡ suc (indexIn x ys)
-unfolding indexIn
-index-there x y ys d = rw (ne-eqb x y d, indexIn)
-
-pub nth-in : (xs : List ℕ) (i : ℕ) → i < length xs → In (getD xs i 0) xs
-nth-in [] i h = let z : ⊥ = omega arith in absurd z
-nth-in (x ∷ xs) zero h = here refl
-nth-in (x ∷ xs) (suc i) h = there (nth-in xs i (omega arith))
-
--- the i-th of a list without repeats has the place i
-pub index-of-nth : (xs : List ℕ) (i : ℕ) → Distinct xs → i < length xs → indexIn (getD xs i 0) xs ≡ i
-index-of-nth [] i d h = let z : ⊥ = omega arith in absurd z
-index-of-nth (x ∷ xs) zero d h = index-here x x xs refl
-index-of-nth (x ∷ xs) (suc i) d h =
-    let below : i < length xs = omega arith in
-    index-there (getD xs i 0) x xs (λ e. d .0 (Memᴰ·cast (sym e) (nth-in xs i below)))
-    ∙ ap suc (index-of-nth xs i (d .1) below)
-
-pub nth-of-index : (xs : List ℕ) (x : ℕ) → In x xs → (indexIn x xs < length xs) × (getD xs (indexIn x xs) 0 ≡ x)
-nth-of-index [] x m = absurd (List·Memᴰ·not-nil m)
-nth-of-index (y ∷ ys) x m = go (eq-dec x y) (nth-of-index ys x) (List·Memᴰ·cases-cons m)
-  where
-    Place : ℕ → Type 0
-    Place i = (i < suc (length ys)) × (getD (y ∷ ys) i 0 ≡ x)
-
-    go :
-        (x ≡ y) ⊎ (x ≡ y → ⊥) → (In x ys → (indexIn x ys < length ys) × (getD ys (indexIn x ys) 0 ≡ x)) →
-        (x ≡ y) ⊎ In x ys → (indexIn x (y ∷ ys) < suc (length ys)) × (getD (y ∷ ys) (indexIn x (y ∷ ys)) 0 ≡ x)
-    go (inl e) again n = subst Place (sym (index-here x y ys e)) (omega arith, sym e)
-    go (inr d) again (inl e) = absurd (d e)
-    go (inr d) again (inr n) =
-        let r = again n in
-        let low : indexIn x ys < length ys = r .0 in
-        subst Place (sym (index-there x y ys d)) (omega arith, r .1)
-
--- ---- at the end
 
 module _ (nodes : List Word) (groups : List ℕ) (tree : Tree nodes) (fits : Fits nodes groups) where
   met-all-looked-at :

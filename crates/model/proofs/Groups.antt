@@ -12,6 +12,7 @@ use Rattle.model.specs.Lists.{numbersFrom}
 use Rattle.model.specs.Joinings.{apart, groupAt, groupsIn, mergedTo, merged, memberOf, groupAccepts}
 use Rattle.model.proofs.Tests.{Tells, tells-eqb, tells-and, tells-any, tells-by, tells-isIn, tells-hasRow, decided, eq-dec}
 use Rattle.model.proofs.Lists.{Distinct, map-in, distinct-length, distinct-shorter}
+use Rattle.model.proofs.Places.{length-numbersFrom}
 use Rattle.model.proofs.GroupCases.{groupAt-first, groupAt-later, first-or-later, no-groups, fits-rest}
 use Rattle.model.proofs.GroupCases.{memberOf-first, memberOf-later}
 use Rattle.model.proofs.GroupCases.{lower, lower-cases, told-either, merged-either, merged-neither, groupsIn-kept}
@@ -19,11 +20,6 @@ use Rattle.model.proofs.GroupCases.{groupsIn-new}
 use Rattle.model.proofs.Notions.{Fits}
 
 -- ---- the groups at the start
-
-length-numbersFrom : (n i : ℕ) → length (numbersFrom n i) ≡ n
-unfolding numbersFrom
-length-numbersFrom zero i = refl
-length-numbersFrom (suc n) i = ap suc (length-numbersFrom n (suc i))
 
 -- the groups at the start are single nodes
 pub apart-fits : (nodes : List Word) → Fits nodes (apart nodes)

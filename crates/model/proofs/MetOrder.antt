@@ -1,43 +1,22 @@
 -- First-met order only appends, and the test of first-met numbering counts along it: read over the states of a partition's
 -- automaton, it meets as many states as there are met groups. Assumes nothing.
 use mathlib.Core.Path.{_≡_, refl, sym, ap, _∙_, subst}
-use mathlib.Core.Logic.{_⊎_, inl, inr}
 use mathlib.Core.Bool.{Bool, true, false, cond}
-use mathlib.Core.List.{List, [], _∷_, _++_, map, append-assoc, append-nil, List·Memᴰ as In, List·Memᴰ·head as here}
-use mathlib.Core.List.{List·Memᴰ·tail as there, List·Memᴰ·not-nil, List·Memᴰ·cases-cons}
+use mathlib.Core.List.{List, [], _∷_, _++_, map, append-assoc, append-nil}
 use Prim.Native.Nat.{ℕ, zero, suc, _+_, _≤_, _<_}
 use native.Mathlib.Omega.{arith}
-use lib.Dec.{eqb, ltb}
+use lib.Dec.{ltb}
 use lib.ListN.{length, getD, drop, length-append, drop-of-length-le, List·getD-append}
 use lib.Seq.{drop-cons}
-use borrow.Author.Tests.{ltb-true, ltb-false, lt-ltb, le-ltb, eq-eqb, ne-eqb}
+use borrow.Author.Tests.{ltb-true, ltb-false, lt-ltb, le-ltb, eq-eqb}
 use Rattle.model.specs.Lists.{isIn, indexIn}
 use Rattle.model.specs.Classes.{Word}
 use Rattle.model.specs.Tables.{Arc, arc, State, metByArcs, metByStates}
 use Rattle.model.specs.Joinings.{Transition, transitionsOf}
 use Rattle.model.specs.Quotients.{arcsOutOf, metWith, metFrom, renumbered, stateOf}
-use Rattle.model.proofs.Tests.{tells-isIn, tells-eqb, not-told}
+use Rattle.model.proofs.Tests.{tells-isIn, not-told}
+use Rattle.model.proofs.Places.{index-in-front, index-after}
 use Rattle.model.proofs.Meeting.{metWith-grown}
-
--- ---- places in a list that goes on
-
-indexIn-first : (x : ℕ) (xs ys : List ℕ) → In x xs → indexIn x (xs ++ ys) < length xs
-unfolding indexIn
-indexIn-first x [] ys m = absurd (List·Memᴰ·not-nil m)
-indexIn-first x (z ∷ xs) ys m = go (eqb x z) refl (List·Memᴰ·cases-cons m) (λ n. indexIn-first x xs ys n)
-  where
-    go :
-        (b : Bool) → eqb x z ≡ b → (x ≡ z) ⊎ In x xs → (In x xs → indexIn x (xs ++ ys) < length xs) →
-        elim b as (λ c. ℕ) [ true ↦ 0 | false ↦ suc (indexIn x (xs ++ ys)) ] < suc (length xs)
-    go true e h again = omega arith
-    go false e (inl p) again = absurd (not-told (tells-eqb x z) e p)
-    go false e (inr n) again = let low : indexIn x (xs ++ ys) < length xs = again n in omega arith
-
-indexIn-next : (x : ℕ) (xs ys : List ℕ) → (In x xs → ⊥) → indexIn x (xs ++ (x ∷ ys)) ≡ length xs
-unfolding indexIn
-indexIn-next x [] ys out = rw (eq-eqb x x refl, indexIn)
-indexIn-next x (z ∷ xs) ys out =
-    rw (ne-eqb x z (λ e. out (here e)), indexIn) (ap suc (indexIn-next x xs ys (λ m. out (there m))))
 
 -- ---- what is met is only added to
 
@@ -94,7 +73,7 @@ metByArcs-follows every (a ∷ arcs) met rest e =
         h ∙ ap (λ (m : List ℕ). m ++ rest) (q .begins) ∙ append-assoc met (q .more) rest in
         let low : indexIn (a .to) every < length met =
         subst (λ (z : List ℕ). indexIn (a .to) z < length met) (sym whole)
-        (indexIn-first (a .to) met (q .more ++ rest) (tells-isIn (a .to) met .fact t)) in
+        (index-in-front (a .to) met (q .more ++ rest) (tells-isIn (a .to) met .fact t)) in
         metByArcs-old (length met) (arc (a .name) (indexIn (a .to) every)) (renumbered every arcs) low ∙ again met h
     go false t h again =
         let longer = met ++ (a .to ∷ []) in
@@ -103,7 +82,7 @@ metByArcs-follows every (a ∷ arcs) met rest e =
         h ∙ ap (λ (m : List ℕ). m ++ rest) (q .begins) ∙ append-assoc longer (q .more) rest
         ∙ append-assoc met (a .to ∷ []) (q .more ++ rest) in
         let next : indexIn (a .to) every ≡ length met =
-        ap (indexIn (a .to)) whole ∙ indexIn-next (a .to) met (q .more ++ rest) (not-told (tells-isIn (a .to) met) t) in
+        ap (indexIn (a .to)) whole ∙ index-after (a .to) met (q .more ++ rest) (not-told (tells-isIn (a .to) met) t) in
         let size : suc (length met) ≡ length longer = omega (arith, length-append met (a .to ∷ [])) in
         metByArcs-new (length met) (arc (a .name) (indexIn (a .to) every)) (renumbered every arcs) next
         ∙ ap (λ (m : ℕ). metByArcs m (renumbered every arcs)) size ∙ again longer h

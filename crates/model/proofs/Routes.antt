@@ -1,36 +1,20 @@
 -- The paths that the context rule runs over, as walks: a path taken apart after each of its arcs, a path for any two walks in
 -- succession, and what `afterSameArc` tells of two paths. Assumes nothing.
 use mathlib.Core.Path.{_≡_, refl, sym, ap, _∙_, subst}
-use mathlib.Core.Logic.{⊎-elim}
 use mathlib.Core.Bool.{Bool, true, false, false≢true}
-use mathlib.Core.List.{List, [], _∷_, _++_, map, List·Memᴰ as In, List·Memᴰ·head as here, List·Memᴰ·tail as there}
-use mathlib.Core.List.{List·Memᴰ·not-nil, List·Memᴰ·cases-cons, List·Memᴰ·eq-of-singleton, Memᴰ·cast, Memᴰ·map}
-use Prim.Native.Nat.{ℕ, zero, suc, _+_, _-_, _≤_, _<_}
+use mathlib.Core.List.{List, [], _∷_, _++_, map, List·Memᴰ as In, List·Memᴰ·head as here}
+use mathlib.Core.List.{List·Memᴰ·not-nil, List·Memᴰ·eq-of-singleton, Memᴰ·cast, Memᴰ·map}
+use Prim.Native.Nat.{ℕ, zero, suc, _-_, _≤_}
 use native.Mathlib.Omega.{arith}
 use lib.Dec.{eqb}
 use lib.ListN.{length, getD, take, drop}
 use Rattle.model.specs.Classes.{Word}
 use Rattle.model.specs.Lists.{numbersFrom}
 use Rattle.model.specs.Joinings.{Transition, transition, Route, route, routesFrom, afterSameArc}
-use Rattle.model.proofs.Tests.{Tells, tells-eqb, tells-and, tells-any, tells-by, eq-dec}
+use Rattle.model.proofs.Tests.{Tells, tells-eqb, tells-and, tells-any, tells-by}
 use Rattle.model.proofs.Lists.{map-in, in-flatMap, flatMap-in}
+use Rattle.model.proofs.Places.{in-numbersFrom, numbersFrom-in}
 use Rattle.model.proofs.Notions.{Walks}
-
--- ---- numbers in succession
-
-pub in-numbersFrom : (n i j : ℕ) → i ≤ j → j < i + n → In j (numbersFrom n i)
-unfolding numbersFrom
-in-numbersFrom zero i j low high = let z : ⊥ = omega arith in absurd z
-in-numbersFrom (suc n) i j low high =
-    ⊎-elim (λ e. here e) (λ d. there (in-numbersFrom n (suc i) j (omega (arith, d)) (omega arith))) (eq-dec j i)
-
-pub numbersFrom-in : (n i j : ℕ) → In j (numbersFrom n i) → (i ≤ j) × (j < i + n)
-unfolding numbersFrom
-numbersFrom-in zero i j m = absurd (List·Memᴰ·not-nil m)
-numbersFrom-in (suc n) i j m =
-    ⊎-elim (λ e. (omega (arith, e), omega (arith, e)))
-    (λ k. let r = numbersFrom-in n (suc i) j k in (omega (arith, r .0), omega (arith, r .1)))
-    (List·Memᴰ·cases-cons m)
 
 -- x and y stand after the same arc of two paths
 pub tells-afterSameArc :

@@ -13,10 +13,11 @@ use Rattle.model.specs.Tables.{Arc, arc, State, metByStates, isFirstMet}
 use Rattle.model.specs.Joinings.{transition, transitionsOf, groupAt}
 use Rattle.model.specs.Quotients.{arcsOutOf, metGroups, renumbered, stateOf, statesOf}
 use Rattle.model.proofs.Lists.{map-in}
+use Rattle.model.proofs.Places.{nth-of-index}
 use Rattle.model.proofs.Notions.{Tree, Fits, Deterministic, _▸_}
 use Rattle.model.proofs.Transitions.{arc-node}
 use Rattle.model.proofs.Arcs.{Ascending, arcsOutOf-ascending, arcsOutOf-in}
-use Rattle.model.proofs.FirstMet.{nth-of-index, met-distinct, root-met, met-few, met-closed, states-length}
+use Rattle.model.proofs.FirstMet.{met-distinct, root-met, met-few, met-closed, states-length}
 use Rattle.model.proofs.MetOrder.{metByStates-follows}
 use Rattle.model.proofs.ArcCount.{arcs-few}
 use Rattle.model.proofs.Writable.{Writable, arcCount}
