@@ -206,6 +206,7 @@ tells-admits rows nodes groups tree fits det r =
     go (stopped none few) =
         let fewer : walkFrom states 0 0 r .taken < 0 + length r = subst (λ (v : Walk). v .taken < 0 + length r) from-root few in
         tells-by
-        (tells-and (tells-eqb (walkFrom states 0 0 r .taken) (length r)) (tells-itself (getD states (walkFrom states 0 0 r .at-state) no-state .accepts)))
+        (tells-and (tells-eqb (walkFrom states 0 0 r .taken) (length r))
+        (tells-itself (getD states (walkFrom states 0 0 r .at-state) no-state .accepts)))
         (λ both. let taken : walkFrom states 0 0 r .taken ≡ length r = both .0 in let z : ⊥ = omega arith in absurd z)
         (λ h. absurd (none (h .0) (h .1)))

@@ -2,8 +2,7 @@
 -- nodes. Assumes nothing.
 use mathlib.Core.Path.{_≡_, refl, sym, ap₂}
 use mathlib.Core.Bool.{Bool, true, false, cond}
-use mathlib.Core.List.{List, [], _∷_, map, List·Memᴰ as In, List·Memᴰ·head as here, List·Memᴰ·tail as there}
-use mathlib.Core.List.{Memᴰ·cast}
+use mathlib.Core.List.{List, [], _∷_, map, List·Memᴰ as In, List·Memᴰ·head as here, List·Memᴰ·tail as there, Memᴰ·cast}
 use Prim.Native.Nat.{ℕ, suc, _+_, _≤_}
 use native.Mathlib.Omega.{arith}
 use lib.Dec.{eqb, ltb}
@@ -43,7 +42,9 @@ outCount-none [] = refl
 outCount-none (g ∷ gs) = let rest : outCount [] gs ≡ 0 = outCount-none gs in omega arith
 
 -- a transition out of none of the groups is not counted
-outCount-other : (t : Transition) (ts : List Transition) (gs : List ℕ) → (In (t .from) gs → ⊥) → outCount (t ∷ ts) gs ≡ outCount ts gs
+outCount-other :
+    (t : Transition) (ts : List Transition) (gs : List ℕ) → (In (t .from) gs → ⊥) →
+    outCount (t ∷ ts) gs ≡ outCount ts gs
 unfolding outCount arcsOutOf
 outCount-other t ts [] out = refl
 outCount-other t ts (g ∷ gs) out =

@@ -11,8 +11,7 @@ use native.Mathlib.Omega.{arith}
 use lib.Dec.{ltb, leb}
 use lib.ListN.{length, length-append}
 use Rattle.model.specs.Limits.{row-limit, state-limit, when, tree-too-large}
-use Rattle.model.specs.Fields.{File, unread, default-class, book, readFields, readWith, withField}
-use Rattle.model.specs.Fields.{classOk, allBelow}
+use Rattle.model.specs.Fields.{File, unread, default-class, book, readFields, readWith, withField, classOk, allBelow}
 use Rattle.model.specs.Joinings.{treeOf}
 use Rattle.model.specs.Calls.{bookOf, bookFault}
 use Rattle.model.specs.Claims.{Accepted}
@@ -90,7 +89,8 @@ with-class f body at fits ok =
     }
 
 with-row :
-    (f : File) (body : List ℕ) → 1 ≤ f .stage → RowFits (length (f .names)) (f .items) body → BookOk f → BookOk (withField f 3 body)
+    (f : File) (body : List ℕ) → 1 ≤ f .stage → RowFits (length (f .names)) (f .items) body → BookOk f →
+    BookOk (withField f 3 body)
 unfolding withField
 with-row f body high fits ok =
     let below = and-eq-true-iff (leb (length body) row-limit) (allBelow (length (f .names)) body) .0 (fits .row-ok) .1 in
@@ -107,15 +107,19 @@ with-row f body high fits ok =
     }
 
 book-step : (f : File) (mark : ℕ) (body : List ℕ) → Fitting book f mark body → BookOk f → BookOk (withField f mark body)
-book-step f mark body (a-name e low fits) ok = subst (λ (m : ℕ). BookOk (withField f m body)) (sym e) (with-name f body low fits ok)
-book-step f mark body (a-class e at fits) ok = subst (λ (m : ℕ). BookOk (withField f m body)) (sym e) (with-class f body at fits ok)
-book-step f mark body (a-row k e high fits) ok = subst (λ (m : ℕ). BookOk (withField f m body)) (sym e) (with-row f body high fits ok)
+book-step f mark body (a-name e low fits) ok =
+    subst (λ (m : ℕ). BookOk (withField f m body)) (sym e) (with-name f body low fits ok)
+book-step f mark body (a-class e at fits) ok =
+    subst (λ (m : ℕ). BookOk (withField f m body)) (sym e) (with-class f body at fits ok)
+book-step f mark body (a-row k e high fits) ok =
+    subst (λ (m : ℕ). BookOk (withField f m body)) (sym e) (with-row f body high fits ok)
 book-step f mark body (a-state k e high fits) ok = absurd (false≢true k)
 
 -- an accepted book is read to the end, and is sound
 pub accepted-book : (s : List ℕ) → Accepted s → (bookOf s .stage ≡ 3) × BookOk (bookOf s)
 unfolding bookOf bookFault readWith
 accepted-book s ok =
-    read-keeps book (λ f rest. BookOk f) (λ f mark a b body rest size fit h. book-step f mark body (fitting book f mark body fit) h)
+    read-keeps book (λ f rest. BookOk f)
+    (λ f mark a b body rest size fit h. book-step f mark body (fitting book f mark body fit) h)
     (suc (length s)) (unread default-class) s nothing-read
     (first-of (readFields book s .number) (when (ltb state-limit (length (treeOf (bookOf s .items)))) tree-too-large) ok .0)

@@ -15,7 +15,8 @@ use Rattle.model.proofs.Rules.{Ruled, forked, by-context, by-ends, by-b
 
 -- an arc of a related node leaves the node's own group
 arc-from :
-    (nodes : List Word) (groups : List ℕ) (u v : Word) (a : ℕ) → groupAt nodes groups u ≡ groupAt nodes groups v → In (v ▸ a) nodes →
+    (nodes : List Word) (groups : List ℕ) (u v : Word) (a : ℕ) →
+    groupAt nodes groups u ≡ groupAt nodes groups v → In (v ▸ a) nodes →
     In (transition (groupAt nodes groups u) a (groupAt nodes groups (v ▸ a))) (transitionsOf nodes groups)
 arc-from nodes groups u v a e m =
     subst (λ (g : ℕ). In (transition g a (groupAt nodes groups (v ▸ a))) (transitionsOf nodes groups)) (sym e)
@@ -28,7 +29,8 @@ pub ways-walks :
 ways-walks nodes groups [] u w f = f .one-group
 ways-walks nodes groups (a ∷ p) u w f =
     let v = f .0 in
-    (groupAt nodes groups (v ▸ a), arc-from nodes groups u v a (f .2 .one-group) (f .3), ways-walks nodes groups p (v ▸ a) w (f .4))
+    let first = arc-from nodes groups u v a (f .2 .one-group) (f .3) in
+    (groupAt nodes groups (v ▸ a), first, ways-walks nodes groups p (v ▸ a) w (f .4))
 
 -- members of a group agree with its f
 pub group-f :
@@ -70,7 +72,9 @@ module _ (c : Class) (rows nodes : List Word) (groups : List ℕ) (fits : Fits n
 
   ker-context : eqb (c .kind) 0 ≡ true → (u w : Word) → OneContext c nodes (Ker nodes groups) u w → Ker nodes groups u w
   ker-context kind u w one =
-      let two : TwoPaths (c .first) (c .second) (transitionsOf nodes groups) groups (groupAt nodes groups u) (groupAt nodes groups w) =
+      let x = groupAt nodes groups u in
+      let y = groupAt nodes groups w in
+      let two : TwoPaths (c .first) (c .second) (transitionsOf nodes groups) groups x y =
       record {
         p = one .p;
         q = one .q;

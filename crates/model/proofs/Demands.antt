@@ -8,8 +8,7 @@ use native.Mathlib.Omega.{arith}
 use lib.Dec.{ltb}
 use lib.ListN.{length}
 use borrow.Author.Tests.{ltb-false, le-ltb}
-use Rattle.model.specs.Limits.{state-limit, input-limit, work-bytes, when}
-use Rattle.model.specs.Limits.{bad-sizes, tree-too-large}
+use Rattle.model.specs.Limits.{state-limit, input-limit, work-bytes, when, bad-sizes, tree-too-large}
 use Rattle.model.specs.Fields.{File, file, Class, Read, table, book, readFields, accepted-file}
 use Rattle.model.specs.Tables.{State, stateBody, statesIn, isFirstMet, tableBytes}
 use Rattle.model.specs.Classes.{Word}
@@ -27,8 +26,7 @@ use Rattle.model.proofs.Writable.{Writable}
 use Rattle.model.proofs.FieldLaws.{first-of}
 use Rattle.model.proofs.StateBodies.{states-read-back}
 use Rattle.model.proofs.WritableStates.{states-writable}
-use Rattle.model.proofs.Reading.{accepted-has-row, accepted-entries, reads-written, written-length}
-use Rattle.model.proofs.Reading.{rewrites-same}
+use Rattle.model.proofs.Reading.{accepted-has-row, accepted-entries, reads-written, written-length, rewrites-same}
 
 -- ---- what an accepted book and a like book give
 
@@ -63,7 +61,8 @@ table-any-order f g steps same full =
     let c : Class = f .class-is in
     let groups : List ℕ = afterSteps (apart (treeOf (g .items))) steps in
     let joined : Joined c (g .items) groups =
-    subst (λ (d : Class). Joined d (g .items) groups) (sym (same .class-same)) (joining-joined (g .class-is) (g .items) steps full) in
+    subst (λ (d : Class). Joined d (g .items) groups) (sym (same .class-same))
+    (joining-joined (g .class-is) (g .items) steps full) in
     let states : statesOf (g .items) (treeOf (g .items)) groups ≡ bookStates f =
     joined-states c (g .items) (f .items) groups (joinedGroups c (f .items))
     (λ r. (same-rows f g same r .1, same-rows f g same r .0)) joined (joinedGroups-joined c (f .items)) in
@@ -72,7 +71,9 @@ table-any-order f g steps same full =
     ∙ ap (λ (ns : List (List ℕ)). tableBytes ns c (bookStates f)) (sym (same .names-same))
 
 -- a book's own table is that of one of its full joinings
-table-of-joining : (f : File) → (steps : List Step) × (isFullJoining (f .class-is) (f .items) steps ≡ true) × (tableAfter f steps ≡ bookTable f)
+table-of-joining :
+    (f : File) →
+    (steps : List Step) × (isFullJoining (f .class-is) (f .items) steps ≡ true) × (tableAfter f steps ≡ bookTable f)
 unfolding tableAfter bookTable bookStates
 table-of-joining f =
     let j = joined-is-full-joining (f .class-is) (f .items) in (
@@ -122,7 +123,9 @@ book-writable s ok =
     states-writable (f .items) (treeOf (f .items)) groups (length (f .names)) (treeOf-tree (f .items)) (joined f .fits)
     (joined-deterministic (f .class-is) (f .items) groups (joined f)) (accepted-tree s ok) (name-below s ok)
   where
-    name-below : (s : List ℕ) → Accepted s → (w : Word) (a : ℕ) → In (w ▸ a) (treeOf (bookOf s .items)) → a < length (bookOf s .names)
+    name-below :
+        (s : List ℕ) → Accepted s → (w : Word) (a : ℕ) → In (w ▸ a) (treeOf (bookOf s .items)) →
+        a < length (bookOf s .names)
     name-below s ok w a m =
         let first-row = accepted-has-row s ok in
         let b = node-begins-row (bookOf s .items) (first-row .0) (first-row .1) (w ▸ a) m in

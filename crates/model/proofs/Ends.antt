@@ -46,7 +46,12 @@ module _ (c : Class) (rows nodes : List Word) where
       Joins (merged (s .left) (s .right) groups) result → Joins groups result
   unfolding allOpen afterSteps
   joins-step groups s result o j =
-      record { steps = s ∷ j .steps; open-steps = ap₂ (λ (x y : Bool). x && y) o (j .open-steps); leads = j .leads; full = j .full }
+      record {
+        steps = s ∷ j .steps;
+        open-steps = ap₂ (λ (x y : Bool). x && y) o (j .open-steps);
+        leads = j .leads;
+        full = j .full;
+      }
 
   -- an open step leaves fewer groups
   open-fewer :

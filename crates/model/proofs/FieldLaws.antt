@@ -50,9 +50,10 @@ pub record StateFits (n : ℕ) (items : List (List ℕ)) (body : List ℕ) : Typ
 pub name-fits : (f : File) (body : List ℕ) → nameFault f body ≡ 0 → NameFits (f .names) body
 unfolding nameFault
 name-fits f body e =
-    let p = first-of (when (not (nameOk body)) bad-name)
-    (firstOf (when (not (above (f .names) body)) name-order) (when (leb name-limit (length (f .names))) too-many)) e in
-    let q = first-of (when (not (above (f .names) body)) name-order) (when (leb name-limit (length (f .names))) too-many) (p .1) in
+    let order = when (not (above (f .names) body)) name-order in
+    let count = when (leb name-limit (length (f .names))) too-many in
+    let p = first-of (when (not (nameOk body)) bad-name) (firstOf order count) e in
+    let q = first-of order count (p .1) in
     record {
       well-formed = when-not (nameOk body) 4 (p .0);
       in-order = when-not (above (f .names) body) 5 (q .0);
@@ -83,14 +84,16 @@ class-parts body ok =
 pub row-fits : (f : File) (body : List ℕ) → rowFault f body ≡ 0 → RowFits (length (f .names)) (f .items) body
 unfolding rowFault
 row-fits f body e =
-    let p = first-of (when (leb book-rows (length (f .items))) too-many) (when (not (rowOk (length (f .names)) body)) bad-row) e in
-    record { few = when-le book-rows (length (f .items)) 6 (p .0); row-ok = when-not (rowOk (length (f .names)) body) 8 (p .1) }
+    let fits = rowOk (length (f .names)) body in
+    let p = first-of (when (leb book-rows (length (f .items))) too-many) (when (not fits) bad-row) e in
+    record { few = when-le book-rows (length (f .items)) 6 (p .0); row-ok = when-not fits 8 (p .1) }
 
 pub state-fits : (f : File) (body : List ℕ) → stateFault f body ≡ 0 → StateFits (length (f .names)) (f .items) body
 unfolding stateFault
 state-fits f body e =
-    let p = first-of (when (leb state-limit (length (f .items))) too-many) (when (not (stateOk (length (f .names)) body)) bad-state) e in
-    record { few = when-le state-limit (length (f .items)) 6 (p .0); state-ok = when-not (stateOk (length (f .names)) body) 10 (p .1) }
+    let fits = stateOk (length (f .names)) body in
+    let p = first-of (when (leb state-limit (length (f .items))) too-many) (when (not fits) bad-state) e in
+    record { few = when-le state-limit (length (f .items)) 6 (p .0); state-ok = when-not fits 10 (p .1) }
 
 pub fits-state : (f : File) (body : List ℕ) → StateFits (length (f .names)) (f .items) body → stateFault f body ≡ 0
 unfolding stateFault

@@ -2,9 +2,7 @@
 -- Assumes nothing.
 use mathlib.Core.Path.{_≡_, refl, sym, ap, _∙_, subst}
 use mathlib.Core.Logic.{_⊎_, inl, inr}
-use mathlib.Core.List.{List, [], _∷_}
-use mathlib.Core.List.{List·Memᴰ as In, List·Memᴰ·head as here}
-use mathlib.Core.List.{List·Memᴰ·not-nil, List·Memᴰ·eq-of-singleton}
+use mathlib.Core.List.{List, [], _∷_, List·Memᴰ as In, List·Memᴰ·head as here, List·Memᴰ·not-nil, List·Memᴰ·eq-of-singleton}
 use mathlib.Core.List.{Memᴰ·cast}
 use Prim.Native.Nat.{ℕ, _+_, _≤_, _<_}
 use native.Mathlib.Omega.{arith}
@@ -57,7 +55,8 @@ module _ (nodes : List Word) (groups : List ℕ) (tree : Tree nodes) (fits : Fit
   -- so there are no more than nodes
   pub met-few : length (metGroups nodes groups) ≤ length nodes
   met-few =
-      let few : length (metGroups nodes groups) ≤ length groups = distinct-length (metGroups nodes groups) groups met-distinct met-in in
+      let few : length (metGroups nodes groups) ≤ length groups =
+      distinct-length (metGroups nodes groups) groups met-distinct met-in in
       let size : length groups ≡ length nodes = fits .lengths in
       omega arith
 

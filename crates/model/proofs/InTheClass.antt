@@ -67,12 +67,14 @@ module _ (c : Class) (rows : List Word) (groups : List ℕ) (joined : Joined c r
   -- words that lead to one group have the same tails
   one-way :
       (u w : Word) (z : ℕ) → Walks (automaton rows groups) (start rows groups) u z →
-      Walks (automaton rows groups) (start rows groups) w z → (v : Word) → Admits rows groups (u ++ v) → Admits rows groups (w ++ v)
+      Walks (automaton rows groups) (start rows groups) w z → (v : Word) →
+      Admits rows groups (u ++ v) → Admits rows groups (w ++ v)
   one-way u w z f g v e =
       let h = told (u ++ v) .fact e in
       let cut = walks-split (automaton rows groups) (start rows groups) (h .0) u v (h .1) in
       let here-too : cut .0 ≡ z =
-      walks-unique (automaton rows groups) (joined-deterministic c rows groups joined) (start rows groups) (cut .0) z u (cut .1) f in
+      walks-unique (automaton rows groups) (joined-deterministic c rows groups joined)
+      (start rows groups) (cut .0) z u (cut .1) f in
       told (w ++ v) .test (
         h .0,
         walks-append (automaton rows groups) (start rows groups) z (h .0) w v g
@@ -114,7 +116,8 @@ module _ (c : Class) (rows : List Word) (groups : List ℕ) (joined : Joined c r
   pub admits-contextual : eqb (c .kind) 0 ≡ true → Contextual (c .first) (c .second) (Admits rows groups)
   admits-contextual kind =
       record {
-        equal-tails = λ u1 u2 a w1 w2 i size low high e1 e2. meet u1 u2 a i size low high (place u1 a w1 i e1) (place u2 a w2 i e2);
+        equal-tails = λ u1 u2 a w1 w2 i size low high e1 e2.
+            meet u1 u2 a i size low high (place u1 a w1 i e1) (place u2 a w2 i e2);
       }
     where
       meet :
@@ -200,7 +203,8 @@ module _ (c : Class) (rows : List Word) (groups : List ℕ) (joined : Joined c r
       a (yh .0) (subst (λ (q : ℕ). In (transition x a q) ts) one (xg .1)) (yh .1))
 
   pub admits-distinguishable : eqb (c .kind) 0 ≡ false → Distinguishable c (Admits rows groups)
-  admits-distinguishable kind = record { equal-tails = λ w z v e lw lz. meet w z v e (told (w ++ v) .fact lw) (told (z ++ v) .fact lz) }
+  admits-distinguishable kind =
+      record { equal-tails = λ w z v e lw lz. meet w z v e (told (w ++ v) .fact lw) (told (z ++ v) .fact lz) }
     where
       meet :
           (w z v : Word) → fOf c w ≡ fOf c z → Carried rows groups (w ++ v) → Carried rows groups (z ++ v) →
@@ -209,7 +213,8 @@ module _ (c : Class) (rows : List Word) (groups : List ℕ) (joined : Joined c r
           let ts = automaton rows groups in
           let x = walks-split ts (start rows groups) (cw .0) w v (cw .1) in
           let y = walks-split ts (start rows groups) (cz .0) z v (cz .1) in
-          let one : x .0 ≡ y .0 = meet-by-f kind v w z (x .0) (y .0) (cw .0) (cz .0) e (x .1) (y .1) (x .2) (y .2) (cw .2) (cz .2) in
+          let one : x .0 ≡ y .0 =
+          meet-by-f kind v w z (x .0) (y .0) (cw .0) (cz .0) e (x .1) (y .1) (x .2) (y .2) (cw .2) (cz .2) in
           one-group-tails w z (y .0) (subst (λ (q : ℕ). Walks ts (start rows groups) w q) one (x .1)) (y .1)
 
   pub admits-in-class : InClass c (Admits rows groups)

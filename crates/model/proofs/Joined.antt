@@ -62,8 +62,10 @@ closed-there c rows rows′ nodes nodes′ R n r closed =
       transitive = closed .transitive;
       fork = λ u w a e m m′. closed .fork u w a e (n (u ▸ a) m) (n (w ▸ a) m′);
       context = λ k u w x. closed .context k u w (context-there R nodes nodes′ n c u w x);
-      ends = λ k u w x y e mu mw mx my p q rx ry. closed .ends k u w x y e (n u mu) (n w mw) (n x mx) (n y my) p q (r x rx) (r y ry);
-      back = λ k u w x y a e mu mw mx my p q ma mb z. closed .back k u w x y a e (n u mu) (n w mw) (n x mx) (n y my) p q (n (x ▸ a) ma) (n (y ▸ a) mb) z;
+      ends = λ k u w x y e mu mw mx my p q rx ry.
+          closed .ends k u w x y e (n u mu) (n w mw) (n x mx) (n y my) p q (r x rx) (r y ry);
+      back = λ k u w x y a e mu mw mx my p q ma mb z.
+          closed .back k u w x y a e (n u mu) (n w mw) (n x mx) (n y my) p q (n (x ▸ a) ma) (n (y ▸ a) mb) z;
     }
 
 -- ---- full joinings
@@ -81,12 +83,14 @@ unfolding isFullJoining
 joining-joined c rows steps e =
     let nodes = treeOf rows in
     let start : Fits nodes (apart nodes) = apart-fits nodes in
-    let parts : (allOpen c rows nodes (apart nodes) steps ≡ true) × (isFull c rows nodes (afterSteps (apart nodes) steps) ≡ true) =
+    let parts =
     and-eq-true-iff (allOpen c rows nodes (apart nodes) steps) (isFull c rows nodes (afterSteps (apart nodes) steps)) .0 e in
     record {
       fits = after-fits nodes (apart nodes) steps start;
       full = parts .1;
-      inside = λ R closed. sound c rows nodes R (treeOf-tree rows) closed (apart nodes) steps start (parts .0) (apart-inside c rows nodes R closed);
+      inside = λ R closed.
+          sound c rows nodes R (treeOf-tree rows) closed (apart nodes) steps start (parts .0)
+          (apart-inside c rows nodes R closed);
     }
 
 pub joinedGroups-joined : (c : Class) (rows : List Word) → Joined c rows (joinedGroups c rows)
@@ -125,8 +129,12 @@ joined-states c rows rows′ groups groups′ same j j′ =
       det′ = joined-deterministic c rows′ groups′ j′;
       same-nodes = λ w. (go w, back w);
       same-rows = same;
-      inside = j .inside (Ker nodes′ groups′) (closed-there c rows rows′ nodes nodes′ (Ker nodes′ groups′) go (λ r. same r .0) (joined-closed c rows′ groups′ j′));
-      inside′ = j′ .inside (Ker nodes groups) (closed-there c rows′ rows nodes′ nodes (Ker nodes groups) back (λ r. same r .1) (joined-closed c rows groups j));
+      inside =
+          j .inside (Ker nodes′ groups′)
+          (closed-there c rows rows′ nodes nodes′ (Ker nodes′ groups′) go (λ r. same r .0) (joined-closed c rows′ groups′ j′));
+      inside′ =
+          j′ .inside (Ker nodes groups)
+          (closed-there c rows′ rows nodes′ nodes (Ker nodes groups) back (λ r. same r .1) (joined-closed c rows groups j));
     })
 
 -- ---- the joining law
@@ -162,5 +170,7 @@ joining-law c rows nodes groups tree fits same inside closed =
       same-nodes = same;
       same-rows = λ r. (λ m. m, λ m. m);
       inside = inside;
-      inside′ = j .inside (Ker nodes groups) (closed-there c rows rows (treeOf rows) nodes (Ker nodes groups) (λ w. same w .1) (λ r m. m) closed);
+      inside′ =
+          j .inside (Ker nodes groups)
+          (closed-there c rows rows (treeOf rows) nodes (Ker nodes groups) (λ w. same w .1) (λ r m. m) closed);
     })

@@ -36,7 +36,9 @@ module _ {A : Type 0} where
   in-filterBy test [] m t = absurd (List·Memᴰ·not-nil m)
   in-filterBy test {x} (y ∷ ys) m t = go (test y) refl (List·Memᴰ·cases-cons m) (λ n. in-filterBy test ys n t)
     where
-      go : (b : Bool) → test y ≡ b → (x ≡ y) ⊎ In x ys → (In x ys → In x (filterBy test ys)) → In x (cond b (y ∷ filterBy test ys) (filterBy test ys))
+      go :
+          (b : Bool) → test y ≡ b → (x ≡ y) ⊎ In x ys → (In x ys → In x (filterBy test ys)) →
+          In x (cond b (y ∷ filterBy test ys) (filterBy test ys))
       go true e (inl p) again = here p
       go true e (inr n) again = there (again n)
       go false e (inl p) again = absurd (false≢true (sym e ∙ subst (λ z. test z ≡ true) p t))
@@ -47,8 +49,12 @@ module _ {A : Type 0} where
   filterBy-in test [] m = absurd (List·Memᴰ·not-nil m)
   filterBy-in test {x} (y ∷ ys) m = go (test y) refl (λ n. filterBy-in test ys n) m
     where
-      go : (b : Bool) → test y ≡ b → (In x (filterBy test ys) → In x ys × (test x ≡ true)) → In x (cond b (y ∷ filterBy test ys) (filterBy test ys)) → In x (y ∷ ys) × (test x ≡ true)
-      go true e again n = ⊎-elim (λ p. (here p, subst (λ z. test z ≡ true) (sym p) e)) (λ r. (there (again r .0), again r .1)) (List·Memᴰ·cases-cons n)
+      go :
+          (b : Bool) → test y ≡ b → (In x (filterBy test ys) → In x ys × (test x ≡ true)) →
+          In x (cond b (y ∷ filterBy test ys) (filterBy test ys)) → In x (y ∷ ys) × (test x ≡ true)
+      go true e again n =
+          ⊎-elim (λ p. (here p, subst (λ z. test z ≡ true) (sym p) e)) (λ r. (there (again r .0), again r .1))
+          (List·Memᴰ·cases-cons n)
       go false e again n = (there (again n .0), again n .1)
 
   -- no element stands twice
@@ -63,12 +69,16 @@ module _ {A : Type 0} where
     distinct-snoc xs y (d .1) (λ n. out (there n)),
   )
 
-  -- the list without one occurrence of an element
-  without : {x : A} (ys : List A) → In x ys → (zs : List A) × (length ys ≡ suc (length zs)) × ((z : A) → In z ys → (z ≡ x → ⊥) → In z zs)
+  -- a list one shorter than ys that holds all its elements but x
+  abbrev Without : A → List A → Type 0
+  Without x ys = (zs : List A) × (length ys ≡ suc (length zs)) × ((z : A) → In z ys → (z ≡ x → ⊥) → In z zs)
+
+  -- there is one, if x is in ys: what is left without one occurrence of x
+  without : {x : A} (ys : List A) → In x ys → Without x ys
   without [] m = absurd (List·Memᴰ·not-nil m)
   without {x} (y ∷ ys) m = go (List·Memᴰ·cases-cons m) (λ n. without ys n)
     where
-      go : (x ≡ y) ⊎ In x ys → (In x ys → (zs : List A) × (length ys ≡ suc (length zs)) × ((z : A) → In z ys → (z ≡ x → ⊥) → In z zs)) → (zs : List A) × (suc (length ys) ≡ suc (length zs)) × ((z : A) → In z (y ∷ ys) → (z ≡ x → ⊥) → In z zs)
+      go : (x ≡ y) ⊎ In x ys → (In x ys → Without x ys) → Without x (y ∷ ys)
       go (inl e) again = (ys, refl, λ z n d. ⊎-elim (λ p. absurd (d (p ∙ sym e))) (λ r. r) (List·Memᴰ·cases-cons n))
       go (inr n) again =
           let r = again n in
@@ -79,17 +89,22 @@ module _ {A : Type 0} where
   distinct-length [] ys d h = omega arith
   distinct-length (x ∷ xs) ys d h =
       let r = without ys (h x (here refl)) in
-      let rest : length xs ≤ length (r .0) = distinct-length xs (r .0) (d .1) (λ z m. r .2 z (h z (there m)) (λ e. d .0 (Memᴰ·cast (sym e) m))) in
+      let rest : length xs ≤ length (r .0) =
+      distinct-length xs (r .0) (d .1) (λ z m. r .2 z (h z (there m)) (λ e. d .0 (Memᴰ·cast (sym e) m))) in
       let size : length ys ≡ suc (length (r .0)) = r .1 in
       omega arith
 
   -- and fewer where one is left out
-  pub distinct-shorter : (xs ys : List A) (z : A) → Distinct xs → ((x : A) → In x xs → In x ys) → In z ys → (In z xs → ⊥) → length xs < length ys
+  pub distinct-shorter :
+      (xs ys : List A) (z : A) → Distinct xs → ((x : A) → In x xs → In x ys) → In z ys → (In z xs → ⊥) →
+      length xs < length ys
   distinct-shorter xs ys z d h m out =
       distinct-length (z ∷ xs) ys (out, d) (λ x n. ⊎-elim (λ e. Memᴰ·cast e m) (λ k. h x k) (List·Memᴰ·cases-cons n))
 
   -- lists of the same elements without repeats are of one length
-  pub same-length : (xs ys : List A) → Distinct xs → Distinct ys → ((x : A) → In x xs → In x ys) → ((x : A) → In x ys → In x xs) → length xs ≡ length ys
+  pub same-length :
+      (xs ys : List A) → Distinct xs → Distinct ys → ((x : A) → In x xs → In x ys) →
+      ((x : A) → In x ys → In x xs) → length xs ≡ length ys
   same-length xs ys d e f g =
       let p : length xs ≤ length ys = distinct-length xs ys d f in
       let q : length ys ≤ length xs = distinct-length ys xs e g in

@@ -66,11 +66,14 @@ turned r = record { node = r .node; is-node = r .is-node′; is-node′ = r .is-
 module _
     {rows rows′ nodes nodes′ : List Word} {groups groups′ : List ℕ} (same : SamePartition rows rows′ nodes nodes′ groups groups′)
   where
-    at-node : (w : Word) → In w nodes → Corresponds nodes nodes′ groups groups′ (groupAt nodes groups w) (groupAt nodes′ groups′ w)
+    at-node :
+        (w : Word) → In w nodes →
+        Corresponds nodes nodes′ groups groups′ (groupAt nodes groups w) (groupAt nodes′ groups′ w)
     at-node w m = record { node = w; is-node = m; is-node′ = same .same-nodes w .0 m; group = refl; group′ = refl }
 
     one-group :
-        (g g′ h h′ : ℕ) → Corresponds nodes nodes′ groups groups′ g g′ → Corresponds nodes nodes′ groups groups′ h h′ → g ≡ h → g′ ≡ h′
+        (g g′ h h′ : ℕ) → Corresponds nodes nodes′ groups groups′ g g′ → Corresponds nodes nodes′ groups groups′ h h′ →
+        g ≡ h → g′ ≡ h′
     one-group g g′ h h′ r s e =
         let k : Ker nodes′ groups′ (r .node) (s .node) =
         same .inside .related (r .node) (s .node) (r .is-node) (s .is-node) (r .group ∙ e ∙ sym (s .group)) in
@@ -143,7 +146,8 @@ module _
         let lengths : length nodes ≡ length nodes′ =
         same-length nodes nodes′ (same .tree .distinct) (same .tree′ .distinct) (λ w. same .same-nodes w .0)
         (λ w. same .same-nodes w .1) in
-        subst (λ (n : ℕ). Paired (Corresponds nodes nodes′ groups groups′) (metFrom (length nodes) 0 ts start) (metFrom n 0 ts′ start′))
+        let first = metFrom (length nodes) 0 ts start in
+        subst (λ (n : ℕ). Paired (Corresponds nodes nodes′ groups groups′) first (metFrom n 0 ts′ start′))
         lengths
         (metFrom-paired one-to-one ts ts′ arcs-paired (length nodes) 0 (pair (at-node same [] (same .tree .root)) none))
 

@@ -39,7 +39,8 @@ reads-name stage names c body rest r low fits again =
 -- at least one name is among those read and these
 reads-names :
     (stage : ℕ) (names more : List (List ℕ)) (c : Class) (rest : List ℕ) (r : Read) → stage ≤ 1 → (length more ≡ 0 → stage ≡ 1) →
-    NamesOk names more → ReadsTo (file 1 (names ++ more) c []) rest r → ReadsTo (file stage names c []) (nameFields more ++ rest) r
+    NamesOk names more → ReadsTo (file 1 (names ++ more) c []) rest r →
+    ReadsTo (file stage names c []) (nameFields more ++ rest) r
 unfolding nameFields flatMap
 reads-names stage names [] c rest r low named ok again =
     subst (λ (k : ℕ). ReadsTo (file k names c []) rest r) (sym (named refl))
@@ -79,7 +80,8 @@ reads-states :
 unfolding stateFields flatMap readFrom
 reads-states stage names items c [] high some ok few zero h = let z : ⊥ = omega arith in absurd z
 reads-states stage names items c [] high some ok few (suc l) h =
-    subst (λ (k : ℕ). readFrom (suc l) table (file k names c items) [] ≡ accepted-file (file 3 names c (items ++ []))) (sym (some refl))
+    subst (λ (k : ℕ). readFrom (suc l) table (file k names c items) [] ≡ accepted-file (file 3 names c (items ++ [])))
+    (sym (some refl))
     (ap (λ (z : List (List ℕ)). accepted-file (file 3 names c z)) (sym (append-nil items)))
 reads-states stage names items c (s ∷ states) high some ok few l h =
     let body = stateBody s in

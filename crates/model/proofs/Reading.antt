@@ -31,7 +31,9 @@ accepted-has-row s ok =
     first-in (bookOf s .items) (r .1 .some-row (omega (arith, r .0)))
 
 -- entries of its rows are numbers of its names
-pub accepted-entries : (s : List ℕ) → Accepted s → (r : List ℕ) → In r (bookOf s .items) → (a : ℕ) → In a r → a < length (bookOf s .names)
+pub accepted-entries :
+    (s : List ℕ) → Accepted s → (r : List ℕ) → In r (bookOf s .items) → (a : ℕ) → In a r →
+    a < length (bookOf s .names)
 accepted-entries s ok r m a n = tells-allBelow (length (bookOf s .names)) r .fact (accepted-book s ok .1 .rows-below r m) a n
 
 -- a table with the book's names and class, and states that can be written, is read back
@@ -44,7 +46,8 @@ reads-written s states ok w =
     let b = accepted-book s ok in
     let names = bookOf s .names in
     let bytes = tableBytes names (bookOf s .class-is) states in
-    reads-table names default-class (bookOf s .class-is) states (b .1 .names-ok) (b .1 .named (omega (arith, b .0))) (b .1 .class-ok)
+    reads-table names default-class (bookOf s .class-is) states
+    (b .1 .names-ok) (b .1 .named (omega (arith, b .0))) (b .1 .class-ok)
     (λ t m. body-ok (length names) t (w .ascending t m) (λ a n. w .names-below t a m n)) (w .some-state) (w .few-states)
     (suc (length bytes)) (omega arith)
 

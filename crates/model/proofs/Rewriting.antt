@@ -3,9 +3,8 @@
 use mathlib.Core.Path.{_≡_, refl, sym, ap, ap₂, _∙_, subst}
 use mathlib.Core.Logic.{⊎-elim}
 use mathlib.Core.Bool.{Bool, true, false, cond, true≢false}
-use mathlib.Core.List.{List, [], _∷_, _++_, flatMap, append-nil, append-assoc, List·Memᴰ as In}
-use mathlib.Core.List.{List·Memᴰ·head as here, List·Memᴰ·tail as there}
-use mathlib.Core.List.{List·Memᴰ·not-nil, List·Memᴰ·append-cases, List·Memᴰ·eq-of-singleton}
+use mathlib.Core.List.{List, [], _∷_, _++_, flatMap, append-nil, append-assoc, List·Memᴰ as In, List·Memᴰ·head as here}
+use mathlib.Core.List.{List·Memᴰ·tail as there, List·Memᴰ·not-nil, List·Memᴰ·append-cases, List·Memᴰ·eq-of-singleton}
 use Prim.Native.Nat.{ℕ, suc, _+_, _*_, _/_, _%_, _≤_, _<_}
 use native.Mathlib.Omega.{arith}
 use lib.Dec.{leb}
@@ -63,7 +62,8 @@ class-again body ok =
 
 -- names, the class if it is read, and items, written, and then what is left
 abbrev written : List (List ℕ) → Bool → Class → List (List ℕ) → List ℕ → List ℕ
-written names class-read c items rest = nameFields names ++ (cond class-read (classField c) [] ++ (flatMap (fieldBytes 4) items ++ rest))
+written names class-read c items rest =
+    nameFields names ++ (cond class-read (classField c) [] ++ (flatMap (fieldBytes 4) items ++ rest))
 
 -- a table as read so far, of the input s
 record Rewrites (s : List ℕ) (f : File) (rest : List ℕ) : Type 0 where
@@ -73,7 +73,9 @@ record Rewrites (s : List ℕ) (f : File) (rest : List ℕ) : Type 0 where
   bodies : (r : List ℕ) → In r (f .items) → stateBody (stateIn r) ≡ r
 
 module _ (s : List ℕ) (f : File) (a b : ℕ) (body rest : List ℕ) (size : length body ≡ 256 * a + b) where
-  front : (mark : ℕ) → Rewrites s f (mark ∷ (a ∷ (b ∷ (body ++ rest)))) → mark ∷ (a ∷ (b ∷ (body ++ rest))) ≡ fieldBytes mark body ++ rest
+  front :
+      (mark : ℕ) → Rewrites s f (mark ∷ (a ∷ (b ∷ (body ++ rest)))) →
+      mark ∷ (a ∷ (b ∷ (body ++ rest))) ≡ fieldBytes mark body ++ rest
   front mark h = field-again mark a b body rest size (h .bytes .1 .1 .0)
 
   with-name : f .stage ≤ 1 → Rewrites s f (1 ∷ (a ∷ (b ∷ (body ++ rest)))) → Rewrites s (withField f 1 body) rest
@@ -92,7 +94,9 @@ module _ (s : List ℕ) (f : File) (a b : ℕ) (body rest : List ℕ) (size : le
         bodies = h .bodies;
       }
 
-  with-class : f .stage ≡ 1 → classOk body ≡ true → Rewrites s f (2 ∷ (a ∷ (b ∷ (body ++ rest)))) → Rewrites s (withField f 2 body) rest
+  with-class :
+      f .stage ≡ 1 → classOk body ≡ true → Rewrites s f (2 ∷ (a ∷ (b ∷ (body ++ rest)))) →
+      Rewrites s (withField f 2 body) rest
   unfolding withField flatMap
   with-class at ok h =
       let no-items = h .no-items (omega arith) in

@@ -24,7 +24,8 @@ pub tells-afterSameArc :
 unfolding afterSameArc
 tells-afterSameArc k h x y r s =
     tells-by
-    (tells-any (λ i. tells-and (tells-eqb (getD (r .groups) i 0) x) (tells-eqb (getD (s .groups) i 0) y)) (numbersFrom (suc k - h) h))
+    (tells-any (λ i. tells-and (tells-eqb (getD (r .groups) i 0) x) (tells-eqb (getD (s .groups) i 0) y))
+    (numbersFrom (suc k - h) h))
     (λ f. let b = numbersFrom-in (suc k - h) h (f .0) (f .1) in (f .0, b .0, omega (arith, b .0, b .1), f .2 .0, f .2 .1))
     (λ f. (f .0, in-numbersFrom (suc k - h) h (f .0) (f .1) (omega (arith, f .1, f .2)), (f .3, f .4)))
 
@@ -80,8 +81,9 @@ module _ (ts : List Transition) where
   route-through (suc n) g r zero m h =
       let f = route-steps n g r m in
       let again = route-through n (f .1) (f .3) zero (f .4) (omega arith) in
+      let on = subst (λ (x : ℕ). Walks ts x (f .3 .names) (again .1 .0)) (sym (again .0)) (again .1 .1) in
       subst (λ (s : Route). Through g s zero) (sym (f .5))
-      (refl, (again .1 .0, (f .1, f .2, subst (λ (x : ℕ). Walks ts x (f .3 .names) (again .1 .0)) (sym (again .0)) (again .1 .1))))
+      (refl, (again .1 .0, (f .1, f .2, on)))
   route-through (suc n) g r (suc i) m h =
       let f = route-steps n g r m in
       let again = route-through n (f .1) (f .3) i (f .4) (omega arith) in

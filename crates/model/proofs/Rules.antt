@@ -9,12 +9,10 @@ use lib.Dec.{eqb}
 use lib.ListN.{length}
 use Rattle.model.specs.Fields.{Class}
 use Rattle.model.specs.Classes.{Word}
-use Rattle.model.specs.Joinings.{Transition, transition, transitionsOf, groupsIn, forks, intoOne}
-use Rattle.model.specs.Joinings.{byContext, fOfGroup, byF, byRule, groupAccepts}
-use Rattle.model.specs.Joinings.{Step, step, isOpen, stepsBetween, openSteps, isFull}
+use Rattle.model.specs.Joinings.{Transition, transition, transitionsOf, groupsIn, forks, intoOne, byContext, fOfGroup}
+use Rattle.model.specs.Joinings.{byF, byRule, groupAccepts, Step, step, isOpen, stepsBetween, openSteps, isFull}
 use Rattle.model.proofs.Tests.{Tells, tells-eqb, tells-same, tells-and, tells-or, tells-not, tells-by, tells-anyTwo}
-use Rattle.model.proofs.Tests.{tells-isIn}
-use Rattle.model.proofs.Tests.{tells-itself, eq-dec}
+use Rattle.model.proofs.Tests.{tells-isIn, tells-itself, eq-dec}
 use Rattle.model.proofs.Lists.{in-flatMap, in-filterBy, filterBy-in}
 use Rattle.model.proofs.Groups.{in-groupsIn, groupsIn-in}
 use Rattle.model.proofs.Contexts.{paths-from}
@@ -116,6 +114,13 @@ module _ (c : Class) (rows nodes : List Word) (groups : List ℕ) (x y : ℕ) wh
   unfolding byRule
   tells-byRule = go (eqb (c .kind) 0) refl
     where
+      -- paths do not see how the groups are listed
+      listed :
+          (gs others : List ℕ) → ((g : ℕ) → In g gs → In g others) →
+          TwoPaths (c .first) (c .second) (transitionsOf nodes groups) gs x y →
+          TwoPaths (c .first) (c .second) (transitionsOf nodes groups) others x y
+      listed gs others = paths-from (c .first) (c .second) (transitionsOf nodes groups) gs others x y
+
       go :
           (b : Bool) → eqb (c .kind) 0 ≡ b →
           Tells (elim b as (λ z. Bool) [
@@ -124,9 +129,8 @@ module _ (c : Class) (rows nodes : List Word) (groups : List ℕ) (x y : ℕ) wh
           ]) ByRule
       go true e =
           tells-by (tells-context (c .first) (c .second) (transitionsOf nodes groups) (groupsIn groups) x y)
-          (λ f. inl (e, paths-from (c .first) (c .second) (transitionsOf nodes groups) (groupsIn groups) groups x y (groupsIn-in groups) f))
-          (λ f. ⊎-elim
-          (λ r. paths-from (c .first) (c .second) (transitionsOf nodes groups) groups (groupsIn groups) x y (in-groupsIn groups) (r .1))
+          (λ f. inl (e, listed (groupsIn groups) groups (groupsIn-in groups) f))
+          (λ f. ⊎-elim (λ r. listed groups (groupsIn groups) (in-groupsIn groups) (r .1))
           (λ r. absurd (true≢false (sym e ∙ r .0))) f)
       go false e = tells-by tells-byF (λ f. inr (e, f)) (λ f. ⊎-elim (λ r. absurd (false≢true (sym e ∙ r .0))) (λ r. r .1) f)
 
@@ -172,7 +176,8 @@ pub in-openSteps :
 unfolding openSteps
 in-openSteps c rows nodes groups x y o =
     in-filterBy (isOpen c rows nodes groups) (stepsBetween (groupsIn groups) (groupsIn groups))
-    (in-stepsBetween (groupsIn groups) (groupsIn groups) x y (in-groupsIn groups x (o .left-in)) (in-groupsIn groups y (o .right-in)))
+    (in-stepsBetween (groupsIn groups) (groupsIn groups) x y
+    (in-groupsIn groups x (o .left-in)) (in-groupsIn groups y (o .right-in)))
     (tells-open c rows nodes groups x y .test o)
 
 pub openSteps-in :

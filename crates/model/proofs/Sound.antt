@@ -8,8 +8,7 @@ use Prim.Native.Nat.{ℕ}
 use lib.Dec.{eqb}
 use Rattle.model.specs.Fields.{Class}
 use Rattle.model.specs.Classes.{Word}
-use Rattle.model.specs.Joinings.{transition, transitionsOf, apart, groupAt, merged, memberOf, groupAccepts}
-use Rattle.model.specs.Joinings.{fOfGroup}
+use Rattle.model.specs.Joinings.{transition, transitionsOf, apart, groupAt, merged, memberOf, groupAccepts, fOfGroup}
 use Rattle.model.specs.Joinings.{Step, isOpen, afterSteps, allOpen}
 use Rattle.model.proofs.Notions.{Tree, Fits, Walks, Ways, OneContext, Closed, Inside, _▸_}
 use Rattle.model.proofs.Groups.{apart-single, merged-fits, groupAt-merged, mergedTo-cases, member-of, tells-accepts}
@@ -23,7 +22,9 @@ pub record Member (nodes : List Word) (groups : List ℕ) (g : ℕ) : Type 0 whe
   pub its-group : groupAt nodes groups node ≡ g
 
 -- every group has a node
-group-member : (nodes : List Word) (groups : List ℕ) → Tree nodes → Fits nodes groups → (g : ℕ) → In g groups → Member nodes groups g
+group-member :
+    (nodes : List Word) (groups : List ℕ) → Tree nodes → Fits nodes groups → (g : ℕ) → In g groups →
+    Member nodes groups g
 group-member nodes groups tree fits g m =
     let r = member-of nodes groups g (tree .distinct) fits m in
     record { node = memberOf nodes groups g; is-node = r .0; its-group = r .1 }
@@ -47,7 +48,8 @@ walks-ways nodes groups R tree inside (a ∷ p) u w m n f =
     let r = arc-node nodes groups tree (groupAt nodes groups u) a (f .0) (f .1) in
     let rest : Walks (transitionsOf nodes groups) (groupAt nodes groups (r .0 ▸ a)) p (groupAt nodes groups w) =
     subst (λ (z : ℕ). Walks (transitionsOf nodes groups) z p (groupAt nodes groups w)) (sym (r .4)) (f .2) in
-    (r .0, r .1, inside .related u (r .0) m (r .1) (sym (r .3)), r .2, walks-ways nodes groups R tree inside p (r .0 ▸ a) w (r .2) n rest)
+    let first : R u (r .0) = inside .related u (r .0) m (r .1) (sym (r .3)) in
+    (r .0, r .1, first, r .2, walks-ways nodes groups R tree inside p (r .0 ▸ a) w (r .2) n rest)
 
 -- the same with the ends' groups named
 ways-between :
@@ -174,20 +176,24 @@ pub merged-inside :
     groupAt nodes groups u ≡ x → groupAt nodes groups w ≡ y → R u w → Inside nodes (merged x y groups) R
 merged-inside c rows nodes groups R fits closed inside x y u w m n gu gw ruw = record { related = kept }
   where
+    OfTwo : Word → Type 0
+    OfTwo s = (groupAt nodes groups s ≡ x) ⊎ (groupAt nodes groups s ≡ y)
+
     -- the members of both are related to u
-    to-u : (s : Word) → In s nodes → (groupAt nodes groups s ≡ x) ⊎ (groupAt nodes groups s ≡ y) → R s u
+    to-u : (s : Word) → In s nodes → OfTwo s → R s u
     to-u s k (inl e) = inside .related s u k m (e ∙ sym gu)
     to-u s k (inr e) = closed .transitive s w u (inside .related s w k n (e ∙ sym gw)) (closed .symmetric u w ruw)
 
     by-cases :
         (s t : Word) → In s nodes → In t nodes →
         (groupAt nodes groups s ≡ groupAt nodes groups t)
-        ⊎ (((groupAt nodes groups s ≡ x) ⊎ (groupAt nodes groups s ≡ y)) × ((groupAt nodes groups t ≡ x) ⊎ (groupAt nodes groups t ≡ y))) →
-        R s t
+        ⊎ (OfTwo s × OfTwo t) → R s t
     by-cases s t k l (inl e) = inside .related s t k l e
     by-cases s t k l (inr b) = closed .transitive s u t (to-u s k (b .0)) (closed .symmetric t u (to-u t l (b .1)))
 
-    kept : (s t : Word) → In s nodes → In t nodes → groupAt nodes (merged x y groups) s ≡ groupAt nodes (merged x y groups) t → R s t
+    kept :
+        (s t : Word) → In s nodes → In t nodes →
+        groupAt nodes (merged x y groups) s ≡ groupAt nodes (merged x y groups) t → R s t
     kept s t k l e =
         by-cases s t k l
         (mergedTo-cases x y (groupAt nodes groups s) (groupAt nodes groups t)
@@ -212,7 +218,8 @@ sound c rows nodes R tree closed groups (s ∷ steps) fits opened inside =
     let next = merged (s .left) (s .right) groups in
     let both = and-eq-true-iff (isOpen c rows nodes groups s) (allOpen c rows nodes next steps) .0 opened in
     let o = tells-open c rows nodes groups (s .left) (s .right) .fact (both .0) in
-    let r = ruled-related c rows nodes groups R tree fits closed inside (s .left) (s .right) (o .left-in) (o .right-in) (o .ruled) in
+    let r =
+    ruled-related c rows nodes groups R tree fits closed inside (s .left) (s .right) (o .left-in) (o .right-in) (o .ruled) in
     sound c rows nodes R tree closed next steps (merged-fits nodes groups (s .left) (s .right) fits) (both .1)
     (merged-inside c rows nodes groups R fits closed inside (s .left) (s .right) (r .0) (r .1) (r .2) (r .3) (r .4) (r .5) (r .6))
 

@@ -1,10 +1,9 @@
 -- Arcs between groups by their nodes, and walks between groups. Assumes nothing.
 use mathlib.Core.Path.{_≡_, refl, sym, ap, ap₂, _∙_, subst}
 use mathlib.Core.Logic.{⊎-elim}
-use mathlib.Core.List.{List, [], _∷_, _++_, dropLast, append-assoc, append-nil}
-use mathlib.Core.List.{List·Memᴰ as In, List·Memᴰ·head as here, List·Memᴰ·tail as there, List·Memᴰ·not-nil, List·Memᴰ·cases-cons}
-use mathlib.Core.List.{Memᴰ·cast}
-use mathlib.Core.List.{head-eq-of-cons-eq, tail-eq-of-cons-eq, cons≢nil}
+use mathlib.Core.List.{List, [], _∷_, _++_, dropLast, append-assoc, append-nil, List·Memᴰ as In, List·Memᴰ·head as here}
+use mathlib.Core.List.{List·Memᴰ·tail as there, List·Memᴰ·not-nil, List·Memᴰ·cases-cons, Memᴰ·cast, head-eq-of-cons-eq}
+use mathlib.Core.List.{tail-eq-of-cons-eq, cons≢nil}
 use Prim.Native.Nat.{ℕ}
 use Rattle.model.specs.Classes.{Word}
 use Rattle.model.specs.Lists.{lastOr}
@@ -118,7 +117,9 @@ pub walks-append :
 walks-append ts x z y [] q f g = subst (λ (k : ℕ). Walks ts k q y) (sym f) g
 walks-append ts x z y (a ∷ p) q f g = (f .0, f .1, walks-append ts (f .0) z y p q (f .2) g)
 
-pub walks-split : (ts : List Transition) (x y : ℕ) (p q : Word) → Walks ts x (p ++ q) y → (z : ℕ) × Walks ts x p z × Walks ts z q y
+pub walks-split :
+    (ts : List Transition) (x y : ℕ) (p q : Word) → Walks ts x (p ++ q) y →
+    (z : ℕ) × Walks ts x p z × Walks ts z q y
 walks-split ts x y [] q f = (x, refl, f)
 walks-split ts x y (a ∷ p) q f =
     let r = walks-split ts (f .0) y p q (f .2) in

@@ -27,7 +27,9 @@ name-length (b ∷ bs) ok =
     let n = length (b ∷ bs) in
     leb-true n name-bytes (and-eq-true-iff (leb n name-bytes) (startsName b && all continuesName bs) .0 ok .0)
 
-pub name-fields-length : (names more : List (List ℕ)) → NamesOk names more → length (nameFields more) ≤ (3 + name-bytes) * length more
+pub name-fields-length :
+    (names more : List (List ℕ)) → NamesOk names more →
+    length (nameFields more) ≤ (3 + name-bytes) * length more
 unfolding nameFields flatMap
 name-fields-length names [] ok = omega arith
 name-fields-length names (n ∷ more) ok =
