@@ -37,6 +37,7 @@ targetIn-there : (n : ℕ) (b : Arc) (arcs : List Arc) → (n ≡ b .name → �
 unfolding targetIn
 targetIn-there n b arcs other = rw (ne-eqb n (b .name) other, targetIn)
 
+-- each name has a target or none
 target : (met : List ℕ) (arcs : List Arc) (a : ℕ) → Target met arcs a
 unfolding renumbered targetIn
 target met [] a = no-group (λ y m. List·Memᴰ·not-nil m) refl
@@ -57,6 +58,7 @@ target met (b ∷ arcs) a = go (eq-dec a (b .name)) (target met arcs a)
 -- ---- the state of a group met
 
 module _ (rows nodes : List Word) (groups : List ℕ) where
+  -- the state of a group met stands at its place
   pub state-of-met :
       (g : ℕ) → In g (metGroups nodes groups) →
       getD (statesOf rows nodes groups) (indexIn g (metGroups nodes groups)) no-state
@@ -65,6 +67,7 @@ module _ (rows nodes : List Word) (groups : List ℕ) where
   state-of-met g m =
       map-at-index (stateOf rows nodes groups (metGroups nodes groups)) no-state (metGroups nodes groups) g m
 
+  -- its target by a name is that among the renumbered arcs of the group
   target-of-met :
       (g a : ℕ) → In g (metGroups nodes groups) →
       targetIn a (getD (statesOf rows nodes groups) (indexIn g (metGroups nodes groups)) no-state .arcs)
@@ -89,10 +92,12 @@ module _ (states : List State) (q n x : ℕ) (xs : List ℕ) where
   abbrev onward : ℕ → Walk
   onward t = elim (eqb t 0) [ true ↦ walk-at q n | false ↦ walkFrom states (t - 1) (suc n) xs ]
 
+  -- no target: the walk stops here
   walk-stops : targetIn x (getD states q no-state .arcs) ≡ 0 → walkFrom states q n (x ∷ xs) ≡ walk-at q n
   unfolding walkFrom
   walk-stops e = ap onward e
 
+  -- a target: the walk goes on from there, one name further
   walk-goes :
       (k : ℕ) → targetIn x (getD states q no-state .arcs) ≡ suc k →
       walkFrom states q n (x ∷ xs) ≡ walkFrom states k (suc n) xs
@@ -115,6 +120,7 @@ pub data Walked (ts : List Transition) (states : List State) (met : List ℕ) (g
 module _
     (rows nodes : List Word) (groups : List ℕ) (tree : Tree nodes) (fits : Fits nodes groups)
     (det : Deterministic (transitionsOf nodes groups)) where
+  -- each walk from a group met is one of the two
   walked :
       (r : Word) (g n : ℕ) → In g (metGroups nodes groups) →
       Walked (transitionsOf nodes groups) (statesOf rows nodes groups) (metGroups nodes groups) g n r
@@ -164,6 +170,7 @@ module _
 abbrev admitsBy : List State → Word → Walk → Bool
 admitsBy states r w = eqb (w .taken) (length r) && getD states (w .at-state) no-state .accepts
 
+-- admitted is what leads from the root's group to an accepting one
 pub tells-admits :
     (rows nodes : List Word) (groups : List ℕ) → Tree nodes → Fits nodes groups →
     Deterministic (transitionsOf nodes groups) → (r : Word) →

@@ -44,6 +44,7 @@ after-first x arcs z above m = go (List·Memᴰ·cases-cons m)
 
 -- ---- one arc put among others
 
+-- names still ascend
 putArc-ascending :
     (n to next : ℕ) (arcs : List Arc) → Ascending next arcs → next ≤ n → Ascending next (putArc n to arcs)
 unfolding putArc
@@ -112,6 +113,7 @@ new-in-putArc n to (a ∷ arcs) only =
 
 -- ---- the arcs out of a group
 
+-- the arcs out of a group ascend
 pub arcsOutOf-ascending : (g : ℕ) (ts : List Transition) → Ascending 0 (arcsOutOf g ts)
 unfolding arcsOutOf
 arcsOutOf-ascending g [] = tt

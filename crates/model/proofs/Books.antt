@@ -25,6 +25,7 @@ abbrev pub NamesOk : List (List ℕ) → List (List ℕ) → Type 0
 NamesOk names [] = Unit {0}
 NamesOk names (n ∷ more) = NameFits names n × NamesOk (names ++ (n ∷ [])) more
 
+-- one name more at the end
 names-ok-more :
     (names more : List (List ℕ)) (body : List ℕ) → NamesOk names more → NameFits (names ++ more) body →
     NamesOk names (more ++ (body ∷ []))
@@ -53,6 +54,7 @@ pub record BookOk (f : File) : Type 0 where
   pub some-row : 3 ≤ f .stage → 1 ≤ length (f .items)
   pub rows-below : (r : List ℕ) → In r (f .items) → allBelow (length (f .names)) r ≡ true
 
+-- before the first field
 nothing-read : BookOk (unread default-class)
 nothing-read =
     record {
@@ -64,6 +66,7 @@ nothing-read =
       rows-below = λ r m. absurd (List·Memᴰ·not-nil m);
     }
 
+-- after a name, a class, a row
 with-name : (f : File) (body : List ℕ) → f .stage ≤ 1 → NameFits (f .names) body → BookOk f → BookOk (withField f 1 body)
 unfolding withField
 with-name f body low fits ok =
@@ -106,6 +109,7 @@ with-row f body high fits ok =
           (List·Memᴰ·append-cases (f .items) m);
     }
 
+-- after any field without a fault
 book-step : (f : File) (mark : ℕ) (body : List ℕ) → Fitting book f mark body → BookOk f → BookOk (withField f mark body)
 book-step f mark body (a-name e low fits) ok =
     subst (λ (m : ℕ). BookOk (withField f m body)) (sym e) (with-name f body low fits ok)

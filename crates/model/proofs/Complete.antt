@@ -42,6 +42,7 @@ group-f c nodes groups tree fits agree u m =
     let r = member-of nodes groups g (tree .distinct) fits (group-in nodes groups u fits m) in
     agree .related (memberOf nodes groups g) u (r .0) m (r .1) .same-f
 
+-- in a full joining no two arcs of one name leave one group
 pub full-deterministic :
     (c : Class) (rows nodes : List Word) (groups : List ℕ) → Tree nodes → Fits nodes groups →
     isFull c rows nodes groups ≡ true → Deterministic (transitionsOf nodes groups)
@@ -64,6 +65,7 @@ module _ (c : Class) (rows nodes : List Word) (groups : List ℕ) (fits : Fits n
             (group-in nodes groups w fits n) r;
       }
 
+  -- the rules one by one: forks, contexts, and by f ends and ways back
   ker-fork :
       (u w : Word) (a : ℕ) → Ker nodes groups u w → In (u ▸ a) nodes → In (w ▸ a) nodes → Ker nodes groups (u ▸ a) (w ▸ a)
   ker-fork u w a k m n =
@@ -113,6 +115,7 @@ module _ (c : Class) (rows nodes : List Word) (groups : List ℕ) (fits : Fits n
         ruled-ker u w m n
         (by-back kind groups-f a (groupAt nodes groups (r ▸ a)) (arc-from nodes groups u r a (ur .one-group) k) arc-w)
 
+-- so the kernel of a full joining is closed
 pub ker-closed :
     (c : Class) (rows nodes : List Word) (groups : List ℕ) → Tree nodes → Fits nodes groups →
     isFull c rows nodes groups ≡ true → (eqb (c .kind) 0 ≡ false → Inside nodes groups (SameF c)) →

@@ -35,6 +35,7 @@ not-when : (b : Bool) (n : ℕ) → when b (suc n) ≡ 0 → b ≡ false
 not-when true n e = let z : ⊥ = omega arith in absurd z
 not-when false n e = refl
 
+-- the prefix tree of an accepted book is within its limit
 accepted-tree : (s : List ℕ) → Accepted s → length (treeOf (bookOf s .items)) ≤ state-limit
 unfolding bookFault
 accepted-tree s ok =
@@ -42,10 +43,12 @@ accepted-tree s ok =
     let refusal = when (ltb state-limit size) tree-too-large in
     ltb-false state-limit size (not-when (ltb state-limit size) 9 (first-of (readFields book s .number) refusal ok .1))
 
+-- rows that are all among others
 all-there : (rows others : List Word) → allAmong rows others ≡ true → (r : Word) → In r rows → In r others
 unfolding allAmong
 all-there rows others e = tells-all (λ r. tells-hasRow r others) rows .fact e
 
+-- like books have the same set of rows
 same-rows : (f g : File) → SameBook f g → (r : Word) → In r (f .items) ↔ In r (g .items)
 same-rows f g same r =
     (all-there (f .items) (g .items) (same .rows-there) r, all-there (g .items) (f .items) (same .rows-back) r)
@@ -82,6 +85,7 @@ table-of-joining f =
       ap (λ (gs : List ℕ). tableBytes (f .names) (f .class-is) (statesOf (f .items) (treeOf (f .items)) gs)) (j .2),
     )
 
+-- like books have one table
 table-same : (f g : File) → SameBook f g → bookTable f ≡ bookTable g
 table-same f g same =
     let j = table-of-joining g in
@@ -91,6 +95,7 @@ table-same f g same =
 joined : (f : File) → Joined (f .class-is) (f .items) (joinedGroups (f .class-is) (f .items))
 joined f = joinedGroups-joined (f .class-is) (f .items)
 
+-- demand 3, part by part
 pub demand-3 : Demand-3
 unfolding bookStates
 demand-3 =
@@ -131,6 +136,7 @@ book-writable s ok =
         let b = node-begins-row (bookOf s .items) (first-row .0) (first-row .1) (w ▸ a) m in
         accepted-entries s ok ((w ▸ a) ++ b .0) (b .1) a (Memᴰ·append-left (b .0) (Memᴰ·append-right w (here refl)))
 
+-- the table of a book is read back: its names, its class and its states
 read-table :
     (s : List ℕ) → Accepted s →
     readFields table (bookTable (bookOf s))
@@ -138,16 +144,19 @@ read-table :
 unfolding bookTable
 read-table s ok = reads-written s (bookStates (bookOf s)) ok (book-writable s ok)
 
+-- and its states are the book's
 read-states : (s : List ℕ) → Accepted s → tableStates (bookTable (bookOf s)) ≡ bookStates (bookOf s)
 unfolding tableStates tableOf
 read-states s ok =
     ap (λ (r : Read). statesIn (r .file-is .items)) (read-table s ok)
     ∙ states-read-back (bookStates (bookOf s))
 
+-- it is no longer than an input may be
 table-length : (s : List ℕ) → Accepted s → length (bookTable (bookOf s)) ≤ input-limit
 unfolding bookTable
 table-length s ok = written-length s (bookStates (bookOf s)) ok (book-writable s ok)
 
+-- so it is accepted, where there is room to work
 read-no-fault : (s work : List ℕ) → Accepted s → work-bytes ≤ length work → tableFault (bookTable (bookOf s)) work ≡ 0
 unfolding tableFault sizesFault
 read-no-fault s work ok long =
@@ -160,9 +169,11 @@ read-no-fault s work ok long =
     let numbered : isFirstMet (tableStates bytes) ≡ true = ap isFirstMet (read-states s ok) ∙ book-writable s ok .first-met in
     rw (sizes, number, numbered)
 
+-- demand: tables read back as they were written
 pub reads-back : Reads-back
 reads-back = record { accepted-again = read-no-fault; same-states = read-states }
 
+-- demand: a table rewritten is the same bytes
 pub same-bytes : Same-bytes
 same-bytes = record { rewrites = rewrites-same }
 

@@ -20,6 +20,7 @@ pub first-of : (a b : ℕ) → firstOf a b ≡ 0 → (a ≡ 0) × (b ≡ 0)
 first-of zero b e = (refl, e)
 first-of (suc a) b e = let z : ⊥ = omega arith in absurd z
 
+-- no refusal: the test is true, and the number is below
 when-not : (t : Bool) (n : ℕ) → when (not t) (suc n) ≡ 0 → t ≡ true
 when-not true n e = refl
 when-not false n e = let z : ⊥ = omega arith in absurd z
@@ -47,6 +48,7 @@ pub record StateFits (n : ℕ) (items : List (List ℕ)) (body : List ℕ) : Typ
   pub few : length items < state-limit
   pub state-ok : stateOk n body ≡ true
 
+-- one kind of field after another: no fault, and what it takes
 pub name-fits : (f : File) (body : List ℕ) → nameFault f body ≡ 0 → NameFits (f .names) body
 unfolding nameFault
 name-fits f body e =
@@ -76,6 +78,7 @@ fits-class body e = ap (λ (t : Bool). when (not t) bad-class) e
 abbrev pub ClassOk : Class → Type 0
 ClassOk c = settingsOk (c .kind) (c .first) (c .second) ≡ true
 
+-- a class field has three bytes, its settings
 pub class-parts : (body : List ℕ) → classOk body ≡ true → (length body ≡ 3) × ClassOk (classFrom body)
 class-parts body ok =
     let p = and-eq-true-iff (eqb (length body) 3) (settingsOk (getD body 0 0) (getD body 1 0) (getD body 2 0)) .0 ok in
@@ -120,6 +123,7 @@ may-come false stage mark e =
     (tells-or (tells-and (tells-eqb mark 2) (tells-eqb stage 1)) (tells-and (tells-eqb mark 3) (tells-leb 1 stage))) in
     ⊎-elim (λ p. inl p) (λ r. inr (⊎-elim (λ p. inl p) (λ p. inr (inr (refl, p .0, p .1))) r)) (told .fact e)
 
+-- which of the four it is
 pub fitting : (kind : FileKind) (f : File) (mark : ℕ) (body : List ℕ) → fieldFault kind f mark body ≡ 0 → Fitting kind f mark body
 unfolding fieldFault
 fitting kind f mark body e =

@@ -21,6 +21,7 @@ use Rattle.model.proofs.Arcs.{in-arcsOutOf}
 use Rattle.model.proofs.Meeting.{MetUpTo, look-all}
 
 module _ (nodes : List Word) (groups : List ℕ) (tree : Tree nodes) (fits : Fits nodes groups) where
+  -- as many looks as there are nodes, from the root's group on
   met-all-looked-at :
       MetUpTo (transitionsOf nodes groups) (groupAt nodes groups []) (length nodes + 0) (metGroups nodes groups)
   unfolding metGroups
@@ -34,9 +35,11 @@ module _ (nodes : List Word) (groups : List ℕ) (tree : Tree nodes) (fits : Fit
         closed = λ j h k a m. let z : ⊥ = omega arith in absurd z;
       })
 
+  -- no group is met twice
   pub met-distinct : Distinct (metGroups nodes groups)
   met-distinct = met-all-looked-at .distinct
 
+  -- the root's group is met, and first
   pub root-met : In (groupAt nodes groups []) (metGroups nodes groups)
   root-met = subst (λ (xs : List ℕ). In (groupAt nodes groups []) xs) (sym (met-all-looked-at .begins)) (here refl)
 
@@ -45,6 +48,7 @@ module _ (nodes : List Word) (groups : List ℕ) (tree : Tree nodes) (fits : Fit
       ap (indexIn (groupAt nodes groups [])) (met-all-looked-at .begins)
       ∙ index-here (groupAt nodes groups []) (groupAt nodes groups []) (met-all-looked-at .rest) refl
 
+  -- what is met is a group
   pub met-in : (g : ℕ) → In g (metGroups nodes groups) → In g groups
   met-in g m = go (met-all-looked-at .whence g m)
     where
@@ -89,6 +93,7 @@ module _ (nodes : List Word) (groups : List ℕ) (tree : Tree nodes) (fits : Fit
       (walked-met det (groupAt nodes groups []) (groupAt nodes groups member) member root-met
       (walks-down nodes groups tree [] member (r .0)))
 
+  -- a state for each group met
   pub states-length : (rows : List Word) → length (statesOf rows nodes groups) ≡ length (metGroups nodes groups)
   unfolding statesOf
   states-length rows = length-map (metGroups nodes groups) (stateOf rows nodes groups (metGroups nodes groups))

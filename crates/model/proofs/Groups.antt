@@ -71,6 +71,7 @@ single-from (node ∷ nodes) i u w m n e =
     go (inr p) (inr q) again =
         again (p .1) (q .1) (sym (groupAt-later node nodes i rest u (p .0)) ∙ e ∙ groupAt-later node nodes i rest w (q .0))
 
+-- at the start no two nodes are in one group
 pub apart-single :
     (nodes : List Word) (u w : Word) → In u nodes → In w nodes →
     groupAt nodes (apart nodes) u ≡ groupAt nodes (apart nodes) w → u ≡ w
@@ -79,6 +80,7 @@ apart-single nodes u w m n e = single-from nodes 0 u w m n e
 
 -- ---- merges
 
+-- a merge leaves a group for each node
 pub merged-fits : (nodes : List Word) (groups : List ℕ) (x y : ℕ) → Fits nodes groups → Fits nodes (merged x y groups)
 unfolding merged
 merged-fits nodes groups x y fits = record { lengths = length-map groups (mergedTo x y) ∙ fits .lengths }
@@ -129,6 +131,7 @@ mergedTo-joins x y = merged-either x y x (inl refl) ∙ sym (merged-either x y y
 
 -- ---- groups are those of nodes
 
+-- the group of a node is one of the groups
 pub group-in :
     (nodes : List Word) (groups : List ℕ) (w : Word) → Fits nodes groups → In w nodes →
     In (groupAt nodes groups w) groups
@@ -210,6 +213,7 @@ groupsIn-distinct (x ∷ groups) = go (decided (tells-isIn x (groupsIn groups)))
     go (inl k) again = subst (λ (l : List ℕ). Distinct l) (sym (groupsIn-kept x groups k)) again
     go (inr k) again = subst (λ (l : List ℕ). Distinct l) (sym (groupsIn-new x groups k)) (k, again)
 
+-- so they are no more than the groups listed
 pub groupsIn-length : (groups : List ℕ) → length (groupsIn groups) ≤ length groups
 groupsIn-length groups = distinct-length (groupsIn groups) groups (groupsIn-distinct groups) (λ g m. groupsIn-in groups g m)
 

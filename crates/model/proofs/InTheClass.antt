@@ -42,10 +42,12 @@ abbrev pub Admits : List Word → List ℕ → Word → Type 0
 Admits rows groups r = admits (statesOf rows (treeOf rows) groups) r ≡ true
 
 module _ (c : Class) (rows : List Word) (groups : List ℕ) (joined : Joined c rows groups) where
+  -- admitted is what it carries to an accepting group
   told : (r : Word) → Tells (admits (statesOf rows (treeOf rows) groups) r) (Carried rows groups r)
   told r =
       tells-admits rows (treeOf rows) groups (treeOf-tree rows) (joined .fits) (joined-deterministic c rows groups joined) r
 
+  -- every row is admitted
   pub admits-row : (r : Word) → In r rows → Admits rows groups r
   admits-row r m =
       let node : In r (treeOf rows) = row-node rows r m in
@@ -82,6 +84,7 @@ module _ (c : Class) (rows : List Word) (groups : List ℕ) (joined : Joined c r
         h .2,
       )
 
+  -- words that lead to one group have equal tails
   one-group-tails :
       (u w : Word) (z : ℕ) → Walks (automaton rows groups) (start rows groups) u z →
       Walks (automaton rows groups) (start rows groups) w z → TailsEqual (Admits rows groups) u w
@@ -96,6 +99,7 @@ module _ (c : Class) (rows : List Word) (groups : List ℕ) (joined : Joined c r
     way-in : Walks (automaton rows groups) before-it (take i a) at-it
     way-out : Walks (automaton rows groups) at-it (drop i a) after-it
 
+  -- each admitted word that has u and a in front has such places
   place : (u a w : Word) (i : ℕ) → Admits rows groups (u ++ (a ++ w)) → Place u a i
   place u a w i e =
       let h = told (u ++ (a ++ w)) .fact e in
@@ -113,6 +117,7 @@ module _ (c : Class) (rows : List Word) (groups : List ℕ) (joined : Joined c r
         way-out = halves .2;
       }
 
+  -- kind 0: paths with a common context meet, since nothing is open
   pub admits-contextual : eqb (c .kind) 0 ≡ true → Contextual (c .first) (c .second) (Admits rows groups)
   admits-contextual kind =
       record {
@@ -202,6 +207,7 @@ module _ (c : Class) (rows : List Word) (groups : List ℕ) (joined : Joined c r
       (f-walked kind w [] x (treeOf-tree rows .root) wx ∙ e ∙ sym (f-walked kind z [] y (treeOf-tree rows .root) zy))
       a (yh .0) (subst (λ (q : ℕ). In (transition x a q) ts) one (xg .1)) (yh .1))
 
+  -- kinds 1 and 2
   pub admits-distinguishable : eqb (c .kind) 0 ≡ false → Distinguishable c (Admits rows groups)
   admits-distinguishable kind =
       record { equal-tails = λ w z v e lw lz. meet w z v e (told (w ++ v) .fact lw) (told (z ++ v) .fact lz) }
@@ -217,6 +223,7 @@ module _ (c : Class) (rows : List Word) (groups : List ℕ) (joined : Joined c r
           meet-by-f kind v w z (x .0) (y .0) (cw .0) (cz .0) e (x .1) (y .1) (x .2) (y .2) (cw .2) (cz .2) in
           one-group-tails w z (y .0) (subst (λ (q : ℕ). Walks ts (start rows groups) w q) one (x .1)) (y .1)
 
+  -- the set of admitted words is of the class
   pub admits-in-class : InClass c (Admits rows groups)
   admits-in-class = go (eqb (c .kind) 0) refl
     where

@@ -24,6 +24,7 @@ use Rattle.model.proofs.Numbering.{numbering-law}
 -- ---- closed relations do not see the order of nodes and rows
 
 module _ (R : Word → Word → Type 0) (nodes nodes′ : List Word) (there′ : (w : Word) → In w nodes → In w nodes′) where
+  -- ways, contexts and closure hold with any nodes that hold these
   pub ways-there : (p u w : Word) → Ways nodes R u p w → Ways nodes′ R u p w
   ways-there [] u w f = f
   ways-there (a ∷ p) u w f =
@@ -52,6 +53,7 @@ module _ (R : Word → Word → Type 0) (nodes nodes′ : List Word) (there′ :
         out-of-w = ways-there (x .q) w (x .to-w) (x .out-of-w);
       }
 
+-- a relation closed for more nodes and rows is closed for these
 pub closed-there :
     (c : Class) (rows rows′ nodes nodes′ : List Word) (R : Word → Word → Type 0) → ((w : Word) → In w nodes → In w nodes′) →
     ((r : Word) → In r rows → In r rows′) → Closed c rows′ nodes′ R → Closed c rows nodes R
@@ -76,6 +78,7 @@ pub record Joined (c : Class) (rows : List Word) (groups : List ℕ) : Type 1 wh
   pub full : isFull c rows (treeOf rows) groups ≡ true
   pub inside : (R : Word → Word → Type 0) → Closed c rows (treeOf rows) R → Inside (treeOf rows) groups R
 
+-- every full joining leaves such groups
 pub joining-joined :
     (c : Class) (rows : List Word) (steps : List Step) → isFullJoining c rows steps ≡ true →
     Joined c rows (afterSteps (apart (treeOf rows)) steps)
@@ -93,6 +96,7 @@ joining-joined c rows steps e =
           (apart-inside c rows nodes R closed);
     }
 
+-- and so does the one that defines the table
 pub joinedGroups-joined : (c : Class) (rows : List Word) → Joined c rows (joinedGroups c rows)
 joinedGroups-joined c rows =
     let j = joined-is-full-joining c rows in
@@ -103,9 +107,11 @@ module _ (c : Class) (rows : List Word) (groups : List ℕ) (joined : Joined c r
   pub members-agree : eqb (c .kind) 0 ≡ false → Inside (treeOf rows) groups (SameF c)
   members-agree kind = joined .inside (SameF c) (sameF-closed c rows (treeOf rows) kind)
 
+  -- its kernel is closed
   pub joined-closed : Closed c rows (treeOf rows) (Ker (treeOf rows) groups)
   joined-closed = ker-closed c rows (treeOf rows) groups (treeOf-tree rows) (joined .fits) (joined .full) members-agree
 
+  -- its automaton is deterministic
   pub joined-deterministic : Deterministic (transitionsOf (treeOf rows) groups)
   joined-deterministic = full-deterministic c rows (treeOf rows) groups (treeOf-tree rows) (joined .fits) (joined .full)
 

@@ -12,9 +12,11 @@ use lib.ListN.{length}
 use Rattle.model.specs.Lists.{filterBy}
 
 module _ {A B : Type 0} where
+  -- an element of a mapped list is what an element became
   pub map-in : (f : A → B) (xs : List A) {y : B} → In y (map f xs) → (x : A) × In x xs × (y ≡ f x)
   map-in f xs m = let r = Memᴰ·of-map f xs m in (r .0, r .1, sym (r .2))
 
+  -- the elements of a flattened list, both ways
   pub in-flatMap : (f : A → List B) {x : A} {y : B} (xs : List A) → In x xs → In y (f x) → In y (flatMap f xs)
   unfolding flatMap
   in-flatMap f [] m n = absurd (List·Memᴰ·not-nil m)
@@ -31,6 +33,7 @@ module _ {A B : Type 0} where
       (List·Memᴰ·append-cases (f x) m)
 
 module _ {A : Type 0} where
+  -- the elements of a filtered list, both ways
   pub in-filterBy : (test : A → Bool) {x : A} (xs : List A) → In x xs → test x ≡ true → In x (filterBy test xs)
   unfolding filterBy
   in-filterBy test [] m t = absurd (List·Memᴰ·not-nil m)
@@ -62,6 +65,7 @@ module _ {A : Type 0} where
   Distinct [] = Unit {0}
   Distinct (x ∷ xs) = (In x xs → ⊥) × Distinct xs
 
+  -- one more at the end, if it is new
   pub distinct-snoc : (xs : List A) (y : A) → Distinct xs → (In y xs → ⊥) → Distinct (xs ++ (y ∷ []))
   distinct-snoc [] y d out = (λ m. List·Memᴰ·not-nil m, tt)
   distinct-snoc (x ∷ xs) y d out = (

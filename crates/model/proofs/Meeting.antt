@@ -28,9 +28,11 @@ pub record Grown (P : ℕ → Type 0) (met grown : List ℕ) : Type 0 where
   pub distinct : Distinct met → Distinct grown
   pub whence : (g : ℕ) → In g grown → In g met ⊎ P g
 
+-- what was there is there
 pub grown-keeps : {P : ℕ → Type 0} {met grown : List ℕ} → Grown P met grown → (g : ℕ) → In g met → In g grown
 grown-keeps {P} {met} {grown} r g m = subst (λ (xs : List ℕ). In g xs) (sym (r .begins)) (Memᴰ·append-left (r .more) m)
 
+-- lists grow by nothing, in turn, and by weaker properties
 grown-refl : (P : ℕ → Type 0) (met : List ℕ) → Grown P met met
 grown-refl P met =
     record { more = []; begins = sym (append-nil met); distinct = λ d. d; whence = λ g m. inl m }
@@ -59,6 +61,7 @@ grown-by P Q xs ys f r =
 abbrev pub withOne : List ℕ → ℕ → List ℕ
 withOne met y = cond (isIn y met) met (met ++ (y ∷ []))
 
+-- it grows by that group, which is there then
 withOne-grown : (met : List ℕ) (y : ℕ) → Grown (λ g. g ≡ y) met (withOne met y) × In y (withOne met y)
 withOne-grown met y = go (isIn y met) refl
   where
@@ -80,6 +83,7 @@ withOne-grown met y = go (isIn y met) refl
 abbrev pub TargetOf : List Arc → ℕ → Type 0
 TargetOf arcs g = (a : Arc) × In a arcs × (g ≡ a .to)
 
+-- the groups met grow by targets of the arcs
 pub metWith-grown : (met : List ℕ) (arcs : List Arc) → Grown (TargetOf arcs) met (metWith met arcs)
 unfolding metWith
 metWith-grown met [] = grown-refl (TargetOf []) met
@@ -171,6 +175,7 @@ module _ (ts : List Transition) (start : ℕ) where
             closed = λ j h k. r .closed j (omega arith) k;
           }
 
+  -- n looks more
   pub look-all : (n i : ℕ) (met : List ℕ) → MetUpTo ts start i met → MetUpTo ts start (n + i) (metFrom n i ts met)
   unfolding metFrom
   look-all zero i met r =

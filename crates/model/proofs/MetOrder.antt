@@ -20,6 +20,7 @@ use Rattle.model.proofs.Meeting.{metWith-grown}
 
 -- ---- what is met is only added to
 
+-- all looks together only add
 metFrom-appends : (n i : ℕ) (ts : List Transition) (met : List ℕ) → (more : List ℕ) × (metFrom n i ts met ≡ met ++ more)
 unfolding metFrom
 metFrom-appends zero i ts met = ([], sym (append-nil met))
@@ -44,6 +45,7 @@ metFrom-ends (suc n) i ts met h =
 
 -- ---- the test counts along
 
+-- an arc to a state met before counts nothing, one to the next state counts one
 metByArcs-old : (m : ℕ) (a : Arc) (arcs : List Arc) → a .to < m → metByArcs m (a ∷ arcs) ≡ metByArcs m arcs
 unfolding metByArcs
 metByArcs-old m a arcs h = rw (lt-ltb (a .to) m h, metByArcs)
@@ -54,6 +56,7 @@ metByArcs-new m a arcs h =
     let low : m ≤ a .to = omega arith in
     rw (le-ltb (a .to) m low, metByArcs) (rw (eq-eqb (a .to) m h))
 
+-- the test meets along the arcs of a state as many as there are met groups
 metByArcs-follows :
     (every : List ℕ) (arcs : List Arc) (met rest : List ℕ) → every ≡ metWith met arcs ++ rest →
     metByArcs (length met) (renumbered every arcs) ≡ length (metWith met arcs)
@@ -87,12 +90,14 @@ metByArcs-follows every (a ∷ arcs) met rest e =
         metByArcs-new (length met) (arc (a .name) (indexIn (a .to) every)) (renumbered every arcs) next
         ∙ ap (λ (m : ℕ). metByArcs m (renumbered every arcs)) size ∙ again longer h
 
+-- one state of the test
 metByStates-step :
     (i m : ℕ) (s : State) (states : List State) → i < m →
     metByStates i m (s ∷ states) ≡ metByStates (suc i) (metByArcs m (s .arcs)) states
 unfolding metByStates
 metByStates-step i m s states h = rw (lt-ltb i m h, metByStates)
 
+-- one look
 metFrom-step :
     (n i : ℕ) (ts : List Transition) (met : List ℕ) → i < length met →
     metFrom (suc n) i ts met ≡ metFrom n (suc i) ts (metWith met (arcsOutOf (getD met i 0) ts))
@@ -101,6 +106,7 @@ metFrom-step n i ts met h = rw (lt-ltb i (length met) h)
 
 -- over the states from the i-th on, where the groups before it have been taken and `met` are met
 module _ (rows nodes : List Word) (groups every : List ℕ) where
+  -- past the last group no state is left
   past-end :
       (i m : ℕ) → length every ≤ i → metByStates i m (map (stateOf rows nodes groups every) (drop i every)) ≡ m
   unfolding metByStates
@@ -131,6 +137,7 @@ module _ (rows nodes : List Word) (groups every : List ℕ) where
       ∙ metByStates-step i (length met) (state-at (getD every i 0)) later low
       ∙ ap (λ (m : ℕ). metByStates (suc i) m later) counted
 
+  -- so over all states it meets as many as there are
   pub metByStates-follows :
       (n i : ℕ) (met : List ℕ) → every ≡ metFrom n i (transitionsOf nodes groups) met → length every ≤ n + i →
       metByStates i (length met) (map (stateOf rows nodes groups every) (drop i every)) ≡ length every

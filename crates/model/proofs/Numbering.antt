@@ -58,6 +58,7 @@ record Corresponds (nodes nodes′ : List Word) (groups groups′ : List ℕ) (g
   group : groupAt nodes groups node ≡ g
   group′ : groupAt nodes′ groups′ node ≡ g′
 
+-- and their groups the other way round
 turned :
     {nodes nodes′ : List Word} {groups groups′ : List ℕ} {g g′ : ℕ} → Corresponds nodes nodes′ groups groups′ g g′ →
     Corresponds nodes′ nodes groups′ groups g′ g
@@ -66,11 +67,13 @@ turned r = record { node = r .node; is-node = r .is-node′; is-node′ = r .is-
 module _
     {rows rows′ nodes nodes′ : List Word} {groups groups′ : List ℕ} (same : SamePartition rows rows′ nodes nodes′ groups groups′)
   where
+    -- the groups of a common node correspond
     at-node :
         (w : Word) → In w nodes →
         Corresponds nodes nodes′ groups groups′ (groupAt nodes groups w) (groupAt nodes′ groups′ w)
     at-node w m = record { node = w; is-node = m; is-node′ = same .same-nodes w .0 m; group = refl; group′ = refl }
 
+    -- corresponding groups are one where the others are
     one-group :
         (g g′ h h′ : ℕ) → Corresponds nodes nodes′ groups groups′ g g′ → Corresponds nodes nodes′ groups groups′ h h′ →
         g ≡ h → g′ ≡ h′
@@ -117,6 +120,7 @@ module _
 module _
     {rows rows′ nodes nodes′ : List Word} {groups groups′ : List ℕ} (same : SamePartition rows rows′ nodes nodes′ groups groups′)
   where
+    -- so the tests for one group agree
     one-to-one :
         (g g′ h h′ : ℕ) → Corresponds nodes nodes′ groups groups′ g g′ → Corresponds nodes nodes′ groups groups′ h h′ →
         eqb g h ≡ eqb g′ h′
@@ -124,6 +128,7 @@ module _
         same-tests (tells-eqb g h) (tells-eqb g′ h′) (one-group same g g′ h h′ r s)
         (one-group (swapped same) g′ g h′ h (turned r) (turned s))
 
+    -- the arcs of corresponding groups agree one by one
     arcs-paired :
         (g g′ : ℕ) → Corresponds nodes nodes′ groups groups′ g g′ →
         Paired (ArcsAgree (Corresponds nodes nodes′ groups groups′))
@@ -136,6 +141,7 @@ module _
         let f = arc-there (swapped same) g′ g (turned r) b m in
         (f .0, f .1, record { names = sym (f .2 .names); targets = turned (f .2 .targets) }))
 
+    -- corresponding groups are met in the same order
     met-paired : Paired (Corresponds nodes nodes′ groups groups′) (metGroups nodes groups) (metGroups nodes′ groups′)
     unfolding metGroups
     met-paired =
@@ -151,6 +157,7 @@ module _
         lengths
         (metFrom-paired one-to-one ts ts′ arcs-paired (length nodes) 0 (pair (at-node same [] (same .tree .root)) none))
 
+    -- and become the same state
     state-same :
         (g g′ : ℕ) → Corresponds nodes nodes′ groups groups′ g g′ →
         stateOf rows nodes groups (metGroups nodes groups) g ≡ stateOf rows′ nodes′ groups′ (metGroups nodes′ groups′) g′
@@ -161,6 +168,7 @@ module _
         (accepts-there (swapped same) g′ g (turned r)))
         (renumbered-paired one-to-one met-paired (arcs-paired g g′ r))
 
+-- so the states are the same
 pub numbering-law :
     (rows rows′ nodes nodes′ : List Word) (groups groups′ : List ℕ) → SamePartition rows rows′ nodes nodes′ groups groups′ →
     statesOf rows nodes groups ≡ statesOf rows′ nodes′ groups′

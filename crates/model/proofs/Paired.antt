@@ -22,6 +22,7 @@ pub record ArcsAgree (R : ℕ → ℕ → Type 0) (a b : Arc) : Type 0 where
   pub targets : R (a .to) (b .to)
 
 module _ {A B : Type 0} {R : A → B → Type 0} where
+  -- pairs in lists of one length, appended, chosen, by place and mapped
   pub paired-length : {xs : List A} {ys : List B} → Paired R xs ys → length xs ≡ length ys
   paired-length none = refl
   paired-length (pair {l₁ = xs} {l₂ = ys} r rest) = ap suc (paired-length {xs = xs} {ys = ys} rest)
@@ -54,6 +55,7 @@ module _ {A B : Type 0} {R : A → B → Type 0} where
 
 -- a relation of groups that is one to one, by its tests
 module _ {R : ℕ → ℕ → Type 0} (one-to-one : (g g′ h h′ : ℕ) → R g g′ → R h h′ → eqb g h ≡ eqb g′ h′) where
+  -- what is in the one list is in the other, at the same place
   isIn-paired : (x y : ℕ) {xs ys : List ℕ} → R x y → Paired R xs ys → isIn x xs ≡ isIn y ys
   unfolding isIn any
   isIn-paired x y r none = refl
@@ -67,6 +69,7 @@ module _ {R : ℕ → ℕ → Type 0} (one-to-one : (g g′ h h′ : ℕ) → R 
       ap₂ (λ (b : Bool) (n : ℕ). elim b as (λ c. ℕ) [ true ↦ 0 | false ↦ suc n ])
       (one-to-one x y u v r s) (indexIn-paired x y {xs = us} {ys = vs} r rest)
 
+  -- the groups met by agreeing arcs are paired
   metWith-paired :
       {met met′ : List ℕ} {arcs arcs′ : List Arc} → Paired R met met′ → Paired (ArcsAgree R) arcs arcs′ →
       Paired R (metWith met arcs) (metWith met′ arcs′)
@@ -78,6 +81,7 @@ module _ {R : ℕ → ℕ → Type 0} (one-to-one : (g g′ h h′ : ℕ) → R 
       (paired-append m (pair (s .targets) none)))
       rest
 
+  -- and so are all groups met, where arcs out of related groups agree
   pub metFrom-paired :
       (ts ts′ : List Transition) →
       ((g g′ : ℕ) → R g g′ → Paired (ArcsAgree R) (arcsOutOf g ts) (arcsOutOf g′ ts′)) →
@@ -89,6 +93,7 @@ module _ {R : ℕ → ℕ → Type 0} (one-to-one : (g g′ h h′ : ℕ) → R 
       (paired-cond (ltb i (length met)) (ltb i (length met′)) (ap (λ (k : ℕ). ltb i k) (paired-length m))
       (λ e. metWith-paired m (outs (getD met i 0) (getD met′ i 0) (paired-nth m i 0 0 (ltb-true i (length met) e)))) m)
 
+  -- and the renumbered arcs are the same
   pub renumbered-paired :
       {met met′ : List ℕ} {arcs arcs′ : List Arc} → Paired R met met′ → Paired (ArcsAgree R) arcs arcs′ →
       renumbered met arcs ≡ renumbered met′ arcs′
@@ -99,6 +104,7 @@ module _ {R : ℕ → ℕ → Type 0} (one-to-one : (g g′ h h′ : ℕ) → R 
 
 -- ascending arcs, each with an agreeing one on the other side, agree one by one
 module _ {R : ℕ → ℕ → Type 0} where
+  -- the first arcs agree
   head-agrees :
       (next : ℕ) (x y : Arc) (xs ys : List Arc) → Ascending next (x ∷ xs) → Ascending next (y ∷ ys) →
       ((b : Arc) × In b (y ∷ ys) × ArcsAgree R x b) → ((a : Arc) × In a (x ∷ xs) × ArcsAgree R a y) → ArcsAgree R x y

@@ -36,6 +36,7 @@ numbersFrom-in (suc n) i j m =
 
 -- ---- the place of an element
 
+-- the first is at place 0, others one further than in the rest
 pub index-here : (x y : ℕ) (ys : List ℕ) → x ≡ y → indexIn x (y ∷ ys) ≡ 0
 unfolding indexIn
 index-here x y ys e = rw (eq-eqb x y e, indexIn)

@@ -19,6 +19,7 @@ use Rattle.model.proofs.Books.{NamesOk}
 abbrev pub ReadsTo : File → List ℕ → Read → Type 0
 ReadsTo f s r = (l : ℕ) → length s < l → readFrom l table f s ≡ r
 
+-- a field without a fault is read, and the rest after it
 reads-field :
     (f : File) (mark : ℕ) (body rest : List ℕ) (r : Read) → fieldFault table f mark body ≡ 0 →
     ReadsTo (withField f mark body) rest r → ReadsTo f (fieldBytes mark body ++ rest) r
@@ -28,6 +29,7 @@ reads-field f mark body rest r ok again (suc l) h =
     one-field l table f mark (length body / 256) (length body % 256) body rest (sym (two-bytes (length body))) ok
     ∙ again l (omega (arith, length-append body rest))
 
+-- one name
 reads-name :
     (stage : ℕ) (names : List (List ℕ)) (c : Class) (body rest : List ℕ) (r : Read) → stage ≤ 1 → NameFits names body →
     ReadsTo (file 1 (names ++ (body ∷ [])) c []) rest r → ReadsTo (file stage names c []) (fieldBytes 1 body ++ rest) r
@@ -51,6 +53,7 @@ reads-names stage names (n ∷ more) c rest r low named ok again =
     (reads-names 1 (names ++ (n ∷ [])) more c rest r (omega arith) (λ e. refl) (ok .1)
     (subst (λ (z : List (List ℕ)). ReadsTo (file 1 z c []) rest r) (sym (append-assoc names (n ∷ []) more)) again)))
 
+-- the class
 reads-class :
     (names : List (List ℕ)) (d c : Class) (rest : List ℕ) (r : Read) → ClassOk c →
     ReadsTo (file 2 names c []) rest r → ReadsTo (file 1 names d []) (classField c ++ rest) r
@@ -59,6 +62,7 @@ reads-class names d c rest r ok again =
     let body = c .kind ∷ (c .first ∷ (c .second ∷ [])) in
     reads-field (file 1 names d []) 2 body rest r (fits-class body ok) again
 
+-- one state
 reads-state :
     (stage : ℕ) (names items : List (List ℕ)) (c : Class) (body rest : List ℕ) (r : Read) → 2 ≤ stage →
     StateFits (length names) items body → ReadsTo (file 3 names c (items ++ (body ∷ []))) rest r →

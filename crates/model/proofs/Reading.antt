@@ -20,6 +20,7 @@ use Rattle.model.proofs.ReadBack.{reads-table}
 use Rattle.model.proofs.WrittenLengths.{name-fields-length, names-few, state-fields-length}
 use Rattle.model.proofs.Rewriting.{bytes-of, rewritten-same}
 
+-- a list that is not empty has an element
 first-in : (rows : List (List ℕ)) → 1 ≤ length rows → (r : List ℕ) × In r rows
 first-in [] h = let z : ⊥ = omega arith in absurd z
 first-in (r ∷ rows) h = (r, here refl)

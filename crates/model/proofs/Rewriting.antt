@@ -18,10 +18,12 @@ use Rattle.model.proofs.FieldLaws.{StateFits, Fitting, a-name, a-class,
 use Rattle.model.proofs.Turns.{read-keeps}
 use Rattle.model.proofs.StateBodies.{Bytes, body-rewritten}
 
+-- numbers below 256 at every place
 pub bytes-of : (s : List ℕ) → ((i : ℕ) → i < length s → getD s i 0 < 256) → Bytes s
 bytes-of [] h = tt
 bytes-of (x ∷ s) h = (h 0 (omega arith), bytes-of s (λ i p. h (suc i) (omega arith)))
 
+-- both parts of bytes are bytes
 bytes-parts : (xs ys : List ℕ) → Bytes (xs ++ ys) → Bytes xs × Bytes ys
 bytes-parts [] ys h = (tt, h)
 bytes-parts (x ∷ xs) ys h = let r = bytes-parts xs ys (h .1) in ((h .0, r .0), r .1)
@@ -73,11 +75,13 @@ record Rewrites (s : List ℕ) (f : File) (rest : List ℕ) : Type 0 where
   bodies : (r : List ℕ) → In r (f .items) → stateBody (stateIn r) ≡ r
 
 module _ (s : List ℕ) (f : File) (a b : ℕ) (body rest : List ℕ) (size : length body ≡ 256 * a + b) where
+  -- the field in front is as it is written
   front :
       (mark : ℕ) → Rewrites s f (mark ∷ (a ∷ (b ∷ (body ++ rest)))) →
       mark ∷ (a ∷ (b ∷ (body ++ rest))) ≡ fieldBytes mark body ++ rest
   front mark h = field-again mark a b body rest size (h .bytes .1 .1 .0)
 
+  -- after a name, the class, a state
   with-name : f .stage ≤ 1 → Rewrites s f (1 ∷ (a ∷ (b ∷ (body ++ rest)))) → Rewrites s (withField f 1 body) rest
   unfolding withField nameFields flatMap
   with-name low h =
@@ -132,6 +136,7 @@ module _ (s : List ℕ) (f : File) (a b : ℕ) (body rest : List ℕ) (size : le
             (List·Memᴰ·append-cases (f .items) m);
       }
 
+  -- for the mark as it was read
   at-mark :
       (mark m : ℕ) → mark ≡ m →
       (Rewrites s f (m ∷ (a ∷ (b ∷ (body ++ rest)))) → Rewrites s (withField f m body) rest) →
@@ -140,6 +145,7 @@ module _ (s : List ℕ) (f : File) (a b : ℕ) (body rest : List ℕ) (size : le
       subst (λ (z : ℕ). Rewrites s (withField f z body) rest) (sym e)
       (step (subst (λ (z : ℕ). Rewrites s f (z ∷ (a ∷ (b ∷ (body ++ rest))))) e h))
 
+  -- after any field without a fault
   table-step :
       (mark : ℕ) → Fitting table f mark body → Rewrites s f (mark ∷ (a ∷ (b ∷ (body ++ rest)))) →
       Rewrites s (withField f mark body) rest
@@ -148,6 +154,7 @@ module _ (s : List ℕ) (f : File) (a b : ℕ) (body rest : List ℕ) (size : le
   table-step mark (a-row k e high fits) h = absurd (true≢false k)
   table-step mark (a-state k e high fits) h = at-mark mark 4 e (with-state high fits) h
 
+-- before the first field
 nothing-read : (s : List ℕ) → Bytes s → Rewrites s (unread default-class) s
 unfolding nameFields flatMap
 nothing-read s bytes = record { same = refl; no-items = λ h. refl; bytes = bytes; bodies = λ r m. absurd (List·Memᴰ·not-nil m) }
@@ -161,6 +168,7 @@ states-again [] h = refl
 states-again (r ∷ items) h =
     ap₂ (λ (x xs : List ℕ). fieldBytes 4 x ++ xs) (h r (here refl)) (states-again items (λ q m. h q (there m)))
 
+-- so an accepted table is rewritten to the same bytes
 pub rewritten-same : (s : List ℕ) → Bytes s → readFields table s .number ≡ 0 → rewritten s ≡ s
 unfolding rewritten tableStates tableOf tableBytes readWith
 rewritten-same s bytes ok =

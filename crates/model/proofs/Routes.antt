@@ -37,6 +37,7 @@ module _ (ts : List Transition) where
   Steps n g r =
       (a z : ℕ) × In (transition g a z) ts × (s : Route) × In s (routesFrom ts n z) × (r ≡ route (a ∷ s .names) (g ∷ s .groups))
 
+  -- each path of one arc more has these
   route-steps : (n g : ℕ) (r : Route) → In r (routesFrom ts (suc n) g) → Steps n g r
   unfolding routesFrom
   route-steps n g r m =
@@ -61,6 +62,7 @@ module _ (ts : List Transition) where
           )
       go t k false e l = absurd (List·Memᴰ·not-nil l)
 
+  -- a path has as many names as arcs
   pub route-length : (n g : ℕ) (r : Route) → In r (routesFrom ts n g) → length (r .names) ≡ n
   unfolding routesFrom
   route-length zero g r m = ap (λ (s : Route). length (s .names)) (List·Memᴰ·eq-of-singleton m)
@@ -74,6 +76,7 @@ module _ (ts : List Transition) where
       Walks ts g (take i (r .names)) (getD (r .groups) i 0)
       × ((e : ℕ) × Walks ts (getD (r .groups) i 0) (drop i (r .names)) e)
 
+  -- at every arc
   pub route-through : (n g : ℕ) (r : Route) (i : ℕ) → In r (routesFrom ts n g) → i ≤ n → Through g r i
   unfolding routesFrom
   route-through zero g r zero m h = subst (λ (s : Route). Through g s zero) (sym (List·Memᴰ·eq-of-singleton m)) (refl, (g, refl))
@@ -91,6 +94,7 @@ module _ (ts : List Transition) where
 
   -- ---- a path for two walks in succession
 
+  -- an arc in front of a path
   route-with : (n g a z : ℕ) (s : Route) → In (transition g a z) ts → In s (routesFrom ts n z) →
       In (route (a ∷ s .names) (g ∷ s .groups)) (routesFrom ts (suc n) g)
   unfolding routesFrom
@@ -108,6 +112,7 @@ module _ (ts : List Transition) where
   abbrev pub RouteBy : ℕ → Word → ℕ → ℕ → Type 0
   RouteBy g p i x = (r : Route) × In r (routesFrom ts (length p) g) × (r .names ≡ p) × (getD (r .groups) i 0 ≡ x)
 
+  -- a walk gives a path from its first group
   route-along : (p : Word) (g y : ℕ) → Walks ts g p y → RouteBy g p 0 g
   unfolding routesFrom
   route-along [] g y f = (route [] (g ∷ []), here refl, refl, refl)
@@ -119,6 +124,7 @@ module _ (ts : List Transition) where
         refl,
       )
 
+  -- two walks give one through the group between them
   pub route-by : (p q : Word) (g x y : ℕ) → Walks ts g p x → Walks ts x q y → RouteBy g (p ++ q) (length p) x
   route-by [] q g x y f k = subst (λ (z : ℕ). RouteBy z q 0 x) (sym f) (route-along q x y k)
   route-by (a ∷ p) q g x y f k =

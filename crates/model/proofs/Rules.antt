@@ -110,6 +110,7 @@ module _ (c : Class) (rows nodes : List Word) (groups : List ℕ) (x y : ℕ) wh
       ((eqb (c .kind) 0 ≡ true) × TwoPaths (c .first) (c .second) (transitionsOf nodes groups) groups x y)
       ⊎ ((eqb (c .kind) 0 ≡ false) × ByF)
 
+  -- a rule of the class joins the two exactly then
   tells-byRule : Tells (byRule c rows nodes groups x y) ByRule
   unfolding byRule
   tells-byRule = go (eqb (c .kind) 0) refl
@@ -134,6 +135,7 @@ module _ (c : Class) (rows nodes : List Word) (groups : List ℕ) (x y : ℕ) wh
           (λ r. absurd (true≢false (sym e ∙ r .0))) f)
       go false e = tells-by tells-byF (λ f. inr (e, f)) (λ f. ⊎-elim (λ r. absurd (false≢true (sym e ∙ r .0))) (λ r. r .1) f)
 
+  -- the rule of every class
   abbrev Forked : Type 0
   Forked = (g a : ℕ) × In (transition g a x) (transitionsOf nodes groups) × In (transition g a y) (transitionsOf nodes groups)
 
@@ -150,9 +152,11 @@ module _ (c : Class) (rows nodes : List Word) (groups : List ℕ) (x y : ℕ) wh
   of-ruled (by-ends k e f g) = inr (inr (k, (e, inl (f, g))))
   of-ruled (by-back k e a g m n) = inr (inr (k, (e, inr (a, g, m, n))))
 
+  -- a rule joins two groups exactly when there is a reason
   tells-ruled : Tells (forks (transitionsOf nodes groups) x y || byRule c rows nodes groups x y) (Ruled c rows nodes groups x y)
   tells-ruled = tells-by (tells-or (tells-forks (transitionsOf nodes groups) x y) tells-byRule) to-ruled of-ruled
 
+-- and a step is open exactly when it is `Open`
 pub tells-open :
     (c : Class) (rows nodes : List Word) (groups : List ℕ) (x y : ℕ) →
     Tells (isOpen c rows nodes groups (step x y)) (Open c rows nodes groups x y)
@@ -188,6 +192,7 @@ openSteps-in c rows nodes groups s m =
     tells-open c rows nodes groups (s .left) (s .right) .fact
     (filterBy-in (isOpen c rows nodes groups) (stepsBetween (groupsIn groups) (groupsIn groups)) m .1)
 
+-- a list of length 0 has no element
 none-in : {A : Type 0} {x : A} (xs : List A) → In x xs → length xs ≡ 0 → ⊥
 none-in [] m e = List·Memᴰ·not-nil m
 none-in (y ∷ ys) m e = omega arith

@@ -61,12 +61,13 @@ ways-between nodes groups R tree inside p x y u w f =
     (subst₂ (λ (i j : ℕ). Walks (transitionsOf nodes groups) i p j) (sym (u .its-group)) (sym (w .its-group)) f)
 
 -- what is shown of two groups that a rule joins: they have related members
-abbrev Related : List Word → List ℕ → (Word → Word → Type 0) → ℕ → ℕ → Type 0
+abbrev pub Related : List Word → List ℕ → (Word → Word → Type 0) → ℕ → ℕ → Type 0
 Related nodes groups R x y =
     (u w : Word) × In u nodes × In w nodes × (groupAt nodes groups u ≡ x) × (groupAt nodes groups w ≡ y) × R u w
 
 module _ (c : Class) (rows nodes : List Word) (groups : List ℕ) (R : Word → Word → Type 0) (tree : Tree nodes)
     (fits : Fits nodes groups) (closed : Closed c rows nodes R) (inside : Inside nodes groups R) (x y : ℕ) where
+  -- arcs of one name from one group
   forked-related :
       (g a : ℕ) → In (transition g a x) (transitionsOf nodes groups) → In (transition g a y) (transitionsOf nodes groups) →
       Related nodes groups R x y
@@ -76,6 +77,7 @@ module _ (c : Class) (rows nodes : List Word) (groups : List ℕ) (R : Word → 
       let from : R (u .0) (w .0) = inside .related (u .0) (w .0) (u .1) (w .1) (u .3 ∙ sym (w .3)) in
       (u .0 ▸ a, w .0 ▸ a, u .2, w .2, u .4, w .4, closed .fork (u .0) (w .0) a from (u .2) (w .2))
 
+  -- paths of one context
   context-related :
       eqb (c .kind) 0 ≡ true → In x groups → In y groups →
       TwoPaths (c .first) (c .second) (transitionsOf nodes groups) groups x y → Related nodes groups R x y
@@ -109,6 +111,7 @@ module _ (c : Class) (rows nodes : List Word) (groups : List ℕ) (R : Word → 
       } in
       (u .node, w .node, u .is-node, w .is-node, u .its-group, w .its-group, closed .context kind (u .node) (w .node) one)
 
+  -- equal f, and both accept
   ends-related :
       eqb (c .kind) 0 ≡ false → In x groups → In y groups → fOfGroup c nodes groups x ≡ fOfGroup c nodes groups y →
       groupAccepts rows nodes groups x ≡ true → groupAccepts rows nodes groups y ≡ true → Related nodes groups R x y
@@ -131,6 +134,7 @@ module _ (c : Class) (rows nodes : List Word) (groups : List ℕ) (R : Word → 
         closed .ends kind first other (r .0) (q .0) same-f (u .0) (w .0) (r .1) (q .1) near far (r .3) (q .3),
       )
 
+  -- equal f, and one name leads from both into one group
   back-related :
       eqb (c .kind) 0 ≡ false → In x groups → In y groups → fOfGroup c nodes groups x ≡ fOfGroup c nodes groups y →
       (a g : ℕ) → In (transition x a g) (transitionsOf nodes groups) → In (transition y a g) (transitionsOf nodes groups) →
@@ -159,7 +163,7 @@ module _ (c : Class) (rows nodes : List Word) (groups : List ℕ) (R : Word → 
 pub ruled-related :
     (c : Class) (rows nodes : List Word) (groups : List ℕ) (R : Word → Word → Type 0) → Tree nodes → Fits nodes groups →
     Closed c rows nodes R → Inside nodes groups R → (x y : ℕ) → In x groups → In y groups → Ruled c rows nodes groups x y →
-    (u w : Word) × In u nodes × In w nodes × (groupAt nodes groups u ≡ x) × (groupAt nodes groups w ≡ y) × R u w
+    Related nodes groups R x y
 ruled-related c rows nodes groups R tree fits closed inside x y m n (forked g a s t) =
     forked-related c rows nodes groups R tree fits closed inside x y g a s t
 ruled-related c rows nodes groups R tree fits closed inside x y m n (by-context kind two) =

@@ -13,6 +13,7 @@ use Rattle.model.specs.Fields.{arcsOk, stateOk}
 use Rattle.model.specs.Tables.{Arc, arc, State, state, arcBytes, stateBody, arcsIn, stateIn, statesIn}
 use Rattle.model.proofs.Arcs.{Ascending}
 
+-- a number is its high byte and its low byte
 pub two-bytes : (n : ℕ) → 256 * (n / 256) + n % 256 ≡ n
 two-bytes n = omega arith
 
@@ -25,6 +26,7 @@ pub body-length : (s : State) → length (stateBody s) ≡ suc (3 * length (s .a
 unfolding stateBody
 body-length s = ap suc (arc-bytes-length (s .arcs))
 
+-- written arcs are read as they were, then states one by one
 arcs-read : (f : ℕ) (arcs : List Arc) → length (arcBytes arcs) ≤ f → arcsIn f (arcBytes arcs) ≡ arcs
 unfolding arcBytes flatMap arcsIn
 arcs-read zero [] h = refl
@@ -48,6 +50,7 @@ unfolding statesIn
 states-read-back [] = refl
 states-read-back (s ∷ states) = ap₂ (λ (x : State) (more : List State). x ∷ more) (state-read s) (states-read-back states)
 
+-- ascending arcs with names below n pass the test
 arcs-ok :
     (f n next : ℕ) (arcs : List Arc) → Ascending next arcs → ((a : Arc) → In a arcs → a .name < n) →
     arcsOk f n next (arcBytes arcs) ≡ true
@@ -78,6 +81,7 @@ abbrev pub Bytes : List ℕ → Type 0
 Bytes [] = Unit {0}
 Bytes (x ∷ xs) = (x < 256) × Bytes xs
 
+-- arcs that pass the test are written as they stood
 arcs-rewritten : (f n next : ℕ) (s : List ℕ) → length s ≤ f → Bytes s → arcsOk f n next s ≡ true → arcBytes (arcsIn f s) ≡ s
 unfolding arcBytes flatMap arcsOk arcsIn
 arcs-rewritten zero n next [] h bytes ok = refl

@@ -60,6 +60,7 @@ tells-ltb x y = record { fact = ltb-true x y; test = lt-ltb x y }
 pub tells-leb : (x y : ℕ) → Tells (leb x y) (x ≤ y)
 tells-leb x y = record { fact = leb-true x y; test = le-leb x y }
 
+-- equal numbers are decided
 pub eq-dec : (x y : ℕ) → (x ≡ y) ⊎ (x ≡ y → ⊥)
 eq-dec x y = decided (tells-eqb x y)
 
@@ -115,6 +116,7 @@ tells-same (x ∷ xs) (y ∷ ys) =
     (λ e. ap₂ (λ (a : ℕ) (as′ : List ℕ). a ∷ as′) (e .0) (e .1))
     (λ e. (head-eq-of-cons-eq e, tail-eq-of-cons-eq e))
 
+-- equal words are decided
 pub word-dec : (xs ys : List ℕ) → (xs ≡ ys) ⊎ (xs ≡ ys → ⊥)
 word-dec xs ys = decided (tells-same xs ys)
 

@@ -13,11 +13,13 @@ use Rattle.model.proofs.Groups.{group-in}
 
 -- ---- a word that is not empty, as a word with one name more
 
+-- its last name put after the rest gives the word
 last-split : (x : ℕ) (w : Word) → dropLast (x ∷ w) ▸ lastOr x w ≡ x ∷ w
 unfolding lastOr
 last-split x [] = refl
 last-split x (y ∷ w) = ap (λ (v : Word). x ∷ v) (last-split y w)
 
+-- of a word with one name more, the rest and the last name
 dropLast-snoc : (w : Word) (a : ℕ) → dropLast (w ▸ a) ≡ w
 dropLast-snoc [] a = refl
 dropLast-snoc (x ∷ []) a = refl
@@ -34,6 +36,7 @@ lastOr-snoc x (y ∷ w) a = lastOr-snoc y w a
 abbrev arcInto : List Word → List ℕ → ℕ → Word → Transition
 arcInto nodes groups x w = transition (groupAt nodes groups (dropLast (x ∷ w))) (lastOr x w) (groupAt nodes groups (x ∷ w))
 
+-- every word that is not empty has its arc
 in-transitionsInto :
     (nodes : List Word) (groups : List ℕ) (ws : List Word) (x : ℕ) (w : Word) → In (x ∷ w) ws →
     In (arcInto nodes groups x w) (transitionsInto nodes groups ws)
@@ -58,6 +61,7 @@ in-transitions nodes groups (x ∷ w) a m =
     (sym (dropLast-snoc (x ∷ w) a)) (sym (lastOr-snoc x w a)))
     (in-transitionsInto nodes groups nodes x (w ▸ a) m)
 
+-- every arc is that of a word
 transitionsInto-in :
     (nodes : List Word) (groups : List ℕ) (ws : List Word) (t : Transition) → In t (transitionsInto nodes groups ws) →
     (w : Word) × (a : ℕ) × In (w ▸ a) ws × (t ≡ transition (groupAt nodes groups w) a (groupAt nodes groups (w ▸ a)))
@@ -112,6 +116,7 @@ target-in nodes groups fits x a z m =
 
 -- ---- walks
 
+-- walks in succession, and a walk taken apart
 pub walks-append :
     (ts : List Transition) (x z y : ℕ) (p q : Word) → Walks ts x p z → Walks ts z q y → Walks ts x (p ++ q) y
 walks-append ts x z y [] q f g = subst (λ (k : ℕ). Walks ts k q y) (sym f) g
@@ -125,6 +130,7 @@ walks-split ts x y (a ∷ p) q f =
     let r = walks-split ts (f .0) y p q (f .2) in
     (r .0, (f .0, f .1, r .1), r .2)
 
+-- a deterministic automaton goes to one group
 pub walks-unique :
     (ts : List Transition) → Deterministic ts → (x y z : ℕ) (p : Word) → Walks ts x p y → Walks ts x p z → y ≡ z
 walks-unique ts det x y z [] f g = sym f ∙ g

@@ -20,6 +20,7 @@ Begins w rows = (v : Word) × In (w ++ v) rows
 
 -- ---- beginnings
 
+-- the beginnings of a row are those words that it goes on from
 pub in-beginnings : (w v : Word) → In w (beginnings (w ++ v))
 unfolding beginnings
 in-beginnings [] [] = here refl
@@ -49,9 +50,11 @@ record Extends (nodes : List Word) (New : Word → Type 0) (result : List Word) 
   origin : (w : Word) → In w result → In w nodes ⊎ New w
   distinct : Distinct nodes → Distinct result
 
+-- by none
 extends-none : (nodes : List Word) (New : Word → Type 0) → ((w : Word) → New w → In w nodes) → Extends nodes New nodes
 extends-none nodes New old = record { kept = λ w m. m; added = old; origin = λ w m. inl m; distinct = λ d. d }
 
+-- by one kind and then another
 extends-then :
     {nodes between result : List Word} {P Q : Word → Type 0} →
     Extends nodes P between → Extends between Q result → Extends nodes (λ w. P w ⊎ Q w) result
@@ -75,6 +78,7 @@ extends-by s f g =
       distinct = s .distinct;
     }
 
+-- by one word
 extends-one : (nodes : List Word) (w : Word) → Extends nodes (λ u. u ≡ w) (cond (hasRow w nodes) nodes (nodes ++ (w ∷ [])))
 extends-one nodes w = go (hasRow w nodes) refl
   where
@@ -88,6 +92,7 @@ extends-one nodes w = go (hasRow w nodes) refl
           distinct = λ d. distinct-snoc nodes w d (not-told (tells-hasRow w nodes) e);
         }
 
+-- by some words, by the beginnings of rows, from the root
 withStates-extends : (nodes ws : List Word) → Extends nodes (λ u. In u ws) (withStates nodes ws)
 unfolding withStates
 withStates-extends nodes [] = extends-none nodes (λ u. In u []) (λ u m. absurd (List·Memᴰ·not-nil m))
@@ -113,12 +118,14 @@ treeOf-extends rows = withRows-extends ([] ∷ []) rows
 
 -- ---- the prefix tree
 
+-- what begins a row is a state, and the root is
 pub begins-node : (rows : List Word) (w : Word) → Begins w rows → In w (treeOf rows)
 begins-node rows w b = treeOf-extends rows .added w b
 
 pub root-node : (rows : List Word) → In [] (treeOf rows)
 root-node rows = treeOf-extends rows .kept [] (here refl)
 
+-- and there is no other
 pub node-begins : (rows : List Word) (w : Word) → In w (treeOf rows) → (w ≡ []) ⊎ Begins w rows
 node-begins rows w m = ⊎-elim (λ n. inl (List·Memᴰ·eq-of-singleton n)) (λ b. inr b) (treeOf-extends rows .origin w m)
 
@@ -127,9 +134,11 @@ pub node-begins-row : (rows : List Word) (r : Word) → In r rows → (w : Word)
 node-begins-row rows r m w n =
     ⊎-elim (λ e. (r, Memᴰ·cast (ap (λ (z : Word). z ++ r) e) m)) (λ b. b) (node-begins rows w n)
 
+-- every row is a state
 pub row-node : (rows : List Word) (r : Word) → In r rows → In r (treeOf rows)
 row-node rows r m = begins-node rows r ([], Memᴰ·cast (append-nil r) m)
 
+-- so it is a tree
 pub treeOf-tree : (rows : List Word) → Tree (treeOf rows)
 treeOf-tree rows =
     record {

@@ -15,6 +15,7 @@ use Rattle.model.specs.Fields.{statedLength, runsPast, bodyOf, afterFiel
 use Rattle.model.proofs.Tests.{or-false, false-or}
 
 module _ (l : ℕ) (kind : FileKind) (f : File) (s : List ℕ) where
+  -- the four cases of a turn: the end, a field cut off, a fault, a field
   at-stop : eqb (length s) 0 ≡ true → readFrom (suc l) kind f s ≡ atEnd f
   unfolding readFrom
   at-stop e = rw (e, readFrom)
@@ -98,6 +99,7 @@ nil-of-length : (s : List ℕ) → length s ≡ 0 → s ≡ []
 nil-of-length [] e = refl
 nil-of-length (x ∷ s) e = let z : ⊥ = omega arith in absurd z
 
+-- each turn is one of the three
 pub turn : (l : ℕ) (kind : FileKind) (f : File) (s : List ℕ) → Turn l kind f s
 turn l kind f s = go (eqb (length s) 0) refl (runsPast s) refl
   where
@@ -113,6 +115,7 @@ module _ (kind : FileKind) (P : File → List ℕ → Type 0)
     (step :
     (f : File) (mark a b : ℕ) (body rest : List ℕ) → length body ≡ 256 * a + b → fieldFault kind f mark body ≡ 0 →
     P f (mark ∷ (a ∷ (b ∷ (body ++ rest)))) → P (withField f mark body) rest) where
+  -- at the end
   end-keeps : (f : File) → P f [] → atEnd f .number ≡ 0 → (atEnd f .file-is .stage ≡ 3) × P (atEnd f .file-is) []
   end-keeps f h ok = go (eqb (f .stage) 3) refl ok
     where
@@ -123,6 +126,7 @@ module _ (kind : FileKind) (P : File → List ℕ → Type 0)
       go true e q = (eqb-true (f .stage) 3 e, h)
       go false e q = let z : ⊥ = omega arith in absurd z
 
+  -- by induction over the turns
   pub read-keeps :
       (l : ℕ) (f : File) (s : List ℕ) → P f s → readFrom l kind f s .number ≡ 0 →
       (readFrom l kind f s .file-is .stage ≡ 3) × P (readFrom l kind f s .file-is) []

@@ -21,6 +21,7 @@ use Rattle.model.specs.Listing.{digits, arcText, stateLine, stateLines, 
 use Rattle.model.specs.WorkedDays.{sameRows, rowsOfLength, shortRows, acceptingIn, remarkHolds, dayHolds, isExample}
 use Rattle.model.specs.WorkedDays.{exampleHolds, daysHold}
 
+-- all days, all remarks and the listing
 pub worked-days-hold : daysHold ≡ true
 unfolding flatMap
     any anyTwo all filterBy numbersFrom isIn indexIn same hasRow before lastOr

@@ -14,6 +14,7 @@ unfoldable pub arcCount : List State → ℕ
 arcCount [] = 0
 arcCount (s ∷ states) = length (s .arcs) + arcCount states
 
+-- states for n names that can be written and read back
 pub record Writable (n : ℕ) (states : List State) : Type 0 where
   pub some-state : 1 ≤ length states
   pub few-states : length states ≤ state-limit

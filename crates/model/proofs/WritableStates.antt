@@ -22,6 +22,7 @@ use Rattle.model.proofs.MetOrder.{metByStates-follows}
 use Rattle.model.proofs.ArcCount.{arcs-few}
 use Rattle.model.proofs.Writable.{Writable, arcCount}
 
+-- renumbered arcs keep their names
 renumbered-ascending : (next : ℕ) (met : List ℕ) (arcs : List Arc) → Ascending next arcs → Ascending next (renumbered met arcs)
 unfolding renumbered
 renumbered-ascending next met [] p = p
@@ -35,12 +36,14 @@ record ArcOf (nodes : List Word) (groups : List ℕ) (a : Arc) : Type 0 where
   goes : In (transition from (a .name) to) (transitionsOf nodes groups)
   target : a .to ≡ indexIn to (metGroups nodes groups)
 
+-- a state is that of a group met
 state-of :
     (rows nodes : List Word) (groups : List ℕ) (s : State) → In s (statesOf rows nodes groups) →
     (g : ℕ) × In g (metGroups nodes groups) × (s ≡ stateOf rows nodes groups (metGroups nodes groups) g)
 unfolding statesOf
 state-of rows nodes groups s m = map-in (stateOf rows nodes groups (metGroups nodes groups)) (metGroups nodes groups) m
 
+-- each arc of a state is such an arc
 arc-of :
     (rows nodes : List Word) (groups : List ℕ) (s : State) (a : Arc) → In s (statesOf rows nodes groups) → In a (s .arcs) →
     ArcOf nodes groups a
@@ -62,6 +65,7 @@ arc-of rows nodes groups s a m n =
       target = ap (λ (b : Arc). b .to) (g .2);
     }
 
+-- the arcs of a state ascend
 states-ascending :
     (rows nodes : List Word) (groups : List ℕ) (s : State) → In s (statesOf rows nodes groups) → Ascending 0 (s .arcs)
 unfolding stateOf
@@ -71,6 +75,7 @@ states-ascending rows nodes groups s m =
     (renumbered-ascending 0 (metGroups nodes groups) (arcsOutOf (f .0) (transitionsOf nodes groups))
     (arcsOutOf-ascending (f .0) (transitionsOf nodes groups)))
 
+-- states are numbered first-met
 states-first-met :
     (rows nodes : List Word) (groups : List ℕ) → Tree nodes → Fits nodes groups → isFirstMet (statesOf rows nodes groups) ≡ true
 unfolding isFirstMet statesOf metGroups
@@ -82,6 +87,7 @@ states-first-met rows nodes groups tree fits =
     metByStates-follows rows nodes groups met (length nodes) 0 (groupAt nodes groups [] ∷ []) refl (omega arith) in
     eq-eqb (metByStates 0 1 states) (length states) (counted ∙ sym (length-map met (stateOf rows nodes groups met)))
 
+-- all states have at most as many arcs as the tree has nodes
 states-arcs :
     (rows nodes : List Word) (groups : List ℕ) → Tree nodes → Fits nodes groups →
     arcCount (statesOf rows nodes groups) ≤ length nodes
@@ -89,6 +95,7 @@ unfolding statesOf
 states-arcs rows nodes groups tree fits =
     arcs-few rows nodes groups (metGroups nodes groups) (metGroups nodes groups) (met-distinct nodes groups tree fits)
 
+-- so they can be written, with names below n
 pub states-writable :
     (rows nodes : List Word) (groups : List ℕ) (n : ℕ) → Tree nodes → Fits nodes groups →
     Deterministic (transitionsOf nodes groups) → length nodes ≤ state-limit →

@@ -16,10 +16,12 @@ use Rattle.model.proofs.Writable.{arcCount}
 use Rattle.model.proofs.StateBodies.{body-length}
 use Rattle.model.proofs.Books.{NamesOk}
 
+-- a field has three bytes before its body
 field-length : (mark : ℕ) (body : List ℕ) → length (fieldBytes mark body) ≡ 3 + length body
 unfolding fieldBytes
 field-length mark body = omega arith
 
+-- a name is within its limit
 name-length : (n : List ℕ) → nameOk n ≡ true → length n ≤ name-bytes
 unfolding nameOk
 name-length [] ok = omega arith
@@ -27,6 +29,7 @@ name-length (b ∷ bs) ok =
     let n = length (b ∷ bs) in
     leb-true n name-bytes (and-eq-true-iff (leb n name-bytes) (startsName b && all continuesName bs) .0 ok .0)
 
+-- the fields of names
 pub name-fields-length :
     (names more : List (List ℕ)) → NamesOk names more →
     length (nameFields more) ≤ (3 + name-bytes) * length more
@@ -41,6 +44,7 @@ name-fields-length names (n ∷ more) ok =
       name-fields-length (names ++ (n ∷ [])) more (ok .1),
     )
 
+-- names that are allowed are within their number
 pub names-few :
     (names more : List (List ℕ)) → NamesOk names more → length names ≤ name-limit →
     length names + length more ≤ name-limit
@@ -50,6 +54,7 @@ names-few names (n ∷ more) ok few =
     let below : length names < name-limit = ok .0 .few in
     omega (arith, names-few (names ++ (n ∷ [])) more (ok .1) (omega arith))
 
+-- the fields of states
 pub state-fields-length : (states : List State) → length (stateFields states) ≡ 4 * length states + 3 * arcCount states
 unfolding stateFields flatMap arcCount
 state-fields-length [] = refl
