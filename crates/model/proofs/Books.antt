@@ -66,7 +66,7 @@ nothing-read =
       rows-below = λ r m. absurd (List·Memᴰ·not-nil m);
     }
 
--- after a name, a class, a row
+-- what is read stays sound after a name, a class, a row
 with-name : (f : File) (body : List ℕ) → f .stage ≤ 1 → NameFits (f .names) body → BookOk f → BookOk (withField f 1 body)
 unfolding withField
 with-name f body low fits ok =
@@ -109,7 +109,7 @@ with-row f body high fits ok =
           (List·Memᴰ·append-cases (f .items) m);
     }
 
--- after any field without a fault
+-- so it does after any field without a fault
 book-step : (f : File) (mark : ℕ) (body : List ℕ) → Fitting book f mark body → BookOk f → BookOk (withField f mark body)
 book-step f mark body (a-name e low fits) ok =
     subst (λ (m : ℕ). BookOk (withField f m body)) (sym e) (with-name f body low fits ok)

@@ -1,4 +1,5 @@
--- The context rule as a fact: two paths with the same names through the two groups. Assumes nothing.
+-- The context rule as a fact: two paths with the same names through the two groups. First that routes are such paths and such
+-- paths routes, then what `byContext` tells, then that the order of the groups does not matter. Assumes nothing.
 use mathlib.Core.Path.{_≡_, sym, ap, _∙_, subst, subst₂}
 use mathlib.Core.List.{List, _++_, flatMap, List·Memᴰ as In}
 use Prim.Native.Nat.{ℕ, _+_, _≤_}

@@ -1,4 +1,5 @@
--- Demand 3, whole, and that tables read back as written and are rewritten to the same bytes: `demands`. Assumes nothing.
+-- All that is claimed: `demands`. First what an accepted book and two like books give, then demand 3, whole, then that tables
+-- read back as they were written and are rewritten to the same bytes. Assumes nothing.
 use mathlib.Core.Path.{_≡_, refl, sym, ap, _∙_, subst}
 use mathlib.Core.Logic.{_↔_}
 use mathlib.Core.Bool.{Bool, true, false, _||_}
@@ -169,11 +170,11 @@ read-no-fault s work ok long =
     let numbered : isFirstMet (tableStates bytes) ≡ true = ap isFirstMet (read-states s ok) ∙ book-writable s ok .first-met in
     rw (sizes, number, numbered)
 
--- demand: tables read back as they were written
+-- tables read back as they were written
 pub reads-back : Reads-back
 reads-back = record { accepted-again = read-no-fault; same-states = read-states }
 
--- demand: a table rewritten is the same bytes
+-- an accepted table is rewritten to the same bytes
 pub same-bytes : Same-bytes
 same-bytes = record { rewrites = rewrites-same }
 

@@ -132,6 +132,6 @@ fitting kind f mark body e =
     let at : (m : ℕ) → mark ≡ m → rest m ≡ 0 = λ m q. subst (λ z. rest z ≡ 0) q (p .1) in
     ⊎-elim (λ q. a-name (q .0) (q .1) (name-fits f body (at 1 (q .0))))
     (λ r. ⊎-elim (λ q. a-class (q .0) (q .1) (class-fits body (at 2 (q .0))))
-    (λ r2. ⊎-elim (λ q. a-state (q .0) (q .1) (q .2) (state-fits f body (at 4 (q .1))))
-    (λ q. a-row (q .0) (q .1) (q .2) (row-fits f body (at 3 (q .1)))) r2) r)
+    (λ item. ⊎-elim (λ q. a-state (q .0) (q .1) (q .2) (state-fits f body (at 4 (q .1))))
+    (λ q. a-row (q .0) (q .1) (q .2) (row-fits f body (at 3 (q .1)))) item) r)
     (may-come kind (f .stage) mark (when-not (mayCome kind (f .stage) mark) 2 (p .0)))

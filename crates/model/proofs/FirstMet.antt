@@ -1,5 +1,5 @@
--- First-met order: every group is met, once, the root's first. In order: places in a list, then what the whole meeting gives.
--- Assumes nothing.
+-- First-met order: every group is met, once, the root's first. In order: what the whole meeting gives, the targets of groups
+-- met, then all groups, and that there are as many states as groups. Assumes nothing.
 use mathlib.Core.Path.{_≡_, refl, sym, ap, _∙_, subst}
 use mathlib.Core.Logic.{_⊎_, inl, inr}
 use mathlib.Core.List.{List, [], _∷_, List·Memᴰ as In, List·Memᴰ·head as here, List·Memᴰ·not-nil, List·Memᴰ·eq-of-singleton}

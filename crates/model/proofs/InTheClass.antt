@@ -207,7 +207,7 @@ module _ (c : Class) (rows : List Word) (groups : List ℕ) (joined : Joined c r
       (f-walked kind w [] x (treeOf-tree rows .root) wx ∙ e ∙ sym (f-walked kind z [] y (treeOf-tree rows .root) zy))
       a (yh .0) (subst (λ (q : ℕ). In (transition x a q) ts) one (xg .1)) (yh .1))
 
-  -- kinds 1 and 2
+  -- kinds 1 and 2: words with the same f and a common tail meet, since nothing is open
   pub admits-distinguishable : eqb (c .kind) 0 ≡ false → Distinguishable c (Admits rows groups)
   admits-distinguishable kind =
       record { equal-tails = λ w z v e lw lz. meet w z v e (told (w ++ v) .fact lw) (told (z ++ v) .fact lz) }

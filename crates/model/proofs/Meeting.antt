@@ -175,7 +175,7 @@ module _ (ts : List Transition) (start : ℕ) where
             closed = λ j h k. r .closed j (omega arith) k;
           }
 
-  -- n looks more
+  -- n looks more, one after the other
   pub look-all : (n i : ℕ) (met : List ℕ) → MetUpTo ts start i met → MetUpTo ts start (n + i) (metFrom n i ts met)
   unfolding metFrom
   look-all zero i met r =

@@ -90,14 +90,14 @@ metByArcs-follows every (a ∷ arcs) met rest e =
         metByArcs-new (length met) (arc (a .name) (indexIn (a .to) every)) (renumbered every arcs) next
         ∙ ap (λ (m : ℕ). metByArcs m (renumbered every arcs)) size ∙ again longer h
 
--- one state of the test
+-- the test takes one state
 metByStates-step :
     (i m : ℕ) (s : State) (states : List State) → i < m →
     metByStates i m (s ∷ states) ≡ metByStates (suc i) (metByArcs m (s .arcs)) states
 unfolding metByStates
 metByStates-step i m s states h = rw (lt-ltb i m h, metByStates)
 
--- one look
+-- first-met order takes one look
 metFrom-step :
     (n i : ℕ) (ts : List Transition) (met : List ℕ) → i < length met →
     metFrom (suc n) i ts met ≡ metFrom n (suc i) ts (metWith met (arcsOutOf (getD met i 0) ts))

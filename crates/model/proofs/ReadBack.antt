@@ -1,4 +1,5 @@
--- Written fields are read back one by one: names, the class, states. Assumes nothing.
+-- Written fields are read back, whatever was read before them: one field, then names, the class and states, and with them a
+-- whole table. Assumes nothing.
 use mathlib.Core.Path.{_≡_, refl, sym, ap, _∙_, subst}
 use mathlib.Core.Bool.{true}
 use mathlib.Core.List.{List, [], _∷_, _++_, map, flatMap, append-nil, append-assoc, List·Memᴰ as In, List·Memᴰ·head as here}
@@ -29,7 +30,7 @@ reads-field f mark body rest r ok again (suc l) h =
     one-field l table f mark (length body / 256) (length body % 256) body rest (sym (two-bytes (length body))) ok
     ∙ again l (omega (arith, length-append body rest))
 
--- one name
+-- a name, where names may come
 reads-name :
     (stage : ℕ) (names : List (List ℕ)) (c : Class) (body rest : List ℕ) (r : Read) → stage ≤ 1 → NameFits names body →
     ReadsTo (file 1 (names ++ (body ∷ [])) c []) rest r → ReadsTo (file stage names c []) (fieldBytes 1 body ++ rest) r
@@ -53,7 +54,7 @@ reads-names stage names (n ∷ more) c rest r low named ok again =
     (reads-names 1 (names ++ (n ∷ [])) more c rest r (omega arith) (λ e. refl) (ok .1)
     (subst (λ (z : List (List ℕ)). ReadsTo (file 1 z c []) rest r) (sym (append-assoc names (n ∷ []) more)) again)))
 
--- the class
+-- the class, after the names
 reads-class :
     (names : List (List ℕ)) (d c : Class) (rest : List ℕ) (r : Read) → ClassOk c →
     ReadsTo (file 2 names c []) rest r → ReadsTo (file 1 names d []) (classField c ++ rest) r
@@ -62,7 +63,7 @@ reads-class names d c rest r ok again =
     let body = c .kind ∷ (c .first ∷ (c .second ∷ [])) in
     reads-field (file 1 names d []) 2 body rest r (fits-class body ok) again
 
--- one state
+-- a state, after the class
 reads-state :
     (stage : ℕ) (names items : List (List ℕ)) (c : Class) (body rest : List ℕ) (r : Read) → 2 ≤ stage →
     StateFits (length names) items body → ReadsTo (file 3 names c (items ++ (body ∷ []))) rest r →

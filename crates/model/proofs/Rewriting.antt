@@ -81,7 +81,7 @@ module _ (s : List ℕ) (f : File) (a b : ℕ) (body rest : List ℕ) (size : le
       mark ∷ (a ∷ (b ∷ (body ++ rest))) ≡ fieldBytes mark body ++ rest
   front mark h = field-again mark a b body rest size (h .bytes .1 .1 .0)
 
-  -- after a name, the class, a state
+  -- it stays so after a name, the class, a state
   with-name : f .stage ≤ 1 → Rewrites s f (1 ∷ (a ∷ (b ∷ (body ++ rest)))) → Rewrites s (withField f 1 body) rest
   unfolding withField nameFields flatMap
   with-name low h =
@@ -145,7 +145,7 @@ module _ (s : List ℕ) (f : File) (a b : ℕ) (body rest : List ℕ) (size : le
       subst (λ (z : ℕ). Rewrites s (withField f z body) rest) (sym e)
       (step (subst (λ (z : ℕ). Rewrites s f (z ∷ (a ∷ (b ∷ (body ++ rest))))) e h))
 
-  -- after any field without a fault
+  -- so it does after any field without a fault
   table-step :
       (mark : ℕ) → Fitting table f mark body → Rewrites s f (mark ∷ (a ∷ (b ∷ (body ++ rest)))) →
       Rewrites s (withField f mark body) rest

@@ -37,7 +37,7 @@ module _ (ts : List Transition) where
   Steps n g r =
       (a z : ℕ) × In (transition g a z) ts × (s : Route) × In s (routesFrom ts n z) × (r ≡ route (a ∷ s .names) (g ∷ s .groups))
 
-  -- each path of one arc more has these
+  -- every path of one arc more is such a step
   route-steps : (n g : ℕ) (r : Route) → In r (routesFrom ts (suc n) g) → Steps n g r
   unfolding routesFrom
   route-steps n g r m =
@@ -76,7 +76,7 @@ module _ (ts : List Transition) where
       Walks ts g (take i (r .names)) (getD (r .groups) i 0)
       × ((e : ℕ) × Walks ts (getD (r .groups) i 0) (drop i (r .names)) e)
 
-  -- at every arc
+  -- that is so of each of its arcs
   pub route-through : (n g : ℕ) (r : Route) (i : ℕ) → In r (routesFrom ts n g) → i ≤ n → Through g r i
   unfolding routesFrom
   route-through zero g r zero m h = subst (λ (s : Route). Through g s zero) (sym (List·Memᴰ·eq-of-singleton m)) (refl, (g, refl))

@@ -1,4 +1,5 @@
--- Open steps as facts: what the tests of Joinings tell of two groups. Assumes nothing.
+-- Open steps as facts: what the tests of Joinings tell of two groups. In order: forks, one name into one group, the rule of the
+-- class, open steps, and that in a full joining groups that a rule joins are one. Assumes nothing.
 use mathlib.Core.Path.{_≡_, refl, sym, _∙_}
 use mathlib.Core.Logic.{_⊎_, inl, inr, ⊎-elim}
 use mathlib.Core.Bool.{Bool, true, false, _||_, true≢false, false≢true}
@@ -135,7 +136,7 @@ module _ (c : Class) (rows nodes : List Word) (groups : List ℕ) (x y : ℕ) wh
           (λ r. absurd (true≢false (sym e ∙ r .0))) f)
       go false e = tells-by tells-byF (λ f. inr (e, f)) (λ f. ⊎-elim (λ r. absurd (false≢true (sym e ∙ r .0))) (λ r. r .1) f)
 
-  -- the rule of every class
+  -- the rule of every class: one group has arcs of one name to both
   abbrev Forked : Type 0
   Forked = (g a : ℕ) × In (transition g a x) (transitionsOf nodes groups) × In (transition g a y) (transitionsOf nodes groups)
 

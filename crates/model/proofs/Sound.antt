@@ -67,7 +67,7 @@ Related nodes groups R x y =
 
 module _ (c : Class) (rows nodes : List Word) (groups : List ℕ) (R : Word → Word → Type 0) (tree : Tree nodes)
     (fits : Fits nodes groups) (closed : Closed c rows nodes R) (inside : Inside nodes groups R) (x y : ℕ) where
-  -- arcs of one name from one group
+  -- joined by arcs of one name from one group
   forked-related :
       (g a : ℕ) → In (transition g a x) (transitionsOf nodes groups) → In (transition g a y) (transitionsOf nodes groups) →
       Related nodes groups R x y
@@ -77,7 +77,7 @@ module _ (c : Class) (rows nodes : List Word) (groups : List ℕ) (R : Word → 
       let from : R (u .0) (w .0) = inside .related (u .0) (w .0) (u .1) (w .1) (u .3 ∙ sym (w .3)) in
       (u .0 ▸ a, w .0 ▸ a, u .2, w .2, u .4, w .4, closed .fork (u .0) (w .0) a from (u .2) (w .2))
 
-  -- paths of one context
+  -- joined by paths of one context
   context-related :
       eqb (c .kind) 0 ≡ true → In x groups → In y groups →
       TwoPaths (c .first) (c .second) (transitionsOf nodes groups) groups x y → Related nodes groups R x y
@@ -111,7 +111,7 @@ module _ (c : Class) (rows nodes : List Word) (groups : List ℕ) (R : Word → 
       } in
       (u .node, w .node, u .is-node, w .is-node, u .its-group, w .its-group, closed .context kind (u .node) (w .node) one)
 
-  -- equal f, and both accept
+  -- joined by equal f, where both accept
   ends-related :
       eqb (c .kind) 0 ≡ false → In x groups → In y groups → fOfGroup c nodes groups x ≡ fOfGroup c nodes groups y →
       groupAccepts rows nodes groups x ≡ true → groupAccepts rows nodes groups y ≡ true → Related nodes groups R x y
@@ -134,7 +134,7 @@ module _ (c : Class) (rows nodes : List Word) (groups : List ℕ) (R : Word → 
         closed .ends kind first other (r .0) (q .0) same-f (u .0) (w .0) (r .1) (q .1) near far (r .3) (q .3),
       )
 
-  -- equal f, and one name leads from both into one group
+  -- joined by equal f, where one name leads from both into one group
   back-related :
       eqb (c .kind) 0 ≡ false → In x groups → In y groups → fOfGroup c nodes groups x ≡ fOfGroup c nodes groups y →
       (a g : ℕ) → In (transition x a g) (transitionsOf nodes groups) → In (transition y a g) (transitionsOf nodes groups) →

@@ -1,4 +1,5 @@
--- Arcs between groups by their nodes, and walks between groups. Assumes nothing.
+-- Arcs between groups by their nodes, and walks between groups. First a word's last name, then that the arcs are exactly those
+-- of the tree between the groups of their ends, then walks appended, taken apart and down the tree. Assumes nothing.
 use mathlib.Core.Path.{_≡_, refl, sym, ap, ap₂, _∙_, subst}
 use mathlib.Core.Logic.{⊎-elim}
 use mathlib.Core.List.{List, [], _∷_, _++_, dropLast, append-assoc, append-nil, List·Memᴰ as In, List·Memᴰ·head as here}

@@ -50,11 +50,11 @@ record Extends (nodes : List Word) (New : Word → Type 0) (result : List Word) 
   origin : (w : Word) → In w result → In w nodes ⊎ New w
   distinct : Distinct nodes → Distinct result
 
--- by none
+-- extended by nothing, where the new ones were there
 extends-none : (nodes : List Word) (New : Word → Type 0) → ((w : Word) → New w → In w nodes) → Extends nodes New nodes
 extends-none nodes New old = record { kept = λ w m. m; added = old; origin = λ w m. inl m; distinct = λ d. d }
 
--- by one kind and then another
+-- extended by some and then by others
 extends-then :
     {nodes between result : List Word} {P Q : Word → Type 0} →
     Extends nodes P between → Extends between Q result → Extends nodes (λ w. P w ⊎ Q w) result
@@ -78,7 +78,7 @@ extends-by s f g =
       distinct = s .distinct;
     }
 
--- by one word
+-- one word more, if it is new, is an extension by that word
 extends-one : (nodes : List Word) (w : Word) → Extends nodes (λ u. u ≡ w) (cond (hasRow w nodes) nodes (nodes ++ (w ∷ [])))
 extends-one nodes w = go (hasRow w nodes) refl
   where
@@ -92,7 +92,7 @@ extends-one nodes w = go (hasRow w nodes) refl
           distinct = λ d. distinct-snoc nodes w d (not-told (tells-hasRow w nodes) e);
         }
 
--- by some words, by the beginnings of rows, from the root
+-- and so with some words, with the beginnings of some rows, and from the root on
 withStates-extends : (nodes ws : List Word) → Extends nodes (λ u. In u ws) (withStates nodes ws)
 unfolding withStates
 withStates-extends nodes [] = extends-none nodes (λ u. In u []) (λ u m. absurd (List·Memᴰ·not-nil m))

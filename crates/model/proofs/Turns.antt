@@ -115,7 +115,7 @@ module _ (kind : FileKind) (P : File → List ℕ → Type 0)
     (step :
     (f : File) (mark a b : ℕ) (body rest : List ℕ) → length body ≡ 256 * a + b → fieldFault kind f mark body ≡ 0 →
     P f (mark ∷ (a ∷ (b ∷ (body ++ rest)))) → P (withField f mark body) rest) where
-  -- at the end
+  -- an accepted end is at stage 3
   end-keeps : (f : File) → P f [] → atEnd f .number ≡ 0 → (atEnd f .file-is .stage ≡ 3) × P (atEnd f .file-is) []
   end-keeps f h ok = go (eqb (f .stage) 3) refl ok
     where
@@ -126,7 +126,7 @@ module _ (kind : FileKind) (P : File → List ℕ → Type 0)
       go true e q = (eqb-true (f .stage) 3 e, h)
       go false e q = let z : ⊥ = omega arith in absurd z
 
-  -- by induction over the turns
+  -- from any file on, whatever the fuel
   pub read-keeps :
       (l : ℕ) (f : File) (s : List ℕ) → P f s → readFrom l kind f s .number ≡ 0 →
       (readFrom l kind f s .file-is .stage ≡ 3) × P (readFrom l kind f s .file-is) []

@@ -1,4 +1,5 @@
--- The states of a partition's automaton can be written as a table that is read back. Assumes nothing.
+-- The states of a partition's automaton can be written as a table that is read back: the arcs of a state, how many states and
+-- arcs there are, first-met numbers, then all together. Assumes nothing.
 use mathlib.Core.Path.{_≡_, refl, sym, ap, _∙_, subst}
 use mathlib.Core.Bool.{true}
 use mathlib.Core.List.{List, [], _∷_, map, List·Memᴰ as In}

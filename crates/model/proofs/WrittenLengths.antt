@@ -29,7 +29,7 @@ name-length (b ∷ bs) ok =
     let n = length (b ∷ bs) in
     leb-true n name-bytes (and-eq-true-iff (leb n name-bytes) (startsName b && all continuesName bs) .0 ok .0)
 
--- the fields of names
+-- so the fields of names take at most 35 bytes each
 pub name-fields-length :
     (names more : List (List ℕ)) → NamesOk names more →
     length (nameFields more) ≤ (3 + name-bytes) * length more
@@ -54,7 +54,7 @@ names-few names (n ∷ more) ok few =
     let below : length names < name-limit = ok .0 .few in
     omega (arith, names-few (names ++ (n ∷ [])) more (ok .1) (omega arith))
 
--- the fields of states
+-- the fields of states take 4 bytes each, and 3 for each arc
 pub state-fields-length : (states : List State) → length (stateFields states) ≡ 4 * length states + 3 * arcCount states
 unfolding stateFields flatMap arcCount
 state-fields-length [] = refl
