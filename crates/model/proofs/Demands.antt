@@ -2,9 +2,9 @@
 -- read back as they were written and are rewritten to the same bytes. Assumes nothing.
 use mathlib.Core.Path.{_≡_, refl, sym, ap, _∙_, subst}
 use mathlib.Core.Logic.{_↔_}
-use mathlib.Core.Bool.{Bool, true, false, _||_}
+use mathlib.Core.Bool.{Bool, true, _||_}
 use mathlib.Core.List.{List, _++_, map, List·Memᴰ as In, List·Memᴰ·head as here, Memᴰ·append-left, Memᴰ·append-right}
-use Prim.Native.Nat.{ℕ, suc, _≤_, _<_}
+use Prim.Native.Nat.{ℕ, _≤_, _<_}
 use native.Mathlib.Omega.{arith}
 use lib.Dec.{ltb}
 use lib.ListN.{length}
@@ -24,17 +24,12 @@ use Rattle.model.proofs.Ends.{joined-full, joined-is-full-joining}
 use Rattle.model.proofs.Joined.{Joined, joining-joined, joinedGroups-joined, joined-deterministic, joined-states}
 use Rattle.model.proofs.InTheClass.{admits-row, admits-in-class, admits-smallest}
 use Rattle.model.proofs.Writable.{Writable}
-use Rattle.model.proofs.FieldLaws.{first-of}
+use Rattle.model.proofs.FieldLaws.{first-of, when-none}
 use Rattle.model.proofs.StateBodies.{states-read-back}
 use Rattle.model.proofs.WritableStates.{states-writable}
 use Rattle.model.proofs.Reading.{accepted-has-row, accepted-entries, reads-written, written-length, rewrites-same}
 
 -- ---- what an accepted book and a like book give
-
--- a refusal that is none: its test is false
-not-when : (b : Bool) (n : ℕ) → when b (suc n) ≡ 0 → b ≡ false
-not-when true n e = let z : ⊥ = omega arith in absurd z
-not-when false n e = refl
 
 -- the prefix tree of an accepted book is within its limit
 accepted-tree : (s : List ℕ) → Accepted s → length (treeOf (bookOf s .items)) ≤ state-limit
@@ -42,7 +37,8 @@ unfolding bookFault
 accepted-tree s ok =
     let size = length (treeOf (bookOf s .items)) in
     let refusal = when (ltb state-limit size) tree-too-large in
-    ltb-false state-limit size (not-when (ltb state-limit size) 9 (first-of (readFields book s .number) refusal ok .1))
+    let none = first-of (readFields book s .number) refusal ok .1 in
+    ltb-false state-limit size (when-none (ltb state-limit size) tree-too-large (omega arith) none)
 
 -- rows that are all among others
 all-there : (rows others : List Word) → allAmong rows others ≡ true → (r : Word) → In r rows → In r others

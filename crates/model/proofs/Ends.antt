@@ -30,9 +30,9 @@ module _ (c : Class) (rows nodes : List Word) where
   none-full groups e = ap (λ (l : List Step). eqb (length l) 0) e
 
   -- without groups nothing is open
-  no-groups : (groups : List ℕ) → length (groupsIn groups) ≤ 0 → openSteps c rows nodes groups ≡ []
+  nothing-open : (groups : List ℕ) → length (groupsIn groups) ≤ 0 → openSteps c rows nodes groups ≡ []
   unfolding openSteps stepsBetween filterBy flatMap
-  no-groups groups few = go (groupsIn groups) few
+  nothing-open groups few = go (groupsIn groups) few
     where
       go : (gs : List ℕ) → length gs ≤ 0 → filterBy (isOpen c rows nodes groups) (stepsBetween gs gs) ≡ []
       go [] h = refl
@@ -76,7 +76,7 @@ module _ (c : Class) (rows nodes : List Word) where
   -- with as many steps as there are groups, joining comes to its end
   joinFrom-joins : (n : ℕ) (groups : List ℕ) → length (groupsIn groups) ≤ n → Joins groups (joinFrom n c rows nodes groups)
   unfolding joinFrom
-  joinFrom-joins zero groups enough = joins-none groups (no-groups groups enough)
+  joinFrom-joins zero groups enough = joins-none groups (nothing-open groups enough)
   joinFrom-joins (suc n) groups enough =
       go (openSteps c rows nodes groups) refl (λ gs few. joinFrom-joins n gs few)
     where

@@ -20,17 +20,14 @@ pub first-of : (a b : ℕ) → firstOf a b ≡ 0 → (a ≡ 0) × (b ≡ 0)
 first-of zero b e = (refl, e)
 first-of (suc a) b e = let z : ⊥ = omega arith in absurd z
 
--- no refusal: the test is true, and the number is below
-when-not : (t : Bool) (n : ℕ) → when (not t) (suc n) ≡ 0 → t ≡ true
-when-not true n e = refl
-when-not false n e = let z : ⊥ = omega arith in absurd z
+-- no refusal by a number that is one: its test is false
+pub when-none : (t : Bool) (n : ℕ) → 1 ≤ n → when t n ≡ 0 → t ≡ false
+when-none true n some e = let z : ⊥ = omega arith in absurd z
+when-none false n some e = refl
 
-when-le : (m k n : ℕ) → when (leb m k) (suc n) ≡ 0 → k < m
-when-le m k n e = go (leb m k) refl e
-  where
-    go : (t : Bool) → leb m k ≡ t → when t (suc n) ≡ 0 → k < m
-    go true p q = let z : ⊥ = omega arith in absurd z
-    go false p q = leb-false m k p
+when-not : (t : Bool) (n : ℕ) → 1 ≤ n → when (not t) n ≡ 0 → t ≡ true
+when-not true n some e = refl
+when-not false n some e = let z : ⊥ = omega arith in absurd z
 
 -- what it takes of one more name
 pub record NameFits (names : List (List ℕ)) (body : List ℕ) : Type 0 where
@@ -56,10 +53,11 @@ name-fits f body e =
     let count = when (leb name-limit (length (f .names))) too-many in
     let p = first-of (when (not (nameOk body)) bad-name) (firstOf order count) e in
     let q = first-of order count (p .1) in
+    let few-enough = when-none (leb name-limit (length (f .names))) too-many (omega arith) (q .1) in
     record {
-      well-formed = when-not (nameOk body) 4 (p .0);
-      in-order = when-not (above (f .names) body) 5 (q .0);
-      few = when-le name-limit (length (f .names)) 6 (q .1);
+      well-formed = when-not (nameOk body) bad-name (omega arith) (p .0);
+      in-order = when-not (above (f .names) body) name-order (omega arith) (q .0);
+      few = leb-false name-limit (length (f .names)) few-enough;
     }
 
 pub fits-name : (f : File) (body : List ℕ) → NameFits (f .names) body → nameFault f body ≡ 0
@@ -68,7 +66,7 @@ fits-name f body h = rw (h .well-formed, h .in-order, lt-leb name-limit (length 
 
 pub class-fits : (body : List ℕ) → classFault body ≡ 0 → classOk body ≡ true
 unfolding classFault
-class-fits body e = when-not (classOk body) 7 e
+class-fits body e = when-not (classOk body) bad-class (omega arith) e
 
 pub fits-class : (body : List ℕ) → classOk body ≡ true → classFault body ≡ 0
 unfolding classFault
@@ -89,14 +87,22 @@ unfolding rowFault
 row-fits f body e =
     let fits = rowOk (length (f .names)) body in
     let p = first-of (when (leb book-rows (length (f .items))) too-many) (when (not fits) bad-row) e in
-    record { few = when-le book-rows (length (f .items)) 6 (p .0); row-ok = when-not fits 8 (p .1) }
+    let few-enough = when-none (leb book-rows (length (f .items))) too-many (omega arith) (p .0) in
+    record {
+      few = leb-false book-rows (length (f .items)) few-enough;
+      row-ok = when-not fits bad-row (omega arith) (p .1);
+    }
 
 pub state-fits : (f : File) (body : List ℕ) → stateFault f body ≡ 0 → StateFits (length (f .names)) (f .items) body
 unfolding stateFault
 state-fits f body e =
     let fits = stateOk (length (f .names)) body in
     let p = first-of (when (leb state-limit (length (f .items))) too-many) (when (not fits) bad-state) e in
-    record { few = when-le state-limit (length (f .items)) 6 (p .0); state-ok = when-not fits 10 (p .1) }
+    let few-enough = when-none (leb state-limit (length (f .items))) too-many (omega arith) (p .0) in
+    record {
+      few = leb-false state-limit (length (f .items)) few-enough;
+      state-ok = when-not fits bad-state (omega arith) (p .1);
+    }
 
 pub fits-state : (f : File) (body : List ℕ) → StateFits (length (f .names)) (f .items) body → stateFault f body ≡ 0
 unfolding stateFault
@@ -134,4 +140,4 @@ fitting kind f mark body e =
     (λ r. ⊎-elim (λ q. a-class (q .0) (q .1) (class-fits body (at 2 (q .0))))
     (λ item. ⊎-elim (λ q. a-state (q .0) (q .1) (q .2) (state-fits f body (at 4 (q .1))))
     (λ q. a-row (q .0) (q .1) (q .2) (row-fits f body (at 3 (q .1)))) item) r)
-    (may-come kind (f .stage) mark (when-not (mayCome kind (f .stage) mark) 2 (p .0)))
+    (may-come kind (f .stage) mark (when-not (mayCome kind (f .stage) mark) misplaced (omega arith) (p .0)))

@@ -20,7 +20,7 @@ use Rattle.model.proofs.Notions.{Fits}
 
 -- ---- the groups at the start
 
--- the groups at the start are single nodes
+-- at the start there is a group for each node
 pub apart-fits : (nodes : List Word) → Fits nodes (apart nodes)
 unfolding apart
 apart-fits nodes = record { lengths = length-numbersFrom (length nodes) 0 }
