@@ -29,6 +29,14 @@ when-not : (t : Bool) (n : ℕ) → 1 ≤ n → when (not t) n ≡ 0 → t ≡ t
 when-not true n some e = refl
 when-not false n some e = let z : ⊥ = omega arith in absurd z
 
+-- no refusal of one more of its kind: there are fewer than the limit, and its test is true
+one-more :
+    (limit count : ℕ) (fits : Bool) (bad : ℕ) → 1 ≤ bad →
+    firstOf (when (leb limit count) too-many) (when (not fits) bad) ≡ 0 → (count < limit) × (fits ≡ true)
+one-more limit count fits bad some e =
+    let p = first-of (when (leb limit count) too-many) (when (not fits) bad) e in
+    (leb-false limit count (when-none (leb limit count) too-many (omega arith) (p .0)), when-not fits bad some (p .1))
+
 -- what it takes of one more name
 pub record NameFits (names : List (List ℕ)) (body : List ℕ) : Type 0 where
   pub well-formed : nameOk body ≡ true
@@ -85,24 +93,14 @@ class-parts body ok =
 pub row-fits : (f : File) (body : List ℕ) → rowFault f body ≡ 0 → RowFits (length (f .names)) (f .items) body
 unfolding rowFault
 row-fits f body e =
-    let fits = rowOk (length (f .names)) body in
-    let p = first-of (when (leb book-rows (length (f .items))) too-many) (when (not fits) bad-row) e in
-    let few-enough = when-none (leb book-rows (length (f .items))) too-many (omega arith) (p .0) in
-    record {
-      few = leb-false book-rows (length (f .items)) few-enough;
-      row-ok = when-not fits bad-row (omega arith) (p .1);
-    }
+    let r = one-more book-rows (length (f .items)) (rowOk (length (f .names)) body) bad-row (omega arith) e in
+    record { few = r .0; row-ok = r .1 }
 
 pub state-fits : (f : File) (body : List ℕ) → stateFault f body ≡ 0 → StateFits (length (f .names)) (f .items) body
 unfolding stateFault
 state-fits f body e =
-    let fits = stateOk (length (f .names)) body in
-    let p = first-of (when (leb state-limit (length (f .items))) too-many) (when (not fits) bad-state) e in
-    let few-enough = when-none (leb state-limit (length (f .items))) too-many (omega arith) (p .0) in
-    record {
-      few = leb-false state-limit (length (f .items)) few-enough;
-      state-ok = when-not fits bad-state (omega arith) (p .1);
-    }
+    let r = one-more state-limit (length (f .items)) (stateOk (length (f .names)) body) bad-state (omega arith) e in
+    record { few = r .0; state-ok = r .1 }
 
 pub fits-state : (f : File) (body : List ℕ) → StateFits (length (f .names)) (f .items) body → stateFault f body ≡ 0
 unfolding stateFault

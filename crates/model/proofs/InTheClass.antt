@@ -180,6 +180,22 @@ module _ (c : Class) (rows : List Word) (groups : List ℕ) (joined : Joined c r
       ∙ ap (fOf c) (append-assoc v (a ∷ []) p)
       ∙ f-append c v u (a ∷ p) agree
 
+  -- groups that words lead to are one where a rule joins them
+  led-equal :
+      (w z : Word) (x y : ℕ) → Walks (automaton rows groups) (start rows groups) w x →
+      Walks (automaton rows groups) (start rows groups) z y → Ruled c rows (treeOf rows) groups x y → x ≡ y
+  led-equal w z x y wx zy =
+      full-equal c rows (treeOf rows) groups (joined .full) x y
+      (walks-in (start rows groups) x w start-in wx) (walks-in (start rows groups) y z start-in zy)
+
+  -- and have one f where the words have
+  led-f :
+      eqb (c .kind) 0 ≡ false → (w z : Word) (x y : ℕ) → Walks (automaton rows groups) (start rows groups) w x →
+      Walks (automaton rows groups) (start rows groups) z y → fOf c w ≡ fOf c z →
+      fOfGroup c (treeOf rows) groups x ≡ fOfGroup c (treeOf rows) groups y
+  led-f kind w z x y wx zy e =
+      f-walked kind w [] x (treeOf-tree rows .root) wx ∙ e ∙ sym (f-walked kind z [] y (treeOf-tree rows .root) zy)
+
   -- words with the same f that have a common tail lead to one group
   meet-by-f :
       eqb (c .kind) 0 ≡ false → (v w z : Word) (x y g h : ℕ) → fOf c w ≡ fOf c z →
@@ -187,10 +203,8 @@ module _ (c : Class) (rows : List Word) (groups : List ℕ) (joined : Joined c r
       Walks (automaton rows groups) x v g → Walks (automaton rows groups) y v h →
       groupAccepts rows (treeOf rows) groups g ≡ true → groupAccepts rows (treeOf rows) groups h ≡ true → x ≡ y
   meet-by-f kind [] w z x y g h e wx zy xg yh ga ha =
-      full-equal c rows (treeOf rows) groups (joined .full) x y
-      (walks-in (start rows groups) x w start-in wx) (walks-in (start rows groups) y z start-in zy)
-      (Ruled.by-ends kind
-      (f-walked kind w [] x (treeOf-tree rows .root) wx ∙ e ∙ sym (f-walked kind z [] y (treeOf-tree rows .root) zy))
+      led-equal w z x y wx zy
+      (Ruled.by-ends kind (led-f kind w z x y wx zy e)
       (subst (λ (q : ℕ). groupAccepts rows (treeOf rows) groups q ≡ true) (sym xg) ga)
       (subst (λ (q : ℕ). groupAccepts rows (treeOf rows) groups q ≡ true) (sym yh) ha))
   meet-by-f kind (a ∷ v) w z x y g h e wx zy xg yh ga ha =
@@ -201,11 +215,9 @@ module _ (c : Class) (rows : List Word) (groups : List ℕ) (joined : Joined c r
       walks-append ts (start rows groups) y (yh .0) z (a ∷ []) zy (yh .0, yh .1, refl) in
       let one : xg .0 ≡ yh .0 =
       meet-by-f kind v (w ▸ a) (z ▸ a) (xg .0) (yh .0) g h (f-append c w z (a ∷ []) e) on-x on-y (xg .2) (yh .2) ga ha in
-      full-equal c rows (treeOf rows) groups (joined .full) x y
-      (walks-in (start rows groups) x w start-in wx) (walks-in (start rows groups) y z start-in zy)
-      (Ruled.by-back kind
-      (f-walked kind w [] x (treeOf-tree rows .root) wx ∙ e ∙ sym (f-walked kind z [] y (treeOf-tree rows .root) zy))
-      a (yh .0) (subst (λ (q : ℕ). In (transition x a q) ts) one (xg .1)) (yh .1))
+      led-equal w z x y wx zy
+      (Ruled.by-back kind (led-f kind w z x y wx zy e) a (yh .0)
+      (subst (λ (q : ℕ). In (transition x a q) ts) one (xg .1)) (yh .1))
 
   -- kinds 1 and 2: words with the same f and a common tail meet, since nothing is open
   pub admits-distinguishable : eqb (c .kind) 0 ≡ false → Distinguishable c (Admits rows groups)
