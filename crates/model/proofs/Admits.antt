@@ -3,7 +3,7 @@
 use mathlib.Core.Path.{_≡_, refl, sym, ap, _∙_, subst}
 use mathlib.Core.Logic.{_⊎_, inl, inr, ⊎-elim}
 use mathlib.Core.Bool.{Bool, true, false, _&&_}
-use mathlib.Core.List.{List, [], _∷_, map, List·Memᴰ as In, List·Memᴰ·head as here, List·Memᴰ·tail as there}
+use mathlib.Core.List.{List, [], _∷_, List·Memᴰ as In, List·Memᴰ·head as here, List·Memᴰ·tail as there}
 use mathlib.Core.List.{List·Memᴰ·not-nil, List·Memᴰ·cases-cons}
 use Prim.Native.Nat.{ℕ, suc, _+_, _-_, _<_}
 use native.Mathlib.Omega.{arith}
@@ -15,11 +15,12 @@ use Rattle.model.specs.Lists.{indexIn}
 use Rattle.model.specs.Tables.{Arc, arc, State, no-state, targetIn, Walk, walk-at, walkFrom, walk, reachedState, admits}
 use Rattle.model.specs.Joinings.{Transition, transition, transitionsOf, groupAt, groupAccepts}
 use Rattle.model.specs.Quotients.{arcsOutOf, metGroups, renumbered, stateOf, statesOf}
-use Rattle.model.proofs.Tests.{Tells, tells-and, tells-by, tells-eqb, eq-dec}
+use Rattle.model.proofs.Tests.{Tells, tells-and, tells-by, tells-eqb, tells-itself, eq-dec}
+use Rattle.model.proofs.Places.{map-at-index}
 use Rattle.model.proofs.Notions.{Tree, Fits, Walks, Deterministic}
 use Rattle.model.proofs.Transitions.{walks-unique}
 use Rattle.model.proofs.Arcs.{arcsOutOf-in, in-arcsOutOf}
-use Rattle.model.proofs.FirstMet.{index-here, index-there, met-root, root-met, met-closed}
+use Rattle.model.proofs.FirstMet.{met-root, root-met, met-closed}
 
 -- ---- the target by a name
 
@@ -36,6 +37,7 @@ targetIn-there : (n : ℕ) (b : Arc) (arcs : List Arc) → (n ≡ b .name → �
 unfolding targetIn
 targetIn-there n b arcs other = rw (ne-eqb n (b .name) other, targetIn)
 
+-- each name has a target or none
 target : (met : List ℕ) (arcs : List Arc) (a : ℕ) → Target met arcs a
 unfolding renumbered targetIn
 target met [] a = no-group (λ y m. List·Memᴰ·not-nil m) refl
@@ -55,23 +57,8 @@ target met (b ∷ arcs) a = go (eq-dec a (b .name)) (target met arcs a)
 
 -- ---- the state of a group met
 
--- what a list becomes at the place of x is what x becomes
-pub map-at-index :
-    {A : Type 0} (f : ℕ → A) (d : A) (xs : List ℕ) (x : ℕ) → In x xs → getD (map f xs) (indexIn x xs) d ≡ f x
-map-at-index f d [] x m = absurd (List·Memᴰ·not-nil m)
-map-at-index {A} f d (y ∷ ys) x m = go (eq-dec x y) (map-at-index f d ys x) (List·Memᴰ·cases-cons m)
-  where
-    at : ℕ → A
-    at i = getD (map f (y ∷ ys)) i d
-
-    go :
-        (x ≡ y) ⊎ (x ≡ y → ⊥) → (In x ys → getD (map f ys) (indexIn x ys) d ≡ f x) → (x ≡ y) ⊎ In x ys →
-        getD (map f (y ∷ ys)) (indexIn x (y ∷ ys)) d ≡ f x
-    go (inl e) again n = ap at (index-here x y ys e) ∙ ap f (sym e)
-    go (inr no-head) again (inl e) = absurd (no-head e)
-    go (inr no-head) again (inr n) = ap at (index-there x y ys no-head) ∙ again n
-
 module _ (rows nodes : List Word) (groups : List ℕ) where
+  -- the state of a group met stands at its place
   pub state-of-met :
       (g : ℕ) → In g (metGroups nodes groups) →
       getD (statesOf rows nodes groups) (indexIn g (metGroups nodes groups)) no-state
@@ -80,6 +67,7 @@ module _ (rows nodes : List Word) (groups : List ℕ) where
   state-of-met g m =
       map-at-index (stateOf rows nodes groups (metGroups nodes groups)) no-state (metGroups nodes groups) g m
 
+  -- its target by a name is that among the renumbered arcs of the group
   target-of-met :
       (g a : ℕ) → In g (metGroups nodes groups) →
       targetIn a (getD (statesOf rows nodes groups) (indexIn g (metGroups nodes groups)) no-state .arcs)
@@ -104,10 +92,12 @@ module _ (states : List State) (q n x : ℕ) (xs : List ℕ) where
   abbrev onward : ℕ → Walk
   onward t = elim (eqb t 0) [ true ↦ walk-at q n | false ↦ walkFrom states (t - 1) (suc n) xs ]
 
+  -- no target: the walk stops here
   walk-stops : targetIn x (getD states q no-state .arcs) ≡ 0 → walkFrom states q n (x ∷ xs) ≡ walk-at q n
   unfolding walkFrom
   walk-stops e = ap onward e
 
+  -- a target: the walk goes on from there, one name further
   walk-goes :
       (k : ℕ) → targetIn x (getD states q no-state .arcs) ≡ suc k →
       walkFrom states q n (x ∷ xs) ≡ walkFrom states k (suc n) xs
@@ -130,6 +120,7 @@ pub data Walked (ts : List Transition) (states : List State) (met : List ℕ) (g
 module _
     (rows nodes : List Word) (groups : List ℕ) (tree : Tree nodes) (fits : Fits nodes groups)
     (det : Deterministic (transitionsOf nodes groups)) where
+  -- each walk from a group met is one of the two
   walked :
       (r : Word) (g n : ℕ) → In g (metGroups nodes groups) →
       Walked (transitionsOf nodes groups) (statesOf rows nodes groups) (metGroups nodes groups) g n r
@@ -179,6 +170,7 @@ module _
 abbrev admitsBy : List State → Word → Walk → Bool
 admitsBy states r w = eqb (w .taken) (length r) && getD states (w .at-state) no-state .accepts
 
+-- admitted is what leads from the root's group to an accepting one
 pub tells-admits :
     (rows nodes : List Word) (groups : List ℕ) → Tree nodes → Fits nodes groups →
     Deterministic (transitionsOf nodes groups) → (r : Word) →
@@ -206,11 +198,6 @@ tells-admits rows nodes groups tree fits det r =
     from-root : walkFrom states (indexIn root met) 0 r ≡ walkFrom states 0 0 r
     from-root = ap (λ (q : ℕ). walkFrom states q 0 r) (met-root nodes groups tree fits)
 
-    accepts-told :
-        Tells (getD states (walkFrom states 0 0 r .at-state) no-state .accepts)
-        (getD states (walkFrom states 0 0 r .at-state) no-state .accepts ≡ true)
-    accepts-told = record { fact = λ e. e; test = λ e. e }
-
     go : Walked ts states met root 0 r → Tells (admitsBy states r (walkFrom states 0 0 r)) Goes
     go (all-taken y w m e) =
         let all : 0 + length r ≡ length r = omega arith in
@@ -226,6 +213,7 @@ tells-admits rows nodes groups tree fits det r =
     go (stopped none few) =
         let fewer : walkFrom states 0 0 r .taken < 0 + length r = subst (λ (v : Walk). v .taken < 0 + length r) from-root few in
         tells-by
-        (tells-and (tells-eqb (walkFrom states 0 0 r .taken) (length r)) accepts-told)
+        (tells-and (tells-eqb (walkFrom states 0 0 r .taken) (length r))
+        (tells-itself (getD states (walkFrom states 0 0 r .at-state) no-state .accepts)))
         (λ both. let taken : walkFrom states 0 0 r .taken ≡ length r = both .0 in let z : ⊥ = omega arith in absurd z)
         (λ h. absurd (none (h .0) (h .1)))

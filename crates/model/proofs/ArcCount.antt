@@ -2,8 +2,7 @@
 -- nodes. Assumes nothing.
 use mathlib.Core.Path.{_≡_, refl, sym, ap₂}
 use mathlib.Core.Bool.{Bool, true, false, cond}
-use mathlib.Core.List.{List, [], _∷_, map, List·Memᴰ as In, List·Memᴰ·head as here, List·Memᴰ·tail as there}
-use mathlib.Core.List.{Memᴰ·cast}
+use mathlib.Core.List.{List, [], _∷_, map, List·Memᴰ as In, List·Memᴰ·head as here, List·Memᴰ·tail as there, Memᴰ·cast}
 use Prim.Native.Nat.{ℕ, suc, _+_, _≤_}
 use native.Mathlib.Omega.{arith}
 use lib.Dec.{eqb, ltb}
@@ -22,6 +21,7 @@ outCount : List Transition → List ℕ → ℕ
 outCount ts [] = 0
 outCount ts (g ∷ gs) = length (arcsOutOf g ts) + outCount ts gs
 
+-- an arc put among others makes at most one more
 putArc-length : (n to : ℕ) (arcs : List Arc) → length (putArc n to arcs) ≤ suc (length arcs)
 unfolding putArc
 putArc-length n to [] = omega arith
@@ -43,7 +43,9 @@ outCount-none [] = refl
 outCount-none (g ∷ gs) = let rest : outCount [] gs ≡ 0 = outCount-none gs in omega arith
 
 -- a transition out of none of the groups is not counted
-outCount-other : (t : Transition) (ts : List Transition) (gs : List ℕ) → (In (t .from) gs → ⊥) → outCount (t ∷ ts) gs ≡ outCount ts gs
+outCount-other :
+    (t : Transition) (ts : List Transition) (gs : List ℕ) → (In (t .from) gs → ⊥) →
+    outCount (t ∷ ts) gs ≡ outCount ts gs
 unfolding outCount arcsOutOf
 outCount-other t ts [] out = refl
 outCount-other t ts (g ∷ gs) out =
@@ -67,6 +69,7 @@ outCount-more t ts (g ∷ gs) d = go (eqb (t .from) g) refl (outCount-more t ts 
         omega arith
     go false e h = omega arith
 
+-- so different groups have together no more arcs than there are transitions
 outCount-few : (ts : List Transition) (gs : List ℕ) → Distinct gs → outCount ts gs ≤ length ts
 outCount-few [] gs d = let none : outCount [] gs ≡ 0 = outCount-none gs in omega arith
 outCount-few (t ∷ ts) gs d =
@@ -74,6 +77,7 @@ outCount-few (t ∷ ts) gs d =
     let more : outCount (t ∷ ts) gs ≤ suc (outCount ts gs) = outCount-more t ts gs d in
     omega arith
 
+-- of which each node has at most one
 transitions-few : (nodes : List Word) (groups : List ℕ) (ws : List Word) → length (transitionsInto nodes groups ws) ≤ length ws
 unfolding transitionsInto
 transitions-few nodes groups [] = omega arith
@@ -84,6 +88,7 @@ transitions-few nodes groups ((x ∷ w) ∷ ws) =
     let rest : length (transitionsInto nodes groups ws) ≤ length ws = transitions-few nodes groups ws in
     omega arith
 
+-- the arcs of the states are the arcs out of their groups
 arcCount-states :
     (rows nodes : List Word) (groups met gs : List ℕ) →
     arcCount (map (stateOf rows nodes groups met) gs) ≡ outCount (transitionsOf nodes groups) gs

@@ -1,5 +1,5 @@
--- The arcs out of a group: exactly the automaton's, in strictly ascending names. First one arc put among others, then all
--- arcs of a group, then that ascending arcs are known by their elements. Assumes nothing.
+-- The arcs out of a group: exactly the automaton's, in strictly ascending names. First what ascending names tell of an arc,
+-- then one arc put among others, then all arcs of a group. Assumes nothing.
 use mathlib.Core.Path.{_≡_, refl, sym, ap, ap₂, _∙_, subst}
 use mathlib.Core.Logic.{_⊎_, inl, inr, ⊎-elim}
 use mathlib.Core.Bool.{Bool, true, false, cond, false≢true}
@@ -19,6 +19,7 @@ abbrev pub Ascending : ℕ → List Arc → Type 0
 Ascending next [] = Unit {0}
 Ascending next (a ∷ arcs) = (next ≤ a .name) × Ascending (suc (a .name)) arcs
 
+-- no name is below where they begin
 pub ascending-low : (next : ℕ) (arcs : List Arc) (z : Arc) → Ascending next arcs → In z arcs → next ≤ z .name
 ascending-low next [] z p m = absurd (List·Memᴰ·not-nil m)
 ascending-low next (a ∷ arcs) z p m = go (ascending-low (suc (a .name)) arcs z (p .1)) (List·Memᴰ·cases-cons m)
@@ -30,8 +31,20 @@ ascending-low next (a ∷ arcs) z p m = go (ascending-low (suc (a .name)) arcs z
         let first : next ≤ a .name = p .0 in
         omega arith
 
+-- an arc with a name above the first one's stands after it
+pub after-first : (x : Arc) (arcs : List Arc) (z : Arc) → suc (x .name) ≤ z .name → In z (x ∷ arcs) → In z arcs
+after-first x arcs z above m = go (List·Memᴰ·cases-cons m)
+  where
+    go : (z ≡ x) ⊎ In z arcs → In z arcs
+    go (inl e) =
+        let same : z .name ≡ x .name = ap (λ (y : Arc). y .name) e in
+        let no : ⊥ = omega arith in
+        absurd no
+    go (inr n) = n
+
 -- ---- one arc put among others
 
+-- names still ascend
 putArc-ascending :
     (n to next : ℕ) (arcs : List Arc) → Ascending next arcs → next ≤ n → Ascending next (putArc n to arcs)
 unfolding putArc
@@ -51,6 +64,7 @@ putArc-ascending n to next (a ∷ arcs) p h =
         let other : n ≡ a .name → ⊥ = eqb-false n (a .name) e in
         (p .0, again (omega arith))
 
+-- what is there is the new arc, or was there
 putArc-in : (n to : ℕ) (arcs : List Arc) (z : Arc) → In z (putArc n to arcs) → (z ≡ arc n to) ⊎ In z arcs
 unfolding putArc
 putArc-in n to [] z m = inl (List·Memᴰ·eq-of-singleton m)
@@ -99,6 +113,7 @@ new-in-putArc n to (a ∷ arcs) only =
 
 -- ---- the arcs out of a group
 
+-- the arcs out of a group ascend
 pub arcsOutOf-ascending : (g : ℕ) (ts : List Transition) → Ascending 0 (arcsOutOf g ts)
 unfolding arcsOutOf
 arcsOutOf-ascending g [] = tt
@@ -110,6 +125,7 @@ arcsOutOf-ascending g (t ∷ ts) = go (eqb (t .from) g) (arcsOutOf-ascending g t
     go true again = putArc-ascending (t .name) (t .to) 0 (arcsOutOf g ts) again (omega arith)
     go false again = again
 
+-- every arc out of a group is the automaton's, and none is missing where it is deterministic
 pub arcsOutOf-in : (g a y : ℕ) (ts : List Transition) → In (arc a y) (arcsOutOf g ts) → In (transition g a y) ts
 unfolding arcsOutOf
 arcsOutOf-in g a y [] m = absurd (List·Memᴰ·not-nil m)
@@ -149,45 +165,3 @@ in-arcsOutOf g a y (t ∷ ts) det m =
     go false e again (inl p) =
         absurd (false≢true (sym e ∙ eq-eqb (t .from) g (sym (ap (λ (z : Transition). z .from) p))))
     go false e again (inr q) = again q
-
--- ---- ascending arcs by their elements
-
--- of two lists that hold one another's elements, the first elements are one
-heads-equal :
-    (next : ℕ) (x y : Arc) (xs ys : List Arc) → Ascending next (x ∷ xs) → Ascending next (y ∷ ys) →
-    (x ≡ y) ⊎ In x ys → (y ≡ x) ⊎ In y xs → x ≡ y
-heads-equal next x y xs ys p q (inl e) n = e
-heads-equal next x y xs ys p q (inr m) (inl e) = sym e
-heads-equal next x y xs ys p q (inr m) (inr n) =
-    let over : suc (y .name) ≤ x .name = ascending-low (suc (y .name)) ys x (q .1) m in
-    let under : suc (x .name) ≤ y .name = ascending-low (suc (x .name)) xs y (p .1) n in
-    let z : ⊥ = omega arith in
-    absurd z
-
--- what the second list holds of the first one's later elements stands after its head
-tail-in :
-    (next : ℕ) (x y : Arc) (xs ys : List Arc) → Ascending next (x ∷ xs) → x ≡ y → ((a : Arc) → In a (x ∷ xs) → In a (y ∷ ys)) →
-    (a : Arc) → In a xs → In a ys
-tail-in next x y xs ys p e f a m = go (List·Memᴰ·cases-cons (f a (there m)))
-  where
-    go : (a ≡ y) ⊎ In a ys → In a ys
-    go (inl i) =
-        let over : suc (x .name) ≤ a .name = ascending-low (suc (x .name)) xs a (p .1) m in
-        let name : a .name ≡ x .name = ap (λ (z : Arc). z .name) (i ∙ sym e) in
-        let z : ⊥ = omega arith in
-        absurd z
-    go (inr n) = n
-
--- ascending arcs with the same elements are the same list
-pub ascending-equal :
-    (next : ℕ) (xs ys : List Arc) → Ascending next xs → Ascending next ys → ((a : Arc) → In a xs → In a ys) →
-    ((a : Arc) → In a ys → In a xs) → xs ≡ ys
-ascending-equal next [] [] p q f g = refl
-ascending-equal next [] (y ∷ ys) p q f g = absurd (List·Memᴰ·not-nil (g y (here refl)))
-ascending-equal next (x ∷ xs) [] p q f g = absurd (List·Memᴰ·not-nil (f x (here refl)))
-ascending-equal next (x ∷ xs) (y ∷ ys) p q f g =
-    let e : x ≡ y =
-    heads-equal next x y xs ys p q (List·Memᴰ·cases-cons (f x (here refl))) (List·Memᴰ·cases-cons (g y (here refl))) in
-    let q′ : Ascending (suc (x .name)) ys = subst (λ (z : Arc). Ascending (suc (z .name)) ys) (sym e) (q .1) in
-    ap₂ (λ (z : Arc) (zs : List Arc). z ∷ zs) e
-    (ascending-equal (suc (x .name)) xs ys (p .1) q′ (tail-in next x y xs ys p e f) (tail-in next y x ys xs q (sym e) g))

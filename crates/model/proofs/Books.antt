@@ -2,21 +2,21 @@
 -- numbers of its names, and at least one of them. Assumes nothing.
 use mathlib.Core.Path.{_≡_, refl, sym, subst}
 use mathlib.Core.Logic.{⊎-elim}
-use mathlib.Core.Bool.{true, false≢true}
-use mathlib.Core.List.{List, [], _∷_, _++_, append-nil, append-assoc, List·Memᴰ as In, List·Memᴰ·head as here, List·Memᴰ·tail as there}
+use mathlib.Core.Bool.{true, false≢true, and-eq-true-iff}
+use mathlib.Core.List.{List, [], _∷_, _++_, append-nil, append-assoc, List·Memᴰ as In, List·Memᴰ·head as here}
+use mathlib.Core.List.{List·Memᴰ·tail as there}
 use mathlib.Core.List.{List·Memᴰ·not-nil, List·Memᴰ·cases-cons, List·Memᴰ·append-cases, List·Memᴰ·eq-of-singleton}
 use Prim.Native.Nat.{ℕ, suc, _≤_, _<_}
 use native.Mathlib.Omega.{arith}
 use lib.Dec.{ltb, leb}
 use lib.ListN.{length, length-append}
 use Rattle.model.specs.Limits.{row-limit, state-limit, when, tree-too-large}
-use Rattle.model.specs.Fields.{File, unread, default-class, book, readFields, readWith, withField}
-use Rattle.model.specs.Fields.{classOk, allBelow}
+use Rattle.model.specs.Fields.{File, unread, default-class, book, readFields, readWith, withField, classOk, allBelow}
 use Rattle.model.specs.Joinings.{treeOf}
 use Rattle.model.specs.Calls.{bookOf, bookFault}
 use Rattle.model.specs.Claims.{Accepted}
 use Rattle.model.proofs.Tests.{Tells, tells-by, tells-and, tells-ltb}
-use Rattle.model.proofs.FieldLaws.{NameFits, RowFits, Fitting, a-name, a-class, a-row, a-state, fitting, first-of, both}
+use Rattle.model.proofs.FieldLaws.{NameFits, RowFits, Fitting, a-name, a-class, a-row, a-state, fitting, first-of}
 use Rattle.model.proofs.FieldLaws.{ClassOk, class-parts}
 use Rattle.model.proofs.Turns.{read-keeps}
 
@@ -25,6 +25,7 @@ abbrev pub NamesOk : List (List ℕ) → List (List ℕ) → Type 0
 NamesOk names [] = Unit {0}
 NamesOk names (n ∷ more) = NameFits names n × NamesOk (names ++ (n ∷ [])) more
 
+-- one name more at the end
 names-ok-more :
     (names more : List (List ℕ)) (body : List ℕ) → NamesOk names more → NameFits (names ++ more) body →
     NamesOk names (more ++ (body ∷ []))
@@ -53,6 +54,7 @@ pub record BookOk (f : File) : Type 0 where
   pub some-row : 3 ≤ f .stage → 1 ≤ length (f .items)
   pub rows-below : (r : List ℕ) → In r (f .items) → allBelow (length (f .names)) r ≡ true
 
+-- before the first field
 nothing-read : BookOk (unread default-class)
 nothing-read =
     record {
@@ -64,6 +66,7 @@ nothing-read =
       rows-below = λ r m. absurd (List·Memᴰ·not-nil m);
     }
 
+-- what is read stays sound after a name, a class, a row
 with-name : (f : File) (body : List ℕ) → f .stage ≤ 1 → NameFits (f .names) body → BookOk f → BookOk (withField f 1 body)
 unfolding withField
 with-name f body low fits ok =
@@ -89,10 +92,11 @@ with-class f body at fits ok =
     }
 
 with-row :
-    (f : File) (body : List ℕ) → 1 ≤ f .stage → RowFits (length (f .names)) (f .items) body → BookOk f → BookOk (withField f 3 body)
+    (f : File) (body : List ℕ) → 1 ≤ f .stage → RowFits (length (f .names)) (f .items) body → BookOk f →
+    BookOk (withField f 3 body)
 unfolding withField
 with-row f body high fits ok =
-    let below = both (leb (length body) row-limit) (allBelow (length (f .names)) body) (fits .row-ok) .1 in
+    let below = and-eq-true-iff (leb (length body) row-limit) (allBelow (length (f .names)) body) .0 (fits .row-ok) .1 in
     record {
       names-ok = ok .names-ok;
       named = λ h. ok .named high;
@@ -105,16 +109,21 @@ with-row f body high fits ok =
           (List·Memᴰ·append-cases (f .items) m);
     }
 
+-- so it does after any field without a fault
 book-step : (f : File) (mark : ℕ) (body : List ℕ) → Fitting book f mark body → BookOk f → BookOk (withField f mark body)
-book-step f mark body (a-name e low fits) ok = subst (λ (m : ℕ). BookOk (withField f m body)) (sym e) (with-name f body low fits ok)
-book-step f mark body (a-class e at fits) ok = subst (λ (m : ℕ). BookOk (withField f m body)) (sym e) (with-class f body at fits ok)
-book-step f mark body (a-row k e high fits) ok = subst (λ (m : ℕ). BookOk (withField f m body)) (sym e) (with-row f body high fits ok)
+book-step f mark body (a-name e low fits) ok =
+    subst (λ (m : ℕ). BookOk (withField f m body)) (sym e) (with-name f body low fits ok)
+book-step f mark body (a-class e at fits) ok =
+    subst (λ (m : ℕ). BookOk (withField f m body)) (sym e) (with-class f body at fits ok)
+book-step f mark body (a-row k e high fits) ok =
+    subst (λ (m : ℕ). BookOk (withField f m body)) (sym e) (with-row f body high fits ok)
 book-step f mark body (a-state k e high fits) ok = absurd (false≢true k)
 
 -- an accepted book is read to the end, and is sound
 pub accepted-book : (s : List ℕ) → Accepted s → (bookOf s .stage ≡ 3) × BookOk (bookOf s)
 unfolding bookOf bookFault readWith
 accepted-book s ok =
-    read-keeps book (λ f rest. BookOk f) (λ f mark a b body rest size fit h. book-step f mark body (fitting book f mark body fit) h)
+    read-keeps book (λ f rest. BookOk f)
+    (λ f mark a b body rest size fit h. book-step f mark body (fitting book f mark body fit) h)
     (suc (length s)) (unread default-class) s nothing-read
     (first-of (readFields book s .number) (when (ltb state-limit (length (treeOf (bookOf s .items)))) tree-too-large) ok .0)

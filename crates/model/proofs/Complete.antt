@@ -10,13 +10,13 @@ use Rattle.model.specs.Classes.{Word, fOf}
 use Rattle.model.specs.Joinings.{transition, transitionsOf, groupAt, memberOf, fOfGroup, isFull}
 use Rattle.model.proofs.Notions.{Tree, Fits, Walks, Ways, OneContext, Closed, Inside, Ker, SameF, Deterministic, _▸_}
 use Rattle.model.proofs.Groups.{group-in, member-of, tells-accepts}
-use Rattle.model.proofs.Transitions.{in-transitions}
+use Rattle.model.proofs.Transitions.{in-transitions, target-in}
 use Rattle.model.proofs.Rules.{Ruled, forked, by-context, by-ends, by-back, TwoPaths, full-equal}
-use Rattle.model.proofs.Sound.{arc-node}
 
 -- an arc of a related node leaves the node's own group
 arc-from :
-    (nodes : List Word) (groups : List ℕ) (u v : Word) (a : ℕ) → groupAt nodes groups u ≡ groupAt nodes groups v → In (v ▸ a) nodes →
+    (nodes : List Word) (groups : List ℕ) (u v : Word) (a : ℕ) →
+    groupAt nodes groups u ≡ groupAt nodes groups v → In (v ▸ a) nodes →
     In (transition (groupAt nodes groups u) a (groupAt nodes groups (v ▸ a))) (transitionsOf nodes groups)
 arc-from nodes groups u v a e m =
     subst (λ (g : ℕ). In (transition g a (groupAt nodes groups (v ▸ a))) (transitionsOf nodes groups)) (sym e)
@@ -29,7 +29,8 @@ pub ways-walks :
 ways-walks nodes groups [] u w f = f .one-group
 ways-walks nodes groups (a ∷ p) u w f =
     let v = f .0 in
-    (groupAt nodes groups (v ▸ a), arc-from nodes groups u v a (f .2 .one-group) (f .3), ways-walks nodes groups p (v ▸ a) w (f .4))
+    let first = arc-from nodes groups u v a (f .2 .one-group) (f .3) in
+    (groupAt nodes groups (v ▸ a), first, ways-walks nodes groups p (v ▸ a) w (f .4))
 
 -- members of a group agree with its f
 pub group-f :
@@ -41,16 +42,13 @@ group-f c nodes groups tree fits agree u m =
     let r = member-of nodes groups g (tree .distinct) fits (group-in nodes groups u fits m) in
     agree .related (memberOf nodes groups g) u (r .0) m (r .1) .same-f
 
+-- in a full joining no two arcs of one name leave one group
 pub full-deterministic :
     (c : Class) (rows nodes : List Word) (groups : List ℕ) → Tree nodes → Fits nodes groups →
     isFull c rows nodes groups ≡ true → Deterministic (transitionsOf nodes groups)
 full-deterministic c rows nodes groups tree fits full x a y z m n =
-    full-equal c rows nodes groups full y z (entered y m) (entered z n) (forked x a m n)
-  where
-    entered : (g : ℕ) → In (transition x a g) (transitionsOf nodes groups) → In g groups
-    entered g k =
-        let r = arc-node nodes groups tree x a g k in
-        subst (λ (h : ℕ). In h groups) (r .4) (group-in nodes groups (r .0 ▸ a) fits (r .2))
+    full-equal c rows nodes groups full y z (target-in nodes groups fits x a y m) (target-in nodes groups fits x a z n)
+    (forked x a m n)
 
 module _ (c : Class) (rows nodes : List Word) (groups : List ℕ) (fits : Fits nodes groups)
     (full : isFull c rows nodes groups ≡ true) where
@@ -67,6 +65,7 @@ module _ (c : Class) (rows nodes : List Word) (groups : List ℕ) (fits : Fits n
             (group-in nodes groups w fits n) r;
       }
 
+  -- the rules one by one: forks, contexts, and by f ends and ways back
   ker-fork :
       (u w : Word) (a : ℕ) → Ker nodes groups u w → In (u ▸ a) nodes → In (w ▸ a) nodes → Ker nodes groups (u ▸ a) (w ▸ a)
   ker-fork u w a k m n =
@@ -75,7 +74,9 @@ module _ (c : Class) (rows nodes : List Word) (groups : List ℕ) (fits : Fits n
 
   ker-context : eqb (c .kind) 0 ≡ true → (u w : Word) → OneContext c nodes (Ker nodes groups) u w → Ker nodes groups u w
   ker-context kind u w one =
-      let two : TwoPaths (c .first) (c .second) (transitionsOf nodes groups) groups (groupAt nodes groups u) (groupAt nodes groups w) =
+      let x = groupAt nodes groups u in
+      let y = groupAt nodes groups w in
+      let two : TwoPaths (c .first) (c .second) (transitionsOf nodes groups) groups x y =
       record {
         p = one .p;
         q = one .q;
@@ -114,6 +115,7 @@ module _ (c : Class) (rows nodes : List Word) (groups : List ℕ) (fits : Fits n
         ruled-ker u w m n
         (by-back kind groups-f a (groupAt nodes groups (r ▸ a)) (arc-from nodes groups u r a (ur .one-group) k) arc-w)
 
+-- so the kernel of a full joining is closed
 pub ker-closed :
     (c : Class) (rows nodes : List Word) (groups : List ℕ) → Tree nodes → Fits nodes groups →
     isFull c rows nodes groups ≡ true → (eqb (c .kind) 0 ≡ false → Inside nodes groups (SameF c)) →

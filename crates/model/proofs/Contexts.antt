@@ -1,4 +1,5 @@
--- The context rule as a fact: two paths with the same names through the two groups. Assumes nothing.
+-- The context rule as a fact: two paths with the same names through the two groups. First that routes are such paths and such
+-- paths routes, then what `byContext` tells, then that the order of the groups does not matter. Assumes nothing.
 use mathlib.Core.Path.{_≡_, sym, ap, _∙_, subst, subst₂}
 use mathlib.Core.List.{List, _++_, flatMap, List·Memᴰ as In}
 use Prim.Native.Nat.{ℕ, _+_, _≤_}
@@ -80,8 +81,10 @@ two-routes :
 two-routes k h ts groups x y f = (
   by-x .0,
   by-y .0,
-  in-flatMap (routesFrom ts k) groups (f .from-x-in) (subst (λ (n : ℕ). In (by-x .0) (routesFrom ts n (f .from-x))) long (by-x .1)),
-  in-flatMap (routesFrom ts k) groups (f .from-y-in) (subst (λ (n : ℕ). In (by-y .0) (routesFrom ts n (f .from-y))) long (by-y .1)),
+  in-flatMap (routesFrom ts k) groups (f .from-x-in)
+      (subst (λ (n : ℕ). In (by-x .0) (routesFrom ts n (f .from-x))) long (by-x .1)),
+  in-flatMap (routesFrom ts k) groups (f .from-y-in)
+      (subst (λ (n : ℕ). In (by-y .0) (routesFrom ts n (f .from-y))) long (by-y .1)),
   (by-x .2 ∙ sym (by-y .2), (length (f .p), f .low, omega (arith, f .size), by-x .3, by-y .3)),
 )
   where
@@ -101,7 +104,8 @@ pub tells-context :
 unfolding byContext
 tells-context k h ts groups x y =
     tells-by
-    (tells-anyTwo (λ r s. tells-and (tells-same (r .names) (s .names)) (tells-afterSameArc k h x y r s)) (flatMap (routesFrom ts k) groups))
+    (tells-anyTwo (λ r s. tells-and (tells-same (r .names) (s .names)) (tells-afterSameArc k h x y r s))
+    (flatMap (routesFrom ts k) groups))
     (λ f. two-paths k h ts groups x y (f .0) (f .1) (f .2) (f .3) (f .4 .0) (f .4 .1 .0) (f .4 .1 .1)
     (f .4 .1 .2) (f .4 .1 .3) (f .4 .1 .4))
     (λ f. two-routes k h ts groups x y f)

@@ -1,59 +1,51 @@
--- Demand 3, whole, and that tables read back as written and are rewritten to the same bytes: `demands`. Assumes nothing.
+-- All that is claimed: `demands`. First what an accepted book and two like books give, then demand 3, whole, then that tables
+-- read back as they were written and are rewritten to the same bytes. Assumes nothing.
 use mathlib.Core.Path.{_≡_, refl, sym, ap, _∙_, subst}
-use mathlib.Core.Logic.{_↔_, ⊎-elim}
-use mathlib.Core.Bool.{Bool, true, false, _||_, not, false≢true}
-use mathlib.Core.List.{List, [], _∷_, _++_, map, append-assoc, List·Memᴰ as In, List·Memᴰ·head as here, Memᴰ·append-left, Memᴰ·append-right}
-use Prim.Native.Nat.{ℕ, zero, suc, _≤_, _<_}
+use mathlib.Core.Logic.{_↔_}
+use mathlib.Core.Bool.{Bool, true, _||_}
+use mathlib.Core.List.{List, _++_, map, List·Memᴰ as In, List·Memᴰ·head as here, Memᴰ·append-left, Memᴰ·append-right}
+use Prim.Native.Nat.{ℕ, _≤_, _<_}
 use native.Mathlib.Omega.{arith}
-use lib.Dec.{eqb, ltb}
+use lib.Dec.{ltb}
 use lib.ListN.{length}
 use borrow.Author.Tests.{ltb-false, le-ltb}
-use Rattle.model.specs.Limits.{state-limit, input-limit, work-bytes, when, firstOf}
-use Rattle.model.specs.Limits.{bad-sizes, tree-too-large, bad-numbering}
-use Rattle.model.specs.Lists.{hasRow}
+use Rattle.model.specs.Limits.{state-limit, input-limit, work-bytes, when, bad-sizes, tree-too-large}
 use Rattle.model.specs.Fields.{File, file, Class, Read, table, book, readFields, accepted-file}
-use Rattle.model.specs.Tables.{State, stateBody, statesIn, isFirstMet, tableBytes, admits}
-use Rattle.model.specs.Classes.{Word, InClass}
-use Rattle.model.specs.Joinings.{Step, treeOf, apart, transitionsOf, isFull, isFullJoining, afterSteps, joinedGroups}
+use Rattle.model.specs.Tables.{State, stateBody, statesIn, isFirstMet, tableBytes}
+use Rattle.model.specs.Classes.{Word}
+use Rattle.model.specs.Joinings.{Step, treeOf, apart, isFullJoining, afterSteps, joinedGroups}
 use Rattle.model.specs.Quotients.{statesOf, bookStates, bookTable, tableAfter}
 use Rattle.model.specs.Calls.{bookOf, bookFault, sizesFault, tableOf, tableFault, tableStates}
-use Rattle.model.specs.Claims.{Accepted, allAmong, SameBook, Admitted, Demand-3, Same-bytes, Reads-back, Demands}
-use Rattle.model.proofs.Tests.{Tells, tells-hasRow, tells-all}
-use Rattle.model.proofs.Notions.{Tree, Fits, Deterministic, _▸_}
+use Rattle.model.specs.Claims.{Accepted, allAmong, SameBook, Demand-3, Same-bytes, Reads-back, Demands}
+use Rattle.model.proofs.Tests.{tells-hasRow, tells-all, or-false}
+use Rattle.model.proofs.Notions.{_▸_}
 use Rattle.model.proofs.Trees.{treeOf-tree, node-begins-row}
 use Rattle.model.proofs.Ends.{joined-full, joined-is-full-joining}
 use Rattle.model.proofs.Joined.{Joined, joining-joined, joinedGroups-joined, joined-deterministic, joined-states}
-use Rattle.model.proofs.InTheClass.{Admits, admits-row, admits-in-class, admits-smallest}
+use Rattle.model.proofs.InTheClass.{admits-row, admits-in-class, admits-smallest}
 use Rattle.model.proofs.Writable.{Writable}
+use Rattle.model.proofs.FieldLaws.{first-of, when-none}
+use Rattle.model.proofs.StateBodies.{states-read-back}
 use Rattle.model.proofs.WritableStates.{states-writable}
-use Rattle.model.proofs.Reading.{accepted-has-row, accepted-entries, reads-written, states-read, written-length, rewrites-same}
+use Rattle.model.proofs.Reading.{accepted-has-row, accepted-entries, reads-written, written-length, rewrites-same}
 
 -- ---- what an accepted book and a like book give
 
--- the first refusal of two is none
-none-first : (a b : ℕ) → firstOf a b ≡ 0 → a ≡ 0
-none-first zero b e = refl
-none-first (suc a) b e = e
-
-none-second : (a b : ℕ) → firstOf a b ≡ 0 → b ≡ 0
-none-second zero b e = e
-none-second (suc a) b e = let z : ⊥ = omega arith in absurd z
-
-not-when : (b : Bool) (n : ℕ) → when b (suc n) ≡ 0 → b ≡ false
-not-when true n e = let z : ⊥ = omega arith in absurd z
-not-when false n e = refl
-
+-- the prefix tree of an accepted book is within its limit
 accepted-tree : (s : List ℕ) → Accepted s → length (treeOf (bookOf s .items)) ≤ state-limit
 unfolding bookFault
 accepted-tree s ok =
     let size = length (treeOf (bookOf s .items)) in
     let refusal = when (ltb state-limit size) tree-too-large in
-    ltb-false state-limit size (not-when (ltb state-limit size) 9 (none-second (readFields book s .number) refusal ok))
+    let none = first-of (readFields book s .number) refusal ok .1 in
+    ltb-false state-limit size (when-none (ltb state-limit size) tree-too-large (omega arith) none)
 
+-- rows that are all among others
 all-there : (rows others : List Word) → allAmong rows others ≡ true → (r : Word) → In r rows → In r others
 unfolding allAmong
 all-there rows others e = tells-all (λ r. tells-hasRow r others) rows .fact e
 
+-- like books have the same set of rows
 same-rows : (f g : File) → SameBook f g → (r : Word) → In r (f .items) ↔ In r (g .items)
 same-rows f g same r =
     (all-there (f .items) (g .items) (same .rows-there) r, all-there (g .items) (f .items) (same .rows-back) r)
@@ -69,7 +61,8 @@ table-any-order f g steps same full =
     let c : Class = f .class-is in
     let groups : List ℕ = afterSteps (apart (treeOf (g .items))) steps in
     let joined : Joined c (g .items) groups =
-    subst (λ (d : Class). Joined d (g .items) groups) (sym (same .class-same)) (joining-joined (g .class-is) (g .items) steps full) in
+    subst (λ (d : Class). Joined d (g .items) groups) (sym (same .class-same))
+    (joining-joined (g .class-is) (g .items) steps full) in
     let states : statesOf (g .items) (treeOf (g .items)) groups ≡ bookStates f =
     joined-states c (g .items) (f .items) groups (joinedGroups c (f .items))
     (λ r. (same-rows f g same r .1, same-rows f g same r .0)) joined (joinedGroups-joined c (f .items)) in
@@ -78,7 +71,9 @@ table-any-order f g steps same full =
     ∙ ap (λ (ns : List (List ℕ)). tableBytes ns c (bookStates f)) (sym (same .names-same))
 
 -- a book's own table is that of one of its full joinings
-table-of-joining : (f : File) → (steps : List Step) × (isFullJoining (f .class-is) (f .items) steps ≡ true) × (tableAfter f steps ≡ bookTable f)
+table-of-joining :
+    (f : File) →
+    (steps : List Step) × (isFullJoining (f .class-is) (f .items) steps ≡ true) × (tableAfter f steps ≡ bookTable f)
 unfolding tableAfter bookTable bookStates
 table-of-joining f =
     let j = joined-is-full-joining (f .class-is) (f .items) in (
@@ -87,6 +82,7 @@ table-of-joining f =
       ap (λ (gs : List ℕ). tableBytes (f .names) (f .class-is) (statesOf (f .items) (treeOf (f .items)) gs)) (j .2),
     )
 
+-- like books have one table
 table-same : (f g : File) → SameBook f g → bookTable f ≡ bookTable g
 table-same f g same =
     let j = table-of-joining g in
@@ -96,6 +92,7 @@ table-same f g same =
 joined : (f : File) → Joined (f .class-is) (f .items) (joinedGroups (f .class-is) (f .items))
 joined f = joinedGroups-joined (f .class-is) (f .items)
 
+-- demand 3, part by part
 pub demand-3 : Demand-3
 unfolding bookStates
 demand-3 =
@@ -128,12 +125,15 @@ book-writable s ok =
     states-writable (f .items) (treeOf (f .items)) groups (length (f .names)) (treeOf-tree (f .items)) (joined f .fits)
     (joined-deterministic (f .class-is) (f .items) groups (joined f)) (accepted-tree s ok) (name-below s ok)
   where
-    name-below : (s : List ℕ) → Accepted s → (w : Word) (a : ℕ) → In (w ▸ a) (treeOf (bookOf s .items)) → a < length (bookOf s .names)
+    name-below :
+        (s : List ℕ) → Accepted s → (w : Word) (a : ℕ) → In (w ▸ a) (treeOf (bookOf s .items)) →
+        a < length (bookOf s .names)
     name-below s ok w a m =
         let first-row = accepted-has-row s ok in
         let b = node-begins-row (bookOf s .items) (first-row .0) (first-row .1) (w ▸ a) m in
         accepted-entries s ok ((w ▸ a) ++ b .0) (b .1) a (Memᴰ·append-left (b .0) (Memᴰ·append-right w (here refl)))
 
+-- the table of a book is read back: its names, its class and its states
 read-table :
     (s : List ℕ) → Accepted s →
     readFields table (bookTable (bookOf s))
@@ -141,35 +141,36 @@ read-table :
 unfolding bookTable
 read-table s ok = reads-written s (bookStates (bookOf s)) ok (book-writable s ok)
 
+-- and its states are the book's
 read-states : (s : List ℕ) → Accepted s → tableStates (bookTable (bookOf s)) ≡ bookStates (bookOf s)
 unfolding tableStates tableOf
 read-states s ok =
     ap (λ (r : Read). statesIn (r .file-is .items)) (read-table s ok)
-    ∙ states-read (length (bookOf s .names)) (bookStates (bookOf s)) (book-writable s ok)
+    ∙ states-read-back (bookStates (bookOf s))
 
+-- it is no longer than an input may be
 table-length : (s : List ℕ) → Accepted s → length (bookTable (bookOf s)) ≤ input-limit
 unfolding bookTable
 table-length s ok = written-length s (bookStates (bookOf s)) ok (book-writable s ok)
 
--- no refusal where there is no fault
-no-fault : (a b : Bool) (n : ℕ) → a ≡ false → b ≡ false → when (a || b) n ≡ 0
-no-fault a b n p q = rw (p, q)
-
+-- so it is accepted, where there is room to work
 read-no-fault : (s work : List ℕ) → Accepted s → work-bytes ≤ length work → tableFault (bookTable (bookOf s)) work ≡ 0
 unfolding tableFault sizesFault
 read-no-fault s work ok long =
     let bytes : List ℕ = bookTable (bookOf s) in
     let short : length bytes ≤ input-limit = table-length s ok in
     let sizes : when (ltb input-limit (length bytes) || ltb (length work) work-bytes) bad-sizes ≡ 0 =
-    no-fault (ltb input-limit (length bytes)) (ltb (length work) work-bytes) bad-sizes
-    (le-ltb input-limit (length bytes) short) (le-ltb (length work) work-bytes long) in
+    ap (λ (t : Bool). when t bad-sizes)
+    (or-false (le-ltb input-limit (length bytes) short) (le-ltb (length work) work-bytes long)) in
     let number : readFields table bytes .number ≡ 0 = ap (λ (r : Read). r .number) (read-table s ok) in
     let numbered : isFirstMet (tableStates bytes) ≡ true = ap isFirstMet (read-states s ok) ∙ book-writable s ok .first-met in
     rw (sizes, number, numbered)
 
+-- tables read back as they were written
 pub reads-back : Reads-back
 reads-back = record { accepted-again = read-no-fault; same-states = read-states }
 
+-- an accepted table is rewritten to the same bytes
 pub same-bytes : Same-bytes
 same-bytes = record { rewrites = rewrites-same }
 

@@ -24,29 +24,37 @@ module _ (c : Class) (rows nodes : List Word) where
     leads : afterSteps groups steps ≡ result
     full : isFull c rows nodes result ≡ true
 
+  -- where no step is open the joining is full
   none-full : (groups : List ℕ) → openSteps c rows nodes groups ≡ [] → isFull c rows nodes groups ≡ true
   unfolding isFull
   none-full groups e = ap (λ (l : List Step). eqb (length l) 0) e
 
   -- without groups nothing is open
-  no-groups : (groups : List ℕ) → length (groupsIn groups) ≤ 0 → openSteps c rows nodes groups ≡ []
+  nothing-open : (groups : List ℕ) → length (groupsIn groups) ≤ 0 → openSteps c rows nodes groups ≡ []
   unfolding openSteps stepsBetween filterBy flatMap
-  no-groups groups few = go (groupsIn groups) few
+  nothing-open groups few = go (groupsIn groups) few
     where
       go : (gs : List ℕ) → length gs ≤ 0 → filterBy (isOpen c rows nodes groups) (stepsBetween gs gs) ≡ []
       go [] h = refl
       go (g ∷ gs) h = let z : ⊥ = omega arith in absurd z
 
+  -- no step more
   joins-none : (groups : List ℕ) → openSteps c rows nodes groups ≡ [] → Joins groups groups
   unfolding allOpen afterSteps
   joins-none groups e = record { steps = []; open-steps = refl; leads = refl; full = none-full groups e }
 
+  -- one open step more
   joins-step :
       (groups : List ℕ) (s : Step) (result : List ℕ) → isOpen c rows nodes groups s ≡ true →
       Joins (merged (s .left) (s .right) groups) result → Joins groups result
   unfolding allOpen afterSteps
   joins-step groups s result o j =
-      record { steps = s ∷ j .steps; open-steps = ap₂ (λ (x y : Bool). x && y) o (j .open-steps); leads = j .leads; full = j .full }
+      record {
+        steps = s ∷ j .steps;
+        open-steps = ap₂ (λ (x y : Bool). x && y) o (j .open-steps);
+        leads = j .leads;
+        full = j .full;
+      }
 
   -- an open step leaves fewer groups
   open-fewer :
@@ -56,6 +64,7 @@ module _ (c : Class) (rows nodes : List Word) where
       let f = tells-open c rows nodes groups (s .left) (s .right) .fact o in
       merged-fewer groups (s .left) (s .right) (f .left-in) (f .right-in) (f .different)
 
+  -- the first of the open steps is open
   first-open :
       (groups : List ℕ) (s : Step) (rest : List Step) → openSteps c rows nodes groups ≡ s ∷ rest →
       isOpen c rows nodes groups s ≡ true
@@ -64,9 +73,10 @@ module _ (c : Class) (rows nodes : List Word) where
       filterBy-in (isOpen c rows nodes groups) (stepsBetween (groupsIn groups) (groupsIn groups))
       (subst (λ (l : List Step). In s l) (sym e) (here refl)) .1
 
+  -- with as many steps as there are groups, joining comes to its end
   joinFrom-joins : (n : ℕ) (groups : List ℕ) → length (groupsIn groups) ≤ n → Joins groups (joinFrom n c rows nodes groups)
   unfolding joinFrom
-  joinFrom-joins zero groups enough = joins-none groups (no-groups groups enough)
+  joinFrom-joins zero groups enough = joins-none groups (nothing-open groups enough)
   joinFrom-joins (suc n) groups enough =
       go (openSteps c rows nodes groups) refl (λ gs few. joinFrom-joins n gs few)
     where
@@ -85,15 +95,6 @@ module _ (c : Class) (rows nodes : List Word) where
           let fewer : length (groupsIn after) < length (groupsIn groups) = open-fewer groups s o in
           joins-step groups s (joinFrom n c rows nodes after) o (again after (omega arith))
 
--- joining from any groups, with enough steps: each step is open, the end is full
-pub joinFrom-ends :
-    (n : ℕ) (c : Class) (rows nodes : List Word) (groups : List ℕ) → length (groupsIn groups) ≤ n →
-    (steps : List Step) × (allOpen c rows nodes groups steps ≡ true) × (afterSteps groups steps ≡ joinFrom n c rows nodes groups)
-    × (isFull c rows nodes (joinFrom n c rows nodes groups) ≡ true)
-joinFrom-ends n c rows nodes groups enough =
-    let j = joinFrom-joins c rows nodes n groups enough in
-    (j .steps, j .open-steps, j .leads, j .full)
-
 -- the prefix tree has no more groups than states, so the steps suffice
 joined-joins : (c : Class) (rows : List Word) → Joins c rows (treeOf rows) (apart (treeOf rows)) (joinedGroups c rows)
 unfolding joinedGroups
@@ -102,6 +103,7 @@ joined-joins c rows =
     let size : length (apart (treeOf rows)) ≡ length (treeOf rows) = apart-fits (treeOf rows) .lengths in
     joinFrom-joins c rows (treeOf rows) (length (treeOf rows)) (apart (treeOf rows)) (omega arith)
 
+-- the groups that define the table come of a full joining
 pub joined-is-full-joining :
     (c : Class) (rows : List Word) →
     (steps : List Step) × (isFullJoining c rows steps ≡ true) × (afterSteps (apart (treeOf rows)) steps ≡ joinedGroups c rows)
@@ -113,5 +115,6 @@ joined-is-full-joining c rows =
       j .leads,
     )
 
+-- and nothing is open in them
 pub joined-full : (c : Class) (rows : List Word) → isFull c rows (treeOf rows) (joinedGroups c rows) ≡ true
 joined-full c rows = joined-joins c rows .full

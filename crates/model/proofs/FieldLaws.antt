@@ -2,7 +2,7 @@
 -- round. Assumes nothing.
 use mathlib.Core.Path.{_≡_, refl, ap, subst}
 use mathlib.Core.Logic.{_⊎_, inl, inr, ⊎-elim}
-use mathlib.Core.Bool.{Bool, true, false, _&&_, not, false≢true}
+use mathlib.Core.Bool.{Bool, true, false, not, and-eq-true-iff}
 use mathlib.Core.List.{List}
 use Prim.Native.Nat.{ℕ, zero, suc, _≤_, _<_}
 use native.Mathlib.Omega.{arith}
@@ -20,20 +20,22 @@ pub first-of : (a b : ℕ) → firstOf a b ≡ 0 → (a ≡ 0) × (b ≡ 0)
 first-of zero b e = (refl, e)
 first-of (suc a) b e = let z : ⊥ = omega arith in absurd z
 
-pub both : (a b : Bool) → (a && b) ≡ true → (a ≡ true) × (b ≡ true)
-both true b e = (refl, e)
-both false b e = absurd (false≢true e)
+-- no refusal by a number that is one: its test is false
+pub when-none : (t : Bool) (n : ℕ) → 1 ≤ n → when t n ≡ 0 → t ≡ false
+when-none true n some e = let z : ⊥ = omega arith in absurd z
+when-none false n some e = refl
 
-when-not : (t : Bool) (n : ℕ) → when (not t) (suc n) ≡ 0 → t ≡ true
-when-not true n e = refl
-when-not false n e = let z : ⊥ = omega arith in absurd z
+when-not : (t : Bool) (n : ℕ) → 1 ≤ n → when (not t) n ≡ 0 → t ≡ true
+when-not true n some e = refl
+when-not false n some e = let z : ⊥ = omega arith in absurd z
 
-when-le : (m k n : ℕ) → when (leb m k) (suc n) ≡ 0 → k < m
-when-le m k n e = go (leb m k) refl e
-  where
-    go : (t : Bool) → leb m k ≡ t → when t (suc n) ≡ 0 → k < m
-    go true p q = let z : ⊥ = omega arith in absurd z
-    go false p q = leb-false m k p
+-- no refusal of one more of its kind: there are fewer than the limit, and its test is true
+one-more :
+    (limit count : ℕ) (fits : Bool) (bad : ℕ) → 1 ≤ bad →
+    firstOf (when (leb limit count) too-many) (when (not fits) bad) ≡ 0 → (count < limit) × (fits ≡ true)
+one-more limit count fits bad some e =
+    let p = first-of (when (leb limit count) too-many) (when (not fits) bad) e in
+    (leb-false limit count (when-none (leb limit count) too-many (omega arith) (p .0)), when-not fits bad some (p .1))
 
 -- what it takes of one more name
 pub record NameFits (names : List (List ℕ)) (body : List ℕ) : Type 0 where
@@ -51,16 +53,19 @@ pub record StateFits (n : ℕ) (items : List (List ℕ)) (body : List ℕ) : Typ
   pub few : length items < state-limit
   pub state-ok : stateOk n body ≡ true
 
+-- one kind of field after another: no fault, and what it takes
 pub name-fits : (f : File) (body : List ℕ) → nameFault f body ≡ 0 → NameFits (f .names) body
 unfolding nameFault
 name-fits f body e =
-    let p = first-of (when (not (nameOk body)) bad-name)
-    (firstOf (when (not (above (f .names) body)) name-order) (when (leb name-limit (length (f .names))) too-many)) e in
-    let q = first-of (when (not (above (f .names) body)) name-order) (when (leb name-limit (length (f .names))) too-many) (p .1) in
+    let order = when (not (above (f .names) body)) name-order in
+    let count = when (leb name-limit (length (f .names))) too-many in
+    let p = first-of (when (not (nameOk body)) bad-name) (firstOf order count) e in
+    let q = first-of order count (p .1) in
+    let few-enough = when-none (leb name-limit (length (f .names))) too-many (omega arith) (q .1) in
     record {
-      well-formed = when-not (nameOk body) 4 (p .0);
-      in-order = when-not (above (f .names) body) 5 (q .0);
-      few = when-le name-limit (length (f .names)) 6 (q .1);
+      well-formed = when-not (nameOk body) bad-name (omega arith) (p .0);
+      in-order = when-not (above (f .names) body) name-order (omega arith) (q .0);
+      few = leb-false name-limit (length (f .names)) few-enough;
     }
 
 pub fits-name : (f : File) (body : List ℕ) → NameFits (f .names) body → nameFault f body ≡ 0
@@ -69,7 +74,7 @@ fits-name f body h = rw (h .well-formed, h .in-order, lt-leb name-limit (length 
 
 pub class-fits : (body : List ℕ) → classFault body ≡ 0 → classOk body ≡ true
 unfolding classFault
-class-fits body e = when-not (classOk body) 7 e
+class-fits body e = when-not (classOk body) bad-class (omega arith) e
 
 pub fits-class : (body : List ℕ) → classOk body ≡ true → classFault body ≡ 0
 unfolding classFault
@@ -79,22 +84,23 @@ fits-class body e = ap (λ (t : Bool). when (not t) bad-class) e
 abbrev pub ClassOk : Class → Type 0
 ClassOk c = settingsOk (c .kind) (c .first) (c .second) ≡ true
 
+-- a class field has three bytes, its settings
 pub class-parts : (body : List ℕ) → classOk body ≡ true → (length body ≡ 3) × ClassOk (classFrom body)
 class-parts body ok =
-    let p = both (eqb (length body) 3) (settingsOk (getD body 0 0) (getD body 1 0) (getD body 2 0)) ok in
+    let p = and-eq-true-iff (eqb (length body) 3) (settingsOk (getD body 0 0) (getD body 1 0) (getD body 2 0)) .0 ok in
     (eqb-true (length body) 3 (p .0), p .1)
 
 pub row-fits : (f : File) (body : List ℕ) → rowFault f body ≡ 0 → RowFits (length (f .names)) (f .items) body
 unfolding rowFault
 row-fits f body e =
-    let p = first-of (when (leb book-rows (length (f .items))) too-many) (when (not (rowOk (length (f .names)) body)) bad-row) e in
-    record { few = when-le book-rows (length (f .items)) 6 (p .0); row-ok = when-not (rowOk (length (f .names)) body) 8 (p .1) }
+    let r = one-more book-rows (length (f .items)) (rowOk (length (f .names)) body) bad-row (omega arith) e in
+    record { few = r .0; row-ok = r .1 }
 
 pub state-fits : (f : File) (body : List ℕ) → stateFault f body ≡ 0 → StateFits (length (f .names)) (f .items) body
 unfolding stateFault
 state-fits f body e =
-    let p = first-of (when (leb state-limit (length (f .items))) too-many) (when (not (stateOk (length (f .names)) body)) bad-state) e in
-    record { few = when-le state-limit (length (f .items)) 6 (p .0); state-ok = when-not (stateOk (length (f .names)) body) 10 (p .1) }
+    let r = one-more state-limit (length (f .items)) (stateOk (length (f .names)) body) bad-state (omega arith) e in
+    record { few = r .0; state-ok = r .1 }
 
 pub fits-state : (f : File) (body : List ℕ) → StateFits (length (f .names)) (f .items) body → stateFault f body ≡ 0
 unfolding stateFault
@@ -121,6 +127,7 @@ may-come false stage mark e =
     (tells-or (tells-and (tells-eqb mark 2) (tells-eqb stage 1)) (tells-and (tells-eqb mark 3) (tells-leb 1 stage))) in
     ⊎-elim (λ p. inl p) (λ r. inr (⊎-elim (λ p. inl p) (λ p. inr (inr (refl, p .0, p .1))) r)) (told .fact e)
 
+-- which of the four it is
 pub fitting : (kind : FileKind) (f : File) (mark : ℕ) (body : List ℕ) → fieldFault kind f mark body ≡ 0 → Fitting kind f mark body
 unfolding fieldFault
 fitting kind f mark body e =
@@ -129,6 +136,6 @@ fitting kind f mark body e =
     let at : (m : ℕ) → mark ≡ m → rest m ≡ 0 = λ m q. subst (λ z. rest z ≡ 0) q (p .1) in
     ⊎-elim (λ q. a-name (q .0) (q .1) (name-fits f body (at 1 (q .0))))
     (λ r. ⊎-elim (λ q. a-class (q .0) (q .1) (class-fits body (at 2 (q .0))))
-    (λ r2. ⊎-elim (λ q. a-state (q .0) (q .1) (q .2) (state-fits f body (at 4 (q .1))))
-    (λ q. a-row (q .0) (q .1) (q .2) (row-fits f body (at 3 (q .1)))) r2) r)
-    (may-come kind (f .stage) mark (when-not (mayCome kind (f .stage) mark) 2 (p .0)))
+    (λ item. ⊎-elim (λ q. a-state (q .0) (q .1) (q .2) (state-fits f body (at 4 (q .1))))
+    (λ q. a-row (q .0) (q .1) (q .2) (row-fits f body (at 3 (q .1)))) item) r)
+    (may-come kind (f .stage) mark (when-not (mayCome kind (f .stage) mark) misplaced (omega arith) (p .0)))

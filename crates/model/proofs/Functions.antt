@@ -44,6 +44,7 @@ data Order (x y : ℕ) : Type 0 where
   equal : x ≡ y → Order x y
   above : y < x → Order x y
 
+-- one of the three holds
 order : (x y : ℕ) → Order x y
 order x y = go (ltb x y) refl (eqb x y) refl
   where
@@ -75,6 +76,7 @@ put-swap-lt a x (y ∷ ys) h = go (order x y) (order a y) (put-swap-lt a x ys h)
     go (above p) (above q) again =
         cc (put-above a y ys q, put-above x y (putName a ys) p, put-above x y ys p, put-above a y (putName x ys) q)
 
+-- in either order, whichever is higher
 put-swap : (a x : ℕ) (ys : List ℕ) → putName x (putName a ys) ≡ putName a (putName x ys)
 put-swap a x ys = go (order a x)
   where
@@ -83,6 +85,7 @@ put-swap a x ys = go (order a x)
     go (equal e) = cc
     go (above h) = sym (put-swap-lt x a ys h)
 
+-- the seen set of a word with one name more
 seen-snoc : (u : Word) (a : ℕ) → seenSet (u ▸ a) ≡ putName a (seenSet u)
 unfolding seenSet
 seen-snoc [] a = refl
@@ -125,10 +128,12 @@ kinds-snoc :
 kinds-snoc true j u w a e = seen-snoc u a ∙ ap (putName a) e ∙ sym (seen-snoc w a)
 kinds-snoc false j u w a e = last-snoc j u a ∙ ap (λ (v : Word). lastNames j (v ▸ a)) e ∙ sym (last-snoc j w a)
 
+-- f of a word with a name more is told by f of the word
 pub f-snoc : (c : Class) (u w : Word) (a : ℕ) → fOf c u ≡ fOf c w → fOf c (u ▸ a) ≡ fOf c (w ▸ a)
 unfolding fOf
 f-snoc c u w a e = kinds-snoc (eqb (c .kind) 1) (c .first) u w a e
 
+-- and so with any more names
 pub f-append : (c : Class) (u w p : Word) → fOf c u ≡ fOf c w → fOf c (u ++ p) ≡ fOf c (w ++ p)
 f-append c u w [] e =
     let nil-u : u ++ [] ≡ u = append-nil u in
@@ -139,6 +144,7 @@ f-append c u w (a ∷ p) e =
     let cons-w : (w ▸ a) ++ p ≡ w ++ (a ∷ p) = append-assoc w (a ∷ []) p in
     rw (← cons-u, ← cons-w) (f-append c (u ▸ a) (w ▸ a) p (f-snoc c u w a e))
 
+-- equal f is closed under the rules of kinds 1 and 2
 pub sameF-closed : (c : Class) (rows nodes : List Word) → eqb (c .kind) 0 ≡ false → Closed c rows nodes (SameF c)
 sameF-closed c rows nodes kind =
     record {
@@ -154,6 +160,7 @@ sameF-closed c rows nodes kind =
 -- ---- equal tails
 
 module _ (l : Word → Type 0) where
+  -- equal tails are an equivalence, kept by more names
   tails-refl : (u : Word) → TailsEqual l u u
   tails-refl u = record { tails = λ v. (λ h. h, λ h. h) }
 
@@ -194,6 +201,7 @@ module _ (c : Class) (rows nodes : List Word) (l : Word → Type 0) (holds : (r 
       ways-tails l nodes p s u f .tails (q ++ z) .1 (subst l (append-assoc u q z) at-u) in
       (z, simp (append-assoc) (simp (append-assoc) at at-s))
 
+  -- the rules one by one: contexts, and by f ends and ways back
   tails-context :
       Contextual (c .first) (c .second) l → (u w : Word) → OneContext c nodes (TailsEqual l) u w → TailsEqual l u w
   tails-context contextual u w one =
@@ -230,6 +238,7 @@ module _ (c : Class) (rows nodes : List Word) (l : Word → Type 0) (holds : (r 
         (ur .tails (a ∷ z) .1 (subst l (append-assoc r (a ∷ []) z) at-r))
         (ws .tails (a ∷ z) .1 (subst l (append-assoc s (a ∷ []) z) at-s))
 
+-- equal tails in a set of the class that holds the rows are closed under the rules
 pub tails-closed :
     (c : Class) (rows nodes : List Word) (l : Word → Type 0) → InClass c l → ((r : Word) → In r rows → l r) →
     ((w : Word) → In w nodes → (v : Word) × In (w ++ v) rows) → Closed c rows nodes (TailsEqual l)

@@ -44,6 +44,7 @@ first-or-later node w nodes m = go (word-dec w node) (List·Memᴰ·cases-cons m
 pub no-groups : (node : Word) (nodes : List Word) → Fits (node ∷ nodes) [] → ⊥
 no-groups node nodes fits = let e : zero ≡ suc (length nodes) = fits .lengths in omega arith
 
+-- after the first node and its group
 pub fits-rest : (node : Word) (nodes : List Word) (g : ℕ) (groups : List ℕ) → Fits (node ∷ nodes) (g ∷ groups) → Fits nodes groups
 fits-rest node nodes g groups fits =
     let e : suc (length groups) ≡ suc (length nodes) = fits .lengths in
@@ -51,12 +52,14 @@ fits-rest node nodes g groups fits =
 
 -- ---- the first member
 
+-- the first node is it, if the group is its own
 pub memberOf-first :
     (w : Word) (nodes : List Word) (x : ℕ) (groups : List ℕ) (g : ℕ) → g ≡ x → memberOf (w ∷ nodes) (x ∷ groups) g ≡ w
 unfolding memberOf
 memberOf-first w nodes x groups g e =
     ap (λ (b : Bool). elim b as (λ z. Word) [ true ↦ w | false ↦ memberOf nodes groups g ]) (tells-eqb g x .test e)
 
+-- else a later one
 pub memberOf-later :
     (w : Word) (nodes : List Word) (x : ℕ) (groups : List ℕ) (g : ℕ) → (g ≡ x → ⊥) →
     memberOf (w ∷ nodes) (x ∷ groups) g ≡ memberOf nodes groups g
@@ -70,6 +73,7 @@ memberOf-later w nodes x groups g d =
 pub lower : ℕ → ℕ → ℕ
 lower x y = cond (ltb x y) x y
 
+-- it is one of the two
 pub lower-cases : (x y : ℕ) → (lower x y ≡ x) ⊎ (lower x y ≡ y)
 unfolding lower
 lower-cases x y = go (ltb x y)
@@ -78,13 +82,16 @@ lower-cases x y = go (ltb x y)
     go true = inl refl
     go false = inr refl
 
+-- a group is one of the two merged
 pub told-either : (x y g : ℕ) → Tells (eqb g x || eqb g y) ((g ≡ x) ⊎ (g ≡ y))
 told-either x y g = tells-or (tells-eqb g x) (tells-eqb g y)
 
+-- if so it becomes the lower one
 pub merged-either : (x y g : ℕ) → (g ≡ x) ⊎ (g ≡ y) → mergedTo x y g ≡ lower x y
 unfolding mergedTo lower
 merged-either x y g h = ap (λ (b : Bool). cond b (cond (ltb x y) x y) g) (told-either x y g .test h)
 
+-- if not it stays
 pub merged-neither : (x y g : ℕ) → ((g ≡ x) ⊎ (g ≡ y) → ⊥) → mergedTo x y g ≡ g
 unfolding mergedTo
 merged-neither x y g h = ap (λ (b : Bool). cond b (cond (ltb x y) x y) g) (told-false (told-either x y g) h)

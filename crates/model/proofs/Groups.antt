@@ -12,19 +12,15 @@ use Rattle.model.specs.Lists.{numbersFrom}
 use Rattle.model.specs.Joinings.{apart, groupAt, groupsIn, mergedTo, merged, memberOf, groupAccepts}
 use Rattle.model.proofs.Tests.{Tells, tells-eqb, tells-and, tells-any, tells-by, tells-isIn, tells-hasRow, decided, eq-dec}
 use Rattle.model.proofs.Lists.{Distinct, map-in, distinct-length, distinct-shorter}
-use Rattle.model.proofs.GroupCases.{groupAt-first, groupAt-later, first-or-later, no-groups, fits-rest}
-use Rattle.model.proofs.GroupCases.{memberOf-first, memberOf-later}
-use Rattle.model.proofs.GroupCases.{lower, lower-cases, told-either, merged-either, merged-neither, groupsIn-kept, groupsIn-new}
+use Rattle.model.proofs.Places.{length-numbersFrom}
+use Rattle.model.proofs.GroupCases.{groupAt-first, groupAt-later, first-or-later, no-groups, fits-rest, memberOf-first}
+use Rattle.model.proofs.GroupCases.{memberOf-later, lower, lower-cases, told-either, merged-either, merged-neither}
+use Rattle.model.proofs.GroupCases.{groupsIn-kept, groupsIn-new}
 use Rattle.model.proofs.Notions.{Fits}
 
 -- ---- the groups at the start
 
-length-numbersFrom : (n i : ℕ) → length (numbersFrom n i) ≡ n
-unfolding numbersFrom
-length-numbersFrom zero i = refl
-length-numbersFrom (suc n) i = ap suc (length-numbersFrom n (suc i))
-
--- the groups at the start are single nodes
+-- at the start there is a group for each node
 pub apart-fits : (nodes : List Word) → Fits nodes (apart nodes)
 unfolding apart
 apart-fits nodes = record { lengths = length-numbersFrom (length nodes) 0 }
@@ -53,23 +49,29 @@ single-from (node ∷ nodes) i u w m n e =
     rest : List ℕ
     rest = numbersFrom (length nodes) (suc i)
 
+    -- the first node is alone in its group
+    first-alone :
+        (v x : Word) → v ≡ node → (x ≡ node → ⊥) → In x nodes →
+        groupAt (node ∷ nodes) (i ∷ rest) v ≡ groupAt (node ∷ nodes) (i ∷ rest) x → ⊥
+    first-alone v x p d k same =
+        omega (
+          arith,
+          same,
+          groupAt-first node nodes i rest v p,
+          groupAt-later node nodes i rest x d,
+          low-groups nodes (suc i) x k,
+        )
+
     go :
         (u ≡ node) ⊎ ((u ≡ node → ⊥) × In u nodes) → (w ≡ node) ⊎ ((w ≡ node → ⊥) × In w nodes) →
         (In u nodes → In w nodes → groupAt nodes rest u ≡ groupAt nodes rest w → u ≡ w) → u ≡ w
     go (inl p) (inl q) again = p ∙ sym q
-    go (inl p) (inr q) again =
-        let z : ⊥ =
-        omega (arith, e, groupAt-first node nodes i rest u p, groupAt-later node nodes i rest w (q .0), low-groups nodes (suc i) w (q .1))
-        in
-        absurd z
-    go (inr p) (inl q) again =
-        let z : ⊥ =
-        omega (arith, e, groupAt-first node nodes i rest w q, groupAt-later node nodes i rest u (p .0), low-groups nodes (suc i) u (p .1))
-        in
-        absurd z
+    go (inl p) (inr q) again = absurd (first-alone u w p (q .0) (q .1) e)
+    go (inr p) (inl q) again = absurd (first-alone w u q (p .0) (p .1) (sym e))
     go (inr p) (inr q) again =
         again (p .1) (q .1) (sym (groupAt-later node nodes i rest u (p .0)) ∙ e ∙ groupAt-later node nodes i rest w (q .0))
 
+-- at the start no two nodes are in one group
 pub apart-single :
     (nodes : List Word) (u w : Word) → In u nodes → In w nodes →
     groupAt nodes (apart nodes) u ≡ groupAt nodes (apart nodes) w → u ≡ w
@@ -78,6 +80,7 @@ apart-single nodes u w m n e = single-from nodes 0 u w m n e
 
 -- ---- merges
 
+-- a merge leaves a group for each node
 pub merged-fits : (nodes : List Word) (groups : List ℕ) (x y : ℕ) → Fits nodes groups → Fits nodes (merged x y groups)
 unfolding merged
 merged-fits nodes groups x y fits = record { lengths = length-map groups (mergedTo x y) ∙ fits .lengths }
@@ -128,13 +131,17 @@ mergedTo-joins x y = merged-either x y x (inl refl) ∙ sym (merged-either x y y
 
 -- ---- groups are those of nodes
 
-pub group-in : (nodes : List Word) (groups : List ℕ) (w : Word) → Fits nodes groups → In w nodes → In (groupAt nodes groups w) groups
+-- the group of a node is one of the groups
+pub group-in :
+    (nodes : List Word) (groups : List ℕ) (w : Word) → Fits nodes groups → In w nodes →
+    In (groupAt nodes groups w) groups
 group-in [] groups w fits m = absurd (List·Memᴰ·not-nil m)
 group-in (node ∷ nodes) [] w fits m = absurd (no-groups node nodes fits)
 group-in (node ∷ nodes) (g ∷ groups) w fits m =
     ⊎-elim (λ e. here (groupAt-first node nodes g groups w e))
-    (λ r. there
-    (Memᴰ·cast (groupAt-later node nodes g groups w (r .0)) (group-in nodes groups w (fits-rest node nodes g groups fits) (r .1))))
+    (λ r.
+    let later = group-in nodes groups w (fits-rest node nodes g groups fits) (r .1) in
+    there (Memᴰ·cast (groupAt-later node nodes g groups w (r .0)) later))
     (first-or-later node w nodes m)
 
 -- a group's first state is a node of that group
@@ -179,7 +186,8 @@ tells-accepts rows nodes groups g =
 pub in-groupsIn : (groups : List ℕ) (g : ℕ) → In g groups → In g (groupsIn groups)
 in-groupsIn [] g m = absurd (List·Memᴰ·not-nil m)
 in-groupsIn (x ∷ groups) g m =
-    go (decided (tells-isIn x (groupsIn groups))) (⊎-elim (λ e. inl e) (λ n. inr (in-groupsIn groups g n)) (List·Memᴰ·cases-cons m))
+    go (decided (tells-isIn x (groupsIn groups)))
+    (⊎-elim (λ e. inl e) (λ n. inr (in-groupsIn groups g n)) (List·Memᴰ·cases-cons m))
   where
     go : In x (groupsIn groups) ⊎ (In x (groupsIn groups) → ⊥) → (g ≡ x) ⊎ In g (groupsIn groups) → In g (groupsIn (x ∷ groups))
     go (inl k) (inl e) = subst (In g) (sym (groupsIn-kept x groups k)) (Memᴰ·cast e k)
@@ -192,7 +200,8 @@ unfolding groupsIn
 groupsIn-in [] g m = absurd (List·Memᴰ·not-nil m)
 groupsIn-in (x ∷ groups) g m =
     ⊎-elim (λ k. there (groupsIn-in groups g (subst (In g) (groupsIn-kept x groups k) m)))
-    (λ k. ⊎-elim (λ e. here e) (λ n. there (groupsIn-in groups g n)) (List·Memᴰ·cases-cons (subst (In g) (groupsIn-new x groups k) m)))
+    (λ k. ⊎-elim (λ e. here e) (λ n. there (groupsIn-in groups g n))
+    (List·Memᴰ·cases-cons (subst (In g) (groupsIn-new x groups k) m)))
     (decided (tells-isIn x (groupsIn groups)))
 
 pub groupsIn-distinct : (groups : List ℕ) → Distinct (groupsIn groups)
@@ -204,6 +213,7 @@ groupsIn-distinct (x ∷ groups) = go (decided (tells-isIn x (groupsIn groups)))
     go (inl k) again = subst (λ (l : List ℕ). Distinct l) (sym (groupsIn-kept x groups k)) again
     go (inr k) again = subst (λ (l : List ℕ). Distinct l) (sym (groupsIn-new x groups k)) (k, again)
 
+-- so they are no more than the groups listed
 pub groupsIn-length : (groups : List ℕ) → length (groupsIn groups) ≤ length groups
 groupsIn-length groups = distinct-length (groupsIn groups) groups (groupsIn-distinct groups) (λ g m. groupsIn-in groups g m)
 

@@ -1,13 +1,12 @@
 -- What the table of a full joining admits: the rows, and a set of words of the class, and nothing that some set of the class
 -- that holds the rows does without. Assumes nothing.
 use mathlib.Core.Path.{_≡_, refl, sym, ap, _∙_, subst}
-use mathlib.Core.Logic.{_↔_}
 use mathlib.Core.Bool.{Bool, true, false, cond}
 use mathlib.Core.List.{List, [], _∷_, _++_, append-assoc, append-nil, List·Memᴰ as In}
-use Prim.Native.Nat.{ℕ, zero, suc, _+_, _-_, _≤_}
+use Prim.Native.Nat.{ℕ, _-_, _≤_}
 use native.Mathlib.Omega.{arith}
 use lib.Dec.{eqb}
-use lib.ListN.{length, take, drop, length-append, take-append-drop, length-drop}
+use lib.ListN.{length, take, drop, take-append-drop, length-drop}
 use lib.Seq.{length-take-le}
 use Rattle.model.specs.Fields.{Class}
 use Rattle.model.specs.Classes.{Word, fOf, TailsEqual, Contextual, Distinguishable, InClass}
@@ -15,10 +14,10 @@ use Rattle.model.specs.Joinings.{Transition, transition, transitionsOf, 
 use Rattle.model.specs.Tables.{admits}
 use Rattle.model.specs.Quotients.{statesOf}
 use Rattle.model.proofs.Tests.{Tells}
-use Rattle.model.proofs.Notions.{Tree, Fits, Walks, Ways, Closed, Inside, SameF, Deterministic, _▸_}
+use Rattle.model.proofs.Notions.{Walks, Ways, Inside, _▸_}
 use Rattle.model.proofs.Groups.{group-in, tells-accepts}
-use Rattle.model.proofs.Transitions.{transitions-in, walks-append, walks-split, walks-unique, walks-down}
-use Rattle.model.proofs.Rules.{Ruled, TwoPaths, full-equal}
+use Rattle.model.proofs.Transitions.{arc-node, target-in, walks-append, walks-split, walks-unique, walks-down}
+use Rattle.model.proofs.Rules.{Ruled, full-equal}
 use Rattle.model.proofs.Sound.{walks-ways}
 use Rattle.model.proofs.Complete.{group-f}
 use Rattle.model.proofs.Functions.{f-append, tails-closed, ways-tails}
@@ -43,10 +42,12 @@ abbrev pub Admits : List Word → List ℕ → Word → Type 0
 Admits rows groups r = admits (statesOf rows (treeOf rows) groups) r ≡ true
 
 module _ (c : Class) (rows : List Word) (groups : List ℕ) (joined : Joined c rows groups) where
+  -- admitted is what it carries to an accepting group
   told : (r : Word) → Tells (admits (statesOf rows (treeOf rows) groups) r) (Carried rows groups r)
   told r =
       tells-admits rows (treeOf rows) groups (treeOf-tree rows) (joined .fits) (joined-deterministic c rows groups joined) r
 
+  -- every row is admitted
   pub admits-row : (r : Word) → In r rows → Admits rows groups r
   admits-row r m =
       let node : In r (treeOf rows) = row-node rows r m in
@@ -60,11 +61,7 @@ module _ (c : Class) (rows : List Word) (groups : List ℕ) (joined : Joined c r
   walks-in : (x y : ℕ) (p : Word) → In x groups → Walks (automaton rows groups) x p y → In y groups
   walks-in x y [] m f = subst (λ (g : ℕ). In g groups) f m
   walks-in x y (a ∷ p) m f =
-      let t = transitions-in (treeOf rows) groups (transition x a (f .0)) (f .1) in
-      let end : groupAt (treeOf rows) groups (t .0 ▸ t .1) ≡ f .0 = sym (ap (λ (q : Transition). q .to) (t .3)) in
-      walks-in (f .0) y p
-      (subst (λ (g : ℕ). In g groups) end (group-in (treeOf rows) groups (t .0 ▸ t .1) (joined .fits) (t .2)))
-      (f .2)
+      walks-in (f .0) y p (target-in (treeOf rows) groups (joined .fits) x a (f .0) (f .1)) (f .2)
 
   start-in : In (start rows groups) groups
   start-in = group-in (treeOf rows) groups [] (joined .fits) (treeOf-tree rows .root)
@@ -72,12 +69,14 @@ module _ (c : Class) (rows : List Word) (groups : List ℕ) (joined : Joined c r
   -- words that lead to one group have the same tails
   one-way :
       (u w : Word) (z : ℕ) → Walks (automaton rows groups) (start rows groups) u z →
-      Walks (automaton rows groups) (start rows groups) w z → (v : Word) → Admits rows groups (u ++ v) → Admits rows groups (w ++ v)
+      Walks (automaton rows groups) (start rows groups) w z → (v : Word) →
+      Admits rows groups (u ++ v) → Admits rows groups (w ++ v)
   one-way u w z f g v e =
       let h = told (u ++ v) .fact e in
       let cut = walks-split (automaton rows groups) (start rows groups) (h .0) u v (h .1) in
       let here-too : cut .0 ≡ z =
-      walks-unique (automaton rows groups) (joined-deterministic c rows groups joined) (start rows groups) (cut .0) z u (cut .1) f in
+      walks-unique (automaton rows groups) (joined-deterministic c rows groups joined)
+      (start rows groups) (cut .0) z u (cut .1) f in
       told (w ++ v) .test (
         h .0,
         walks-append (automaton rows groups) (start rows groups) z (h .0) w v g
@@ -85,6 +84,7 @@ module _ (c : Class) (rows : List Word) (groups : List ℕ) (joined : Joined c r
         h .2,
       )
 
+  -- words that lead to one group have equal tails
   one-group-tails :
       (u w : Word) (z : ℕ) → Walks (automaton rows groups) (start rows groups) u z →
       Walks (automaton rows groups) (start rows groups) w z → TailsEqual (Admits rows groups) u w
@@ -99,6 +99,7 @@ module _ (c : Class) (rows : List Word) (groups : List ℕ) (joined : Joined c r
     way-in : Walks (automaton rows groups) before-it (take i a) at-it
     way-out : Walks (automaton rows groups) at-it (drop i a) after-it
 
+  -- each admitted word that has u and a in front has such places
   place : (u a w : Word) (i : ℕ) → Admits rows groups (u ++ (a ++ w)) → Place u a i
   place u a w i e =
       let h = told (u ++ (a ++ w)) .fact e in
@@ -116,10 +117,12 @@ module _ (c : Class) (rows : List Word) (groups : List ℕ) (joined : Joined c r
         way-out = halves .2;
       }
 
+  -- kind 0: paths with a common context meet, since nothing is open
   pub admits-contextual : eqb (c .kind) 0 ≡ true → Contextual (c .first) (c .second) (Admits rows groups)
   admits-contextual kind =
       record {
-        equal-tails = λ u1 u2 a w1 w2 i size low high e1 e2. meet u1 u2 a i size low high (place u1 a w1 i e1) (place u2 a w2 i e2);
+        equal-tails = λ u1 u2 a w1 w2 i size low high e1 e2.
+            meet u1 u2 a i size low high (place u1 a w1 i e1) (place u2 a w2 i e2);
       }
     where
       meet :
@@ -168,21 +171,30 @@ module _ (c : Class) (rows : List Word) (groups : List ℕ) (joined : Joined c r
       ∙ group-f c (treeOf rows) groups (treeOf-tree rows) (joined .fits) (members-agree c rows groups joined kind) u m
       ∙ ap (fOf c) (sym (append-nil u))
   f-walked kind (a ∷ p) u x m f =
-      let t = transitions-in (treeOf rows) groups (transition (groupAt (treeOf rows) groups u) a (f .0)) (f .1) in
+      let t = arc-node (treeOf rows) groups (treeOf-tree rows) (groupAt (treeOf rows) groups u) a (f .0) (f .1) in
       let v : Word = t .0 in
-      let from-v : groupAt (treeOf rows) groups u ≡ groupAt (treeOf rows) groups v = ap (λ (q : Transition). q .from) (t .3) in
-      let name-v : t .1 ≡ a = sym (ap (λ (q : Transition). q .name) (t .3)) in
-      let to-v : f .0 ≡ groupAt (treeOf rows) groups (v ▸ t .1) = ap (λ (q : Transition). q .to) (t .3) in
-      let node : In (v ▸ a) (treeOf rows) = subst (λ (b : ℕ). In (v ▸ b) (treeOf rows)) name-v (t .2) in
-      let v-node : In v (treeOf rows) = treeOf-tree rows .parent v a node in
-      let end : f .0 ≡ groupAt (treeOf rows) groups (v ▸ a) =
-      to-v ∙ ap (λ (b : ℕ). groupAt (treeOf rows) groups (v ▸ b)) name-v in
       let on : Walks (automaton rows groups) (groupAt (treeOf rows) groups (v ▸ a)) p x =
-      subst (λ (z : ℕ). Walks (automaton rows groups) z p x) end (f .2) in
-      let agree : fOf c v ≡ fOf c u = members-agree c rows groups joined kind .related v u v-node m (sym from-v) .same-f in
-      f-walked kind p (v ▸ a) x node on
+      subst (λ (z : ℕ). Walks (automaton rows groups) z p x) (sym (t .4)) (f .2) in
+      let agree : fOf c v ≡ fOf c u = members-agree c rows groups joined kind .related v u (t .1) m (t .3) .same-f in
+      f-walked kind p (v ▸ a) x (t .2) on
       ∙ ap (fOf c) (append-assoc v (a ∷ []) p)
       ∙ f-append c v u (a ∷ p) agree
+
+  -- groups that words lead to are one where a rule joins them
+  led-equal :
+      (w z : Word) (x y : ℕ) → Walks (automaton rows groups) (start rows groups) w x →
+      Walks (automaton rows groups) (start rows groups) z y → Ruled c rows (treeOf rows) groups x y → x ≡ y
+  led-equal w z x y wx zy =
+      full-equal c rows (treeOf rows) groups (joined .full) x y
+      (walks-in (start rows groups) x w start-in wx) (walks-in (start rows groups) y z start-in zy)
+
+  -- and have one f where the words have
+  led-f :
+      eqb (c .kind) 0 ≡ false → (w z : Word) (x y : ℕ) → Walks (automaton rows groups) (start rows groups) w x →
+      Walks (automaton rows groups) (start rows groups) z y → fOf c w ≡ fOf c z →
+      fOfGroup c (treeOf rows) groups x ≡ fOfGroup c (treeOf rows) groups y
+  led-f kind w z x y wx zy e =
+      f-walked kind w [] x (treeOf-tree rows .root) wx ∙ e ∙ sym (f-walked kind z [] y (treeOf-tree rows .root) zy)
 
   -- words with the same f that have a common tail lead to one group
   meet-by-f :
@@ -191,10 +203,8 @@ module _ (c : Class) (rows : List Word) (groups : List ℕ) (joined : Joined c r
       Walks (automaton rows groups) x v g → Walks (automaton rows groups) y v h →
       groupAccepts rows (treeOf rows) groups g ≡ true → groupAccepts rows (treeOf rows) groups h ≡ true → x ≡ y
   meet-by-f kind [] w z x y g h e wx zy xg yh ga ha =
-      full-equal c rows (treeOf rows) groups (joined .full) x y
-      (walks-in (start rows groups) x w start-in wx) (walks-in (start rows groups) y z start-in zy)
-      (Ruled.by-ends kind
-      (f-walked kind w [] x (treeOf-tree rows .root) wx ∙ e ∙ sym (f-walked kind z [] y (treeOf-tree rows .root) zy))
+      led-equal w z x y wx zy
+      (Ruled.by-ends kind (led-f kind w z x y wx zy e)
       (subst (λ (q : ℕ). groupAccepts rows (treeOf rows) groups q ≡ true) (sym xg) ga)
       (subst (λ (q : ℕ). groupAccepts rows (treeOf rows) groups q ≡ true) (sym yh) ha))
   meet-by-f kind (a ∷ v) w z x y g h e wx zy xg yh ga ha =
@@ -205,14 +215,14 @@ module _ (c : Class) (rows : List Word) (groups : List ℕ) (joined : Joined c r
       walks-append ts (start rows groups) y (yh .0) z (a ∷ []) zy (yh .0, yh .1, refl) in
       let one : xg .0 ≡ yh .0 =
       meet-by-f kind v (w ▸ a) (z ▸ a) (xg .0) (yh .0) g h (f-append c w z (a ∷ []) e) on-x on-y (xg .2) (yh .2) ga ha in
-      full-equal c rows (treeOf rows) groups (joined .full) x y
-      (walks-in (start rows groups) x w start-in wx) (walks-in (start rows groups) y z start-in zy)
-      (Ruled.by-back kind
-      (f-walked kind w [] x (treeOf-tree rows .root) wx ∙ e ∙ sym (f-walked kind z [] y (treeOf-tree rows .root) zy))
-      a (yh .0) (subst (λ (q : ℕ). In (transition x a q) ts) one (xg .1)) (yh .1))
+      led-equal w z x y wx zy
+      (Ruled.by-back kind (led-f kind w z x y wx zy e) a (yh .0)
+      (subst (λ (q : ℕ). In (transition x a q) ts) one (xg .1)) (yh .1))
 
+  -- kinds 1 and 2: words with the same f and a common tail meet, since nothing is open
   pub admits-distinguishable : eqb (c .kind) 0 ≡ false → Distinguishable c (Admits rows groups)
-  admits-distinguishable kind = record { equal-tails = λ w z v e lw lz. meet w z v e (told (w ++ v) .fact lw) (told (z ++ v) .fact lz) }
+  admits-distinguishable kind =
+      record { equal-tails = λ w z v e lw lz. meet w z v e (told (w ++ v) .fact lw) (told (z ++ v) .fact lz) }
     where
       meet :
           (w z v : Word) → fOf c w ≡ fOf c z → Carried rows groups (w ++ v) → Carried rows groups (z ++ v) →
@@ -221,9 +231,11 @@ module _ (c : Class) (rows : List Word) (groups : List ℕ) (joined : Joined c r
           let ts = automaton rows groups in
           let x = walks-split ts (start rows groups) (cw .0) w v (cw .1) in
           let y = walks-split ts (start rows groups) (cz .0) z v (cz .1) in
-          let one : x .0 ≡ y .0 = meet-by-f kind v w z (x .0) (y .0) (cw .0) (cz .0) e (x .1) (y .1) (x .2) (y .2) (cw .2) (cz .2) in
+          let one : x .0 ≡ y .0 =
+          meet-by-f kind v w z (x .0) (y .0) (cw .0) (cz .0) e (x .1) (y .1) (x .2) (y .2) (cw .2) (cz .2) in
           one-group-tails w z (y .0) (subst (λ (q : ℕ). Walks ts (start rows groups) w q) one (x .1)) (y .1)
 
+  -- the set of admitted words is of the class
   pub admits-in-class : InClass c (Admits rows groups)
   admits-in-class = go (eqb (c .kind) 0) refl
     where

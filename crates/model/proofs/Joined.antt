@@ -1,30 +1,30 @@
 -- Full joinings of a book's prefix tree, in any order and from any book with the same set of rows: they lie inside one another,
 -- so they have one table. And the joining law, by which a program may join in batches and in any order. Assumes nothing.
-use mathlib.Core.Path.{_≡_, refl, sym, ap, _∙_, subst}
+use mathlib.Core.Path.{_≡_, sym, _∙_, subst}
 use mathlib.Core.Logic.{_↔_}
-use mathlib.Core.Bool.{Bool, true, false}
-use mathlib.Core.List.{List, [], _∷_, _++_, List·Memᴰ as In}
-use Prim.Native.Nat.{ℕ, zero, suc}
+use mathlib.Core.Bool.{true, false, and-eq-true-iff}
+use mathlib.Core.List.{List, [], _∷_, List·Memᴰ as In}
+use Prim.Native.Nat.{ℕ}
 use lib.Dec.{eqb}
 use Rattle.model.specs.Fields.{Class}
 use Rattle.model.specs.Classes.{Word}
-use Rattle.model.specs.Joinings.{Transition, transition, transitionsOf, groupAt, treeOf, apart, Step, isFull}
+use Rattle.model.specs.Joinings.{transitionsOf, treeOf, apart, Step, isFull}
 use Rattle.model.specs.Joinings.{afterSteps, allOpen, isFullJoining, joinedGroups}
 use Rattle.model.specs.Quotients.{statesOf}
-use Rattle.model.proofs.Tests.{Tells, tells-and}
 use Rattle.model.proofs.Notions.{Tree, Fits, Ways, OneContext, Closed, Inside, Ker, SameF, Deterministic, _▸_}
 use Rattle.model.proofs.Groups.{apart-fits}
-use Rattle.model.proofs.Transitions.{transitions-in}
+use Rattle.model.proofs.Transitions.{arc-node}
 use Rattle.model.proofs.Sound.{sound, after-fits, apart-inside}
 use Rattle.model.proofs.Complete.{ker-closed, full-deterministic}
 use Rattle.model.proofs.Functions.{sameF-closed}
 use Rattle.model.proofs.Trees.{treeOf-tree, same-nodes}
 use Rattle.model.proofs.Ends.{joined-is-full-joining}
-use Rattle.model.proofs.Numbering.{SamePartition, numbering-law}
+use Rattle.model.proofs.Numbering.{numbering-law}
 
 -- ---- closed relations do not see the order of nodes and rows
 
 module _ (R : Word → Word → Type 0) (nodes nodes′ : List Word) (there′ : (w : Word) → In w nodes → In w nodes′) where
+  -- ways, contexts and closure hold with any nodes that hold these
   pub ways-there : (p u w : Word) → Ways nodes R u p w → Ways nodes′ R u p w
   ways-there [] u w f = f
   ways-there (a ∷ p) u w f =
@@ -53,6 +53,7 @@ module _ (R : Word → Word → Type 0) (nodes nodes′ : List Word) (there′ :
         out-of-w = ways-there (x .q) w (x .to-w) (x .out-of-w);
       }
 
+-- a relation closed for more nodes and rows is closed for these
 pub closed-there :
     (c : Class) (rows rows′ nodes nodes′ : List Word) (R : Word → Word → Type 0) → ((w : Word) → In w nodes → In w nodes′) →
     ((r : Word) → In r rows → In r rows′) → Closed c rows′ nodes′ R → Closed c rows nodes R
@@ -63,8 +64,10 @@ closed-there c rows rows′ nodes nodes′ R n r closed =
       transitive = closed .transitive;
       fork = λ u w a e m m′. closed .fork u w a e (n (u ▸ a) m) (n (w ▸ a) m′);
       context = λ k u w x. closed .context k u w (context-there R nodes nodes′ n c u w x);
-      ends = λ k u w x y e mu mw mx my p q rx ry. closed .ends k u w x y e (n u mu) (n w mw) (n x mx) (n y my) p q (r x rx) (r y ry);
-      back = λ k u w x y a e mu mw mx my p q ma mb z. closed .back k u w x y a e (n u mu) (n w mw) (n x mx) (n y my) p q (n (x ▸ a) ma) (n (y ▸ a) mb) z;
+      ends = λ k u w x y e mu mw mx my p q rx ry.
+          closed .ends k u w x y e (n u mu) (n w mw) (n x mx) (n y my) p q (r x rx) (r y ry);
+      back = λ k u w x y a e mu mw mx my p q ma mb z.
+          closed .back k u w x y a e (n u mu) (n w mw) (n x mx) (n y my) p q (n (x ▸ a) ma) (n (y ▸ a) mb) z;
     }
 
 -- ---- full joinings
@@ -75,6 +78,7 @@ pub record Joined (c : Class) (rows : List Word) (groups : List ℕ) : Type 1 wh
   pub full : isFull c rows (treeOf rows) groups ≡ true
   pub inside : (R : Word → Word → Type 0) → Closed c rows (treeOf rows) R → Inside (treeOf rows) groups R
 
+-- every full joining leaves such groups
 pub joining-joined :
     (c : Class) (rows : List Word) (steps : List Step) → isFullJoining c rows steps ≡ true →
     Joined c rows (afterSteps (apart (treeOf rows)) steps)
@@ -82,17 +86,17 @@ unfolding isFullJoining
 joining-joined c rows steps e =
     let nodes = treeOf rows in
     let start : Fits nodes (apart nodes) = apart-fits nodes in
-    let parts : (allOpen c rows nodes (apart nodes) steps ≡ true) × (isFull c rows nodes (afterSteps (apart nodes) steps) ≡ true) =
-    tells-and (itself (allOpen c rows nodes (apart nodes) steps)) (itself (isFull c rows nodes (afterSteps (apart nodes) steps))) .fact e in
+    let parts =
+    and-eq-true-iff (allOpen c rows nodes (apart nodes) steps) (isFull c rows nodes (afterSteps (apart nodes) steps)) .0 e in
     record {
       fits = after-fits nodes (apart nodes) steps start;
       full = parts .1;
-      inside = λ R closed. sound c rows nodes R (treeOf-tree rows) closed (apart nodes) steps start (parts .0) (apart-inside c rows nodes R closed);
+      inside = λ R closed.
+          sound c rows nodes R (treeOf-tree rows) closed (apart nodes) steps start (parts .0)
+          (apart-inside c rows nodes R closed);
     }
-  where
-    itself : (b : Bool) → Tells b (b ≡ true)
-    itself b = record { fact = λ x. x; test = λ x. x }
 
+-- and so does the one that defines the table
 pub joinedGroups-joined : (c : Class) (rows : List Word) → Joined c rows (joinedGroups c rows)
 joinedGroups-joined c rows =
     let j = joined-is-full-joining c rows in
@@ -103,9 +107,11 @@ module _ (c : Class) (rows : List Word) (groups : List ℕ) (joined : Joined c r
   pub members-agree : eqb (c .kind) 0 ≡ false → Inside (treeOf rows) groups (SameF c)
   members-agree kind = joined .inside (SameF c) (sameF-closed c rows (treeOf rows) kind)
 
+  -- its kernel is closed
   pub joined-closed : Closed c rows (treeOf rows) (Ker (treeOf rows) groups)
   joined-closed = ker-closed c rows (treeOf rows) groups (treeOf-tree rows) (joined .fits) (joined .full) members-agree
 
+  -- its automaton is deterministic
   pub joined-deterministic : Deterministic (transitionsOf (treeOf rows) groups)
   joined-deterministic = full-deterministic c rows (treeOf rows) groups (treeOf-tree rows) (joined .fits) (joined .full)
 
@@ -129,8 +135,12 @@ joined-states c rows rows′ groups groups′ same j j′ =
       det′ = joined-deterministic c rows′ groups′ j′;
       same-nodes = λ w. (go w, back w);
       same-rows = same;
-      inside = j .inside (Ker nodes′ groups′) (closed-there c rows rows′ nodes nodes′ (Ker nodes′ groups′) go (λ r. same r .0) (joined-closed c rows′ groups′ j′));
-      inside′ = j′ .inside (Ker nodes groups) (closed-there c rows′ rows nodes′ nodes (Ker nodes groups) back (λ r. same r .1) (joined-closed c rows groups j));
+      inside =
+          j .inside (Ker nodes′ groups′)
+          (closed-there c rows rows′ nodes nodes′ (Ker nodes′ groups′) go (λ r. same r .0) (joined-closed c rows′ groups′ j′));
+      inside′ =
+          j′ .inside (Ker nodes groups)
+          (closed-there c rows′ rows nodes′ nodes (Ker nodes groups) back (λ r. same r .1) (joined-closed c rows groups j));
     })
 
 -- ---- the joining law
@@ -140,23 +150,11 @@ pub closed-deterministic :
     (c : Class) (rows nodes : List Word) (groups : List ℕ) → Tree nodes → Closed c rows nodes (Ker nodes groups) →
     Deterministic (transitionsOf nodes groups)
 closed-deterministic c rows nodes groups tree closed x a y z m n =
-    let s = transitions-in nodes groups (transition x a y) m in
-    let t = transitions-in nodes groups (transition x a z) n in
-    let from-s : x ≡ groupAt nodes groups (s .0) = ap (λ (q : Transition). q .from) (s .3) in
-    let from-t : x ≡ groupAt nodes groups (t .0) = ap (λ (q : Transition). q .from) (t .3) in
-    let name-s : a ≡ s .1 = ap (λ (q : Transition). q .name) (s .3) in
-    let name-t : a ≡ t .1 = ap (λ (q : Transition). q .name) (t .3) in
-    let to-s : y ≡ groupAt nodes groups (s .0 ▸ s .1) = ap (λ (q : Transition). q .to) (s .3) in
-    let to-t : z ≡ groupAt nodes groups (t .0 ▸ t .1) = ap (λ (q : Transition). q .to) (t .3) in
-    let node-s : In (s .0 ▸ a) nodes = subst (λ (b : ℕ). In (s .0 ▸ b) nodes) (sym name-s) (s .2) in
-    let node-t : In (t .0 ▸ a) nodes = subst (λ (b : ℕ). In (t .0 ▸ b) nodes) (sym name-t) (t .2) in
+    let s = arc-node nodes groups tree x a y m in
+    let t = arc-node nodes groups tree x a z n in
     let one : Ker nodes groups (s .0) (t .0) =
-    record { left-node = tree .parent (s .0) a node-s; right-node = tree .parent (t .0) a node-t; one-group = sym from-s ∙ from-t } in
-    to-s
-    ∙ ap (λ (b : ℕ). groupAt nodes groups (s .0 ▸ b)) (sym name-s)
-    ∙ closed .fork (s .0) (t .0) a one node-s node-t .one-group
-    ∙ ap (λ (b : ℕ). groupAt nodes groups (t .0 ▸ b)) name-t
-    ∙ sym to-t
+    record { left-node = s .1; right-node = t .1; one-group = s .3 ∙ sym (t .3) } in
+    sym (s .4) ∙ closed .fork (s .0) (t .0) a one (s .2) (t .2) .one-group ∙ t .4
 
 -- a partition that lies inside the joined one, and is itself closed, has the joined one's states: whatever order its joins
 -- were found in, and however its nodes are listed
@@ -178,5 +176,7 @@ joining-law c rows nodes groups tree fits same inside closed =
       same-nodes = same;
       same-rows = λ r. (λ m. m, λ m. m);
       inside = inside;
-      inside′ = j .inside (Ker nodes groups) (closed-there c rows rows (treeOf rows) nodes (Ker nodes groups) (λ w. same w .1) (λ r m. m) closed);
+      inside′ =
+          j .inside (Ker nodes groups)
+          (closed-there c rows rows (treeOf rows) nodes (Ker nodes groups) (λ w. same w .1) (λ r m. m) closed);
     })

@@ -1,6 +1,10 @@
--- Why the claims of specs/ hold, one file for each step of the argument. Assumes nothing.
+-- Why the claims of specs/ hold, one file for each step of the argument, each after those that it cites. Assumes nothing.
+
+-- laws of tests and lists
 pub mod Tests
 pub mod Lists
+pub mod Places
+-- the notions of the argument; partitions, walks between groups, and the rules as facts
 pub mod Notions
 pub mod GroupCases
 pub mod Groups
@@ -8,17 +12,21 @@ pub mod Transitions
 pub mod Routes
 pub mod Contexts
 pub mod Rules
+-- closure: joinings stay inside closed relations, and the kernel of a full one is closed
 pub mod Sound
 pub mod Complete
 pub mod Functions
+-- the prefix tree, and the end of its joining
 pub mod Trees
 pub mod Ends
+-- numbering: arcs in order, groups in first-met order, what a table admits, and the numbering law
 pub mod Arcs
 pub mod Meeting
 pub mod FirstMet
 pub mod Admits
 pub mod Paired
 pub mod Numbering
+-- reading: states that can be written, what one field and one turn of reading tell, and tables read back and rewritten
 pub mod Writable
 pub mod MetOrder
 pub mod ArcCount
@@ -31,7 +39,9 @@ pub mod ReadBack
 pub mod WrittenLengths
 pub mod Rewriting
 pub mod Reading
+-- demands: all full joinings have one table, of the smallest set of the class, and all that is claimed
 pub mod Joined
 pub mod InTheClass
 pub mod Demands
+-- the worked days of document 01
 pub mod WorkedDays

@@ -3,10 +3,9 @@
 use mathlib.Core.Path.{_≡_, refl, sym, ap, _∙_, subst}
 use mathlib.Core.Logic.{_⊎_, inl, inr, ⊎-elim}
 use mathlib.Core.Bool.{Bool, true, false, cond}
-use mathlib.Core.List.{List, [], _∷_, _++_, append-assoc, append-nil}
-use mathlib.Core.List.{List·Memᴰ as In, List·Memᴰ·head as here, List·Memᴰ·tail as there}
-use mathlib.Core.List.{List·Memᴰ·not-nil, List·Memᴰ·cases-cons, List·Memᴰ·append-cases, List·Memᴰ·eq-of-singleton}
-use mathlib.Core.List.{Memᴰ·cast, Memᴰ·append-left, Memᴰ·append-right}
+use mathlib.Core.List.{List, [], _∷_, _++_, append-assoc, append-nil, List·Memᴰ as In, List·Memᴰ·head as here}
+use mathlib.Core.List.{List·Memᴰ·tail as there, List·Memᴰ·not-nil, List·Memᴰ·cases-cons, List·Memᴰ·append-cases}
+use mathlib.Core.List.{List·Memᴰ·eq-of-singleton, Memᴰ·cast, Memᴰ·append-left, Memᴰ·append-right}
 use Prim.Native.Nat.{ℕ, zero, suc, _+_, _≤_, _<_}
 use native.Mathlib.Omega.{arith}
 use lib.Dec.{ltb}
@@ -17,7 +16,7 @@ use Rattle.model.specs.Tables.{Arc}
 use Rattle.model.specs.Joinings.{Transition, transition}
 use Rattle.model.specs.Quotients.{arcsOutOf, metWith, metFrom}
 use Rattle.model.proofs.Tests.{tells-isIn, not-told, eq-dec}
-use Rattle.model.proofs.Lists.{Distinct}
+use Rattle.model.proofs.Lists.{Distinct, distinct-snoc}
 use Rattle.model.proofs.Arcs.{arcsOutOf-in}
 
 -- ---- more groups met
@@ -29,9 +28,11 @@ pub record Grown (P : ℕ → Type 0) (met grown : List ℕ) : Type 0 where
   pub distinct : Distinct met → Distinct grown
   pub whence : (g : ℕ) → In g grown → In g met ⊎ P g
 
+-- what was there is there
 pub grown-keeps : {P : ℕ → Type 0} {met grown : List ℕ} → Grown P met grown → (g : ℕ) → In g met → In g grown
 grown-keeps {P} {met} {grown} r g m = subst (λ (xs : List ℕ). In g xs) (sym (r .begins)) (Memᴰ·append-left (r .more) m)
 
+-- lists grow by nothing, in turn, and by weaker properties
 grown-refl : (P : ℕ → Type 0) (met : List ℕ) → Grown P met met
 grown-refl P met =
     record { more = []; begins = sym (append-nil met); distinct = λ d. d; whence = λ g m. inl m }
@@ -56,17 +57,11 @@ grown-by P Q xs ys f r =
       whence = λ g m. ⊎-elim (λ n. inl n) (λ p. inr (f g p)) (r .whence g m);
     }
 
-distinct-snoc : (xs : List ℕ) (y : ℕ) → Distinct xs → (In y xs → ⊥) → Distinct (xs ++ (y ∷ []))
-distinct-snoc [] y d out = (λ m. List·Memᴰ·not-nil m, tt)
-distinct-snoc (x ∷ xs) y d out = (
-  λ m. ⊎-elim (λ n. d .0 n) (λ n. out (here (sym (List·Memᴰ·eq-of-singleton n)))) (List·Memᴰ·append-cases xs m),
-  distinct-snoc xs y (d .1) (λ n. out (there n)),
-)
-
 -- one group more, if it is new
 abbrev pub withOne : List ℕ → ℕ → List ℕ
 withOne met y = cond (isIn y met) met (met ++ (y ∷ []))
 
+-- it grows by that group, which is there then
 withOne-grown : (met : List ℕ) (y : ℕ) → Grown (λ g. g ≡ y) met (withOne met y) × In y (withOne met y)
 withOne-grown met y = go (isIn y met) refl
   where
@@ -88,6 +83,7 @@ withOne-grown met y = go (isIn y met) refl
 abbrev pub TargetOf : List Arc → ℕ → Type 0
 TargetOf arcs g = (a : Arc) × In a arcs × (g ≡ a .to)
 
+-- the groups met grow by targets of the arcs
 pub metWith-grown : (met : List ℕ) (arcs : List Arc) → Grown (TargetOf arcs) met (metWith met arcs)
 unfolding metWith
 metWith-grown met [] = grown-refl (TargetOf []) met
@@ -179,6 +175,7 @@ module _ (ts : List Transition) (start : ℕ) where
             closed = λ j h k. r .closed j (omega arith) k;
           }
 
+  -- n looks more, one after the other
   pub look-all : (n i : ℕ) (met : List ℕ) → MetUpTo ts start i met → MetUpTo ts start (n + i) (metFrom n i ts met)
   unfolding metFrom
   look-all zero i met r =

@@ -1,58 +1,26 @@
 -- First-met order only appends, and the test of first-met numbering counts along it: read over the states of a partition's
 -- automaton, it meets as many states as there are met groups. Assumes nothing.
 use mathlib.Core.Path.{_≡_, refl, sym, ap, _∙_, subst}
-use mathlib.Core.Logic.{_⊎_, inl, inr}
 use mathlib.Core.Bool.{Bool, true, false, cond}
-use mathlib.Core.List.{List, [], _∷_, _++_, map, append-assoc, append-nil, List·Memᴰ as In, List·Memᴰ·head as here}
-use mathlib.Core.List.{List·Memᴰ·tail as there, List·Memᴰ·not-nil, List·Memᴰ·cases-cons}
+use mathlib.Core.List.{List, [], _∷_, _++_, map, append-assoc, append-nil}
 use Prim.Native.Nat.{ℕ, zero, suc, _+_, _≤_, _<_}
 use native.Mathlib.Omega.{arith}
-use lib.Dec.{eqb, ltb}
+use lib.Dec.{ltb}
 use lib.ListN.{length, getD, drop, length-append, drop-of-length-le, List·getD-append}
 use lib.Seq.{drop-cons}
-use borrow.Author.Tests.{ltb-true, ltb-false, lt-ltb, le-ltb, eq-eqb, ne-eqb}
+use borrow.Author.Tests.{ltb-true, ltb-false, lt-ltb, le-ltb, eq-eqb}
 use Rattle.model.specs.Lists.{isIn, indexIn}
 use Rattle.model.specs.Classes.{Word}
 use Rattle.model.specs.Tables.{Arc, arc, State, metByArcs, metByStates}
 use Rattle.model.specs.Joinings.{Transition, transitionsOf}
 use Rattle.model.specs.Quotients.{arcsOutOf, metWith, metFrom, renumbered, stateOf}
-use Rattle.model.proofs.Tests.{tells-isIn, tells-eqb, not-told}
-
--- ---- places in a list that goes on
-
-indexIn-first : (x : ℕ) (xs ys : List ℕ) → In x xs → indexIn x (xs ++ ys) < length xs
-unfolding indexIn
-indexIn-first x [] ys m = absurd (List·Memᴰ·not-nil m)
-indexIn-first x (z ∷ xs) ys m = go (eqb x z) refl (List·Memᴰ·cases-cons m) (λ n. indexIn-first x xs ys n)
-  where
-    go :
-        (b : Bool) → eqb x z ≡ b → (x ≡ z) ⊎ In x xs → (In x xs → indexIn x (xs ++ ys) < length xs) →
-        elim b as (λ c. ℕ) [ true ↦ 0 | false ↦ suc (indexIn x (xs ++ ys)) ] < suc (length xs)
-    go true e h again = omega arith
-    go false e (inl p) again = absurd (not-told (tells-eqb x z) e p)
-    go false e (inr n) again = let low : indexIn x (xs ++ ys) < length xs = again n in omega arith
-
-indexIn-next : (x : ℕ) (xs ys : List ℕ) → (In x xs → ⊥) → indexIn x (xs ++ (x ∷ ys)) ≡ length xs
-unfolding indexIn
-indexIn-next x [] ys out = rw (eq-eqb x x refl, indexIn)
-indexIn-next x (z ∷ xs) ys out =
-    rw (ne-eqb x z (λ e. out (here e)), indexIn) (ap suc (indexIn-next x xs ys (λ m. out (there m))))
+use Rattle.model.proofs.Tests.{tells-isIn, not-told}
+use Rattle.model.proofs.Places.{index-in-front, index-after}
+use Rattle.model.proofs.Meeting.{metWith-grown}
 
 -- ---- what is met is only added to
 
-metWith-appends : (met : List ℕ) (arcs : List Arc) → (more : List ℕ) × (metWith met arcs ≡ met ++ more)
-unfolding metWith
-metWith-appends met [] = ([], sym (append-nil met))
-metWith-appends met (a ∷ arcs) = go (isIn (a .to) met) (λ m. metWith-appends m arcs)
-  where
-    go :
-        (b : Bool) → ((m : List ℕ) → (more : List ℕ) × (metWith m arcs ≡ m ++ more)) →
-        (more : List ℕ) × (metWith (cond b met (met ++ (a .to ∷ []))) arcs ≡ met ++ more)
-    go true again = again met
-    go false again =
-        let r = again (met ++ (a .to ∷ [])) in
-        (a .to ∷ r .0, r .1 ∙ append-assoc met (a .to ∷ []) (r .0))
-
+-- all looks together only add
 metFrom-appends : (n i : ℕ) (ts : List Transition) (met : List ℕ) → (more : List ℕ) × (metFrom n i ts met ≡ met ++ more)
 unfolding metFrom
 metFrom-appends zero i ts met = ([], sym (append-nil met))
@@ -63,9 +31,9 @@ metFrom-appends (suc n) i ts met = go (ltb i (length met)) (λ m. metFrom-append
         (more : List ℕ) × (metFrom n (suc i) ts (cond b (metWith met (arcsOutOf (getD met i 0) ts)) met) ≡ met ++ more)
     go false again = again met
     go true again =
-        let q = metWith-appends met (arcsOutOf (getD met i 0) ts) in
+        let q = metWith-grown met (arcsOutOf (getD met i 0) ts) in
         let r = again (metWith met (arcsOutOf (getD met i 0) ts)) in
-        (q .0 ++ r .0, r .1 ∙ ap (λ (m : List ℕ). m ++ r .0) (q .1) ∙ append-assoc met (q .0) (r .0))
+        (q .more ++ r .0, r .1 ∙ ap (λ (m : List ℕ). m ++ r .0) (q .begins) ∙ append-assoc met (q .more) (r .0))
 
 -- past the last met group nothing more is met
 metFrom-ends : (n i : ℕ) (ts : List Transition) (met : List ℕ) → length met ≤ i → metFrom n i ts met ≡ met
@@ -77,6 +45,7 @@ metFrom-ends (suc n) i ts met h =
 
 -- ---- the test counts along
 
+-- an arc to a state met before counts nothing, one to the next state counts one
 metByArcs-old : (m : ℕ) (a : Arc) (arcs : List Arc) → a .to < m → metByArcs m (a ∷ arcs) ≡ metByArcs m arcs
 unfolding metByArcs
 metByArcs-old m a arcs h = rw (lt-ltb (a .to) m h, metByArcs)
@@ -87,6 +56,7 @@ metByArcs-new m a arcs h =
     let low : m ≤ a .to = omega arith in
     rw (le-ltb (a .to) m low, metByArcs) (rw (eq-eqb (a .to) m h))
 
+-- the test meets along the arcs of a state as many as there are met groups
 metByArcs-follows :
     (every : List ℕ) (arcs : List Arc) (met rest : List ℕ) → every ≡ metWith met arcs ++ rest →
     metByArcs (length met) (renumbered every arcs) ≡ length (metWith met arcs)
@@ -101,29 +71,33 @@ metByArcs-follows every (a ∷ arcs) met rest e =
         metByArcs (length met) (arc (a .name) (indexIn (a .to) every) ∷ renumbered every arcs)
         ≡ length (metWith (cond b met (met ++ (a .to ∷ []))) arcs)
     go true t h again =
-        let q = metWith-appends met arcs in
-        let whole : every ≡ met ++ (q .0 ++ rest) = h ∙ ap (λ (m : List ℕ). m ++ rest) (q .1) ∙ append-assoc met (q .0) rest in
+        let q = metWith-grown met arcs in
+        let whole : every ≡ met ++ (q .more ++ rest) =
+        h ∙ ap (λ (m : List ℕ). m ++ rest) (q .begins) ∙ append-assoc met (q .more) rest in
         let low : indexIn (a .to) every < length met =
         subst (λ (z : List ℕ). indexIn (a .to) z < length met) (sym whole)
-        (indexIn-first (a .to) met (q .0 ++ rest) (tells-isIn (a .to) met .fact t)) in
+        (index-in-front (a .to) met (q .more ++ rest) (tells-isIn (a .to) met .fact t)) in
         metByArcs-old (length met) (arc (a .name) (indexIn (a .to) every)) (renumbered every arcs) low ∙ again met h
     go false t h again =
         let longer = met ++ (a .to ∷ []) in
-        let q = metWith-appends longer arcs in
-        let whole : every ≡ met ++ (a .to ∷ (q .0 ++ rest)) =
-        h ∙ ap (λ (m : List ℕ). m ++ rest) (q .1) ∙ append-assoc longer (q .0) rest ∙ append-assoc met (a .to ∷ []) (q .0 ++ rest) in
+        let q = metWith-grown longer arcs in
+        let whole : every ≡ met ++ (a .to ∷ (q .more ++ rest)) =
+        h ∙ ap (λ (m : List ℕ). m ++ rest) (q .begins) ∙ append-assoc longer (q .more) rest
+        ∙ append-assoc met (a .to ∷ []) (q .more ++ rest) in
         let next : indexIn (a .to) every ≡ length met =
-        ap (indexIn (a .to)) whole ∙ indexIn-next (a .to) met (q .0 ++ rest) (not-told (tells-isIn (a .to) met) t) in
+        ap (indexIn (a .to)) whole ∙ index-after (a .to) met (q .more ++ rest) (not-told (tells-isIn (a .to) met) t) in
         let size : suc (length met) ≡ length longer = omega (arith, length-append met (a .to ∷ [])) in
         metByArcs-new (length met) (arc (a .name) (indexIn (a .to) every)) (renumbered every arcs) next
         ∙ ap (λ (m : ℕ). metByArcs m (renumbered every arcs)) size ∙ again longer h
 
+-- the test takes one state
 metByStates-step :
     (i m : ℕ) (s : State) (states : List State) → i < m →
     metByStates i m (s ∷ states) ≡ metByStates (suc i) (metByArcs m (s .arcs)) states
 unfolding metByStates
 metByStates-step i m s states h = rw (lt-ltb i m h, metByStates)
 
+-- first-met order takes one look
 metFrom-step :
     (n i : ℕ) (ts : List Transition) (met : List ℕ) → i < length met →
     metFrom (suc n) i ts met ≡ metFrom n (suc i) ts (metWith met (arcsOutOf (getD met i 0) ts))
@@ -132,6 +106,7 @@ metFrom-step n i ts met h = rw (lt-ltb i (length met) h)
 
 -- over the states from the i-th on, where the groups before it have been taken and `met` are met
 module _ (rows nodes : List Word) (groups every : List ℕ) where
+  -- past the last group no state is left
   past-end :
       (i m : ℕ) → length every ≤ i → metByStates i m (map (stateOf rows nodes groups every) (drop i every)) ≡ m
   unfolding metByStates
@@ -162,6 +137,7 @@ module _ (rows nodes : List Word) (groups every : List ℕ) where
       ∙ metByStates-step i (length met) (state-at (getD every i 0)) later low
       ∙ ap (λ (m : ℕ). metByStates (suc i) m later) counted
 
+  -- so over all states it meets as many as there are
   pub metByStates-follows :
       (n i : ℕ) (met : List ℕ) → every ≡ metFrom n i (transitionsOf nodes groups) met → length every ≤ n + i →
       metByStates i (length met) (map (stateOf rows nodes groups every) (drop i every)) ≡ length every

@@ -2,14 +2,14 @@
 -- rules, partitions inside a relation, and a partition's kernel. The relation is a parameter everywhere: nothing is said of
 -- a least one. Assumes nothing.
 use mathlib.Core.Path.{_≡_}
-use mathlib.Core.Bool.{Bool, true, false}
+use mathlib.Core.Bool.{true, false}
 use mathlib.Core.List.{List, [], _∷_, _++_, List·Memᴰ as In}
-use Prim.Native.Nat.{ℕ, zero, suc, _+_, _≤_}
+use Prim.Native.Nat.{ℕ, _+_, _≤_}
 use lib.Dec.{eqb}
 use lib.ListN.{length}
 use Rattle.model.specs.Fields.{Class}
 use Rattle.model.specs.Classes.{Word, fOf}
-use Rattle.model.specs.Joinings.{Transition, transition, transitionsOf, groupAt}
+use Rattle.model.specs.Joinings.{Transition, transition, groupAt}
 use Rattle.model.proofs.Lists.{Distinct}
 
 -- a word with one name more

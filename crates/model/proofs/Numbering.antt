@@ -1,22 +1,21 @@
 -- The numbering law: the table depends on the set of nodes, the set of rows and the kernel of the partition alone, not on the
 -- order of the nodes or on the groups' own numbers. Groups of the two descriptions correspond where they hold a common node;
 -- arcs, first-met order, numbers and acceptance of corresponding groups agree. Assumes nothing.
-use mathlib.Core.Path.{_≡_, refl, sym, ap, ap₂, _∙_, subst}
+use mathlib.Core.Path.{_≡_, refl, sym, ap₂, _∙_, subst}
 use mathlib.Core.Logic.{_↔_}
-use mathlib.Core.Bool.{Bool, true, false}
 use mathlib.Core.List.{List, [], _∷_, List·Memᴰ as In, Forall₂ as Paired, Forall₂·nil as none, Forall₂·cons as pair}
 use Prim.Native.Nat.{ℕ}
 use lib.Dec.{eqb}
 use lib.ListN.{length}
 use Rattle.model.specs.Classes.{Word}
 use Rattle.model.specs.Tables.{Arc, arc, state}
-use Rattle.model.specs.Joinings.{Transition, transition, transitionsOf, groupAt}
+use Rattle.model.specs.Joinings.{transition, transitionsOf, groupAt}
 use Rattle.model.specs.Quotients.{arcsOutOf, metFrom, metGroups, stateOf, statesOf}
-use Rattle.model.proofs.Tests.{Tells, tells-eqb}
+use Rattle.model.proofs.Tests.{tells-eqb, same-tests}
 use Rattle.model.proofs.Lists.{same-length}
 use Rattle.model.proofs.Notions.{Tree, Fits, Inside, Ker, Deterministic, _▸_}
 use Rattle.model.proofs.Groups.{tells-accepts}
-use Rattle.model.proofs.Transitions.{in-transitions, transitions-in}
+use Rattle.model.proofs.Transitions.{in-transitions, arc-node}
 use Rattle.model.proofs.Arcs.{arcsOutOf-ascending, arcsOutOf-in, in-arcsOutOf}
 use Rattle.model.proofs.Paired.{ArcsAgree, ascending-paired, metFrom-paired, renumbered-paired, paired-map}
 
@@ -32,16 +31,6 @@ pub record SamePartition (rows rows′ nodes nodes′ : List Word) (groups group
   pub same-rows : (r : Word) → In r rows ↔ In r rows′
   pub inside : Inside nodes groups (Ker nodes′ groups′)
   pub inside′ : Inside nodes′ groups′ (Ker nodes groups)
-
--- tests of facts that follow from each other are equal
-same-tests : {b c : Bool} {P Q : Type 0} → Tells b P → Tells c Q → (P → Q) → (Q → P) → b ≡ c
-same-tests {b} {c} {P} {Q} s t f g = go b c refl refl
-  where
-    go : (x y : Bool) → b ≡ x → c ≡ y → b ≡ c
-    go true true d e = d ∙ sym e
-    go false false d e = d ∙ sym e
-    go true false d e = d ∙ sym (t .test (f (s .fact d)))
-    go false true d e = s .test (g (t .fact e)) ∙ sym e
 
 -- the descriptions the other way round
 swapped :
@@ -69,6 +58,7 @@ record Corresponds (nodes nodes′ : List Word) (groups groups′ : List ℕ) (g
   group : groupAt nodes groups node ≡ g
   group′ : groupAt nodes′ groups′ node ≡ g′
 
+-- and their groups the other way round
 turned :
     {nodes nodes′ : List Word} {groups groups′ : List ℕ} {g g′ : ℕ} → Corresponds nodes nodes′ groups groups′ g g′ →
     Corresponds nodes′ nodes groups′ groups g′ g
@@ -77,11 +67,16 @@ turned r = record { node = r .node; is-node = r .is-node′; is-node′ = r .is-
 module _
     {rows rows′ nodes nodes′ : List Word} {groups groups′ : List ℕ} (same : SamePartition rows rows′ nodes nodes′ groups groups′)
   where
-    at-node : (w : Word) → In w nodes → Corresponds nodes nodes′ groups groups′ (groupAt nodes groups w) (groupAt nodes′ groups′ w)
+    -- the groups of a common node correspond
+    at-node :
+        (w : Word) → In w nodes →
+        Corresponds nodes nodes′ groups groups′ (groupAt nodes groups w) (groupAt nodes′ groups′ w)
     at-node w m = record { node = w; is-node = m; is-node′ = same .same-nodes w .0 m; group = refl; group′ = refl }
 
+    -- corresponding groups are one where the others are
     one-group :
-        (g g′ h h′ : ℕ) → Corresponds nodes nodes′ groups groups′ g g′ → Corresponds nodes nodes′ groups groups′ h h′ → g ≡ h → g′ ≡ h′
+        (g g′ h h′ : ℕ) → Corresponds nodes nodes′ groups groups′ g g′ → Corresponds nodes nodes′ groups groups′ h h′ →
+        g ≡ h → g′ ≡ h′
     one-group g g′ h h′ r s e =
         let k : Ker nodes′ groups′ (r .node) (s .node) =
         same .inside .related (r .node) (s .node) (r .is-node) (s .is-node) (r .group ∙ e ∙ sym (s .group)) in
@@ -92,17 +87,12 @@ module _
         (g g′ : ℕ) → Corresponds nodes nodes′ groups groups′ g g′ → (a : Arc) → In a (arcsOutOf g (transitionsOf nodes groups)) →
         (b : Arc) × In b (arcsOutOf g′ (transitionsOf nodes′ groups′)) × ArcsAgree (Corresponds nodes nodes′ groups groups′) a b
     arc-there g g′ r a m =
-        let t = transitions-in nodes groups (transition g (a .name) (a .to))
-        (arcsOutOf-in g (a .name) (a .to) (transitionsOf nodes groups) m) in
+        let x : ℕ = a .name in
+        let t = arc-node nodes groups (same .tree) g x (a .to) (arcsOutOf-in g x (a .to) (transitionsOf nodes groups) m) in
         let w : Word = t .0 in
-        let x : ℕ = t .1 in
         let end : In (w ▸ x) nodes = t .2 in
-        let begin : In w nodes = same .tree .parent w x end in
-        let from : g ≡ groupAt nodes groups w = ap (λ (u : Transition). u .from) (t .3) in
-        let named : a .name ≡ x = ap (λ (u : Transition). u .name) (t .3) in
-        let to : a .to ≡ groupAt nodes groups (w ▸ x) = ap (λ (u : Transition). u .to) (t .3) in
         let from′ : groupAt nodes′ groups′ w ≡ g′ =
-        one-group (groupAt nodes groups w) (groupAt nodes′ groups′ w) g g′ (at-node w begin) r (sym from) in
+        one-group (groupAt nodes groups w) (groupAt nodes′ groups′ w) g g′ (at-node w (t .1)) r (t .3) in
         let y : ℕ = groupAt nodes′ groups′ (w ▸ x) in
         let goes : In (transition g′ x y) (transitionsOf nodes′ groups′) =
         subst (λ (z : ℕ). In (transition z x y) (transitionsOf nodes′ groups′)) from′
@@ -110,8 +100,8 @@ module _
           arc x y,
           in-arcsOutOf g′ x y (transitionsOf nodes′ groups′) (same .det′) goes,
           record {
-            names = named;
-            targets = subst (λ (z : ℕ). Corresponds nodes nodes′ groups groups′ z y) (sym to) (at-node (w ▸ x) end);
+            names = refl;
+            targets = subst (λ (z : ℕ). Corresponds nodes nodes′ groups groups′ z y) (t .4) (at-node (w ▸ x) end);
           },
         )
 
@@ -130,6 +120,7 @@ module _
 module _
     {rows rows′ nodes nodes′ : List Word} {groups groups′ : List ℕ} (same : SamePartition rows rows′ nodes nodes′ groups groups′)
   where
+    -- so the tests for one group agree
     one-to-one :
         (g g′ h h′ : ℕ) → Corresponds nodes nodes′ groups groups′ g g′ → Corresponds nodes nodes′ groups groups′ h h′ →
         eqb g h ≡ eqb g′ h′
@@ -137,6 +128,7 @@ module _
         same-tests (tells-eqb g h) (tells-eqb g′ h′) (one-group same g g′ h h′ r s)
         (one-group (swapped same) g′ g h′ h (turned r) (turned s))
 
+    -- the arcs of corresponding groups agree one by one
     arcs-paired :
         (g g′ : ℕ) → Corresponds nodes nodes′ groups groups′ g g′ →
         Paired (ArcsAgree (Corresponds nodes nodes′ groups groups′))
@@ -149,6 +141,7 @@ module _
         let f = arc-there (swapped same) g′ g (turned r) b m in
         (f .0, f .1, record { names = sym (f .2 .names); targets = turned (f .2 .targets) }))
 
+    -- corresponding groups are met in the same order
     met-paired : Paired (Corresponds nodes nodes′ groups groups′) (metGroups nodes groups) (metGroups nodes′ groups′)
     unfolding metGroups
     met-paired =
@@ -159,10 +152,12 @@ module _
         let lengths : length nodes ≡ length nodes′ =
         same-length nodes nodes′ (same .tree .distinct) (same .tree′ .distinct) (λ w. same .same-nodes w .0)
         (λ w. same .same-nodes w .1) in
-        subst (λ (n : ℕ). Paired (Corresponds nodes nodes′ groups groups′) (metFrom (length nodes) 0 ts start) (metFrom n 0 ts′ start′))
+        let first = metFrom (length nodes) 0 ts start in
+        subst (λ (n : ℕ). Paired (Corresponds nodes nodes′ groups groups′) first (metFrom n 0 ts′ start′))
         lengths
         (metFrom-paired one-to-one ts ts′ arcs-paired (length nodes) 0 (pair (at-node same [] (same .tree .root)) none))
 
+    -- and become the same state
     state-same :
         (g g′ : ℕ) → Corresponds nodes nodes′ groups groups′ g g′ →
         stateOf rows nodes groups (metGroups nodes groups) g ≡ stateOf rows′ nodes′ groups′ (metGroups nodes′ groups′) g′
@@ -173,6 +168,7 @@ module _
         (accepts-there (swapped same) g′ g (turned r)))
         (renumbered-paired one-to-one met-paired (arcs-paired g g′ r))
 
+-- so the states are the same
 pub numbering-law :
     (rows rows′ nodes nodes′ : List Word) (groups groups′ : List ℕ) → SamePartition rows rows′ nodes nodes′ groups groups′ →
     statesOf rows nodes groups ≡ statesOf rows′ nodes′ groups′

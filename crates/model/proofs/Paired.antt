@@ -14,7 +14,7 @@ use Rattle.model.specs.Lists.{any, isIn, indexIn}
 use Rattle.model.specs.Tables.{Arc, arc}
 use Rattle.model.specs.Joinings.{Transition}
 use Rattle.model.specs.Quotients.{arcsOutOf, metWith, metFrom, renumbered}
-use Rattle.model.proofs.Arcs.{Ascending}
+use Rattle.model.proofs.Arcs.{Ascending, ascending-low, after-first}
 
 -- two arcs of one name with related targets
 pub record ArcsAgree (R : ℕ → ℕ → Type 0) (a b : Arc) : Type 0 where
@@ -22,6 +22,7 @@ pub record ArcsAgree (R : ℕ → ℕ → Type 0) (a b : Arc) : Type 0 where
   pub targets : R (a .to) (b .to)
 
 module _ {A B : Type 0} {R : A → B → Type 0} where
+  -- pairs in lists of one length, appended, chosen, by place and mapped
   pub paired-length : {xs : List A} {ys : List B} → Paired R xs ys → length xs ≡ length ys
   paired-length none = refl
   paired-length (pair {l₁ = xs} {l₂ = ys} r rest) = ap suc (paired-length {xs = xs} {ys = ys} rest)
@@ -54,6 +55,7 @@ module _ {A B : Type 0} {R : A → B → Type 0} where
 
 -- a relation of groups that is one to one, by its tests
 module _ {R : ℕ → ℕ → Type 0} (one-to-one : (g g′ h h′ : ℕ) → R g g′ → R h h′ → eqb g h ≡ eqb g′ h′) where
+  -- what is in the one list is in the other, at the same place
   isIn-paired : (x y : ℕ) {xs ys : List ℕ} → R x y → Paired R xs ys → isIn x xs ≡ isIn y ys
   unfolding isIn any
   isIn-paired x y r none = refl
@@ -67,6 +69,7 @@ module _ {R : ℕ → ℕ → Type 0} (one-to-one : (g g′ h h′ : ℕ) → R 
       ap₂ (λ (b : Bool) (n : ℕ). elim b as (λ c. ℕ) [ true ↦ 0 | false ↦ suc n ])
       (one-to-one x y u v r s) (indexIn-paired x y {xs = us} {ys = vs} r rest)
 
+  -- the groups met by agreeing arcs are paired
   metWith-paired :
       {met met′ : List ℕ} {arcs arcs′ : List Arc} → Paired R met met′ → Paired (ArcsAgree R) arcs arcs′ →
       Paired R (metWith met arcs) (metWith met′ arcs′)
@@ -78,6 +81,7 @@ module _ {R : ℕ → ℕ → Type 0} (one-to-one : (g g′ h h′ : ℕ) → R 
       (paired-append m (pair (s .targets) none)))
       rest
 
+  -- and so are all groups met, where arcs out of related groups agree
   pub metFrom-paired :
       (ts ts′ : List Transition) →
       ((g g′ : ℕ) → R g g′ → Paired (ArcsAgree R) (arcsOutOf g ts) (arcsOutOf g′ ts′)) →
@@ -89,6 +93,7 @@ module _ {R : ℕ → ℕ → Type 0} (one-to-one : (g g′ h h′ : ℕ) → R 
       (paired-cond (ltb i (length met)) (ltb i (length met′)) (ap (λ (k : ℕ). ltb i k) (paired-length m))
       (λ e. metWith-paired m (outs (getD met i 0) (getD met′ i 0) (paired-nth m i 0 0 (ltb-true i (length met) e)))) m)
 
+  -- and the renumbered arcs are the same
   pub renumbered-paired :
       {met met′ : List ℕ} {arcs arcs′ : List Arc} → Paired R met met′ → Paired (ArcsAgree R) arcs arcs′ →
       renumbered met arcs ≡ renumbered met′ arcs′
@@ -97,19 +102,9 @@ module _ {R : ℕ → ℕ → Type 0} (one-to-one : (g g′ h h′ : ℕ) → R 
       paired-map (λ (a : Arc). arc (a .name) (indexIn (a .to) met)) (λ (b : Arc). arc (b .name) (indexIn (b .to) met′))
       (λ a b s. ap₂ arc (s .names) (indexIn-paired (a .to) (b .to) (s .targets) m)) p
 
-ascending-above : (next : ℕ) (arcs : List Arc) → Ascending next arcs → (a : Arc) → In a arcs → next ≤ a .name
-ascending-above next [] p a m = absurd (List·Memᴰ·not-nil m)
-ascending-above next (x ∷ arcs) p a m = go (List·Memᴰ·cases-cons m) (λ n. ascending-above (suc (x .name)) arcs (p .1) a n)
-  where
-    go : (a ≡ x) ⊎ In a arcs → (In a arcs → suc (x .name) ≤ a .name) → next ≤ a .name
-    go (inl e) again = subst (λ (z : Arc). next ≤ z .name) (sym e) (p .0)
-    go (inr n) again =
-        let low : next ≤ x .name = p .0 in
-        let above : suc (x .name) ≤ a .name = again n in
-        omega arith
-
 -- ascending arcs, each with an agreeing one on the other side, agree one by one
 module _ {R : ℕ → ℕ → Type 0} where
+  -- the first arcs agree
   head-agrees :
       (next : ℕ) (x y : Arc) (xs ys : List Arc) → Ascending next (x ∷ xs) → Ascending next (y ∷ ys) →
       ((b : Arc) × In b (y ∷ ys) × ArcsAgree R x b) → ((a : Arc) × In a (x ∷ xs) × ArcsAgree R a y) → ArcsAgree R x y
@@ -118,38 +113,12 @@ module _ {R : ℕ → ℕ → Type 0} where
       go : (there′ .0 ≡ y) ⊎ In (there′ .0) ys → ArcsAgree R x y
       go (inl e) = subst (λ (z : Arc). ArcsAgree R x z) e (there′ .2)
       go (inr n) =
-          let above : suc (y .name) ≤ there′ .0 .name = ascending-above (suc (y .name)) ys (q .1) (there′ .0) n in
-          let below : x .name ≤ back .0 .name = ascending-above (x .name) (x ∷ xs) (omega arith, p .1) (back .0) (back .1) in
+          let above : suc (y .name) ≤ there′ .0 .name = ascending-low (suc (y .name)) ys (there′ .0) (q .1) n in
+          let below : x .name ≤ back .0 .name = ascending-low (x .name) (x ∷ xs) (back .0) (omega arith, p .1) (back .1) in
           let one : x .name ≡ there′ .0 .name = there′ .2 .names in
           let two : back .0 .name ≡ y .name = back .2 .names in
           let z : ⊥ = omega arith in
           absurd z
-
-  tail-agrees :
-      (x y : Arc) (ys : List Arc) → x .name ≡ y .name → (a : Arc) → suc (x .name) ≤ a .name →
-      ((b : Arc) × In b (y ∷ ys) × ArcsAgree R a b) → (b : Arc) × In b ys × ArcsAgree R a b
-  tail-agrees x y ys same a above found = go (List·Memᴰ·cases-cons (found .1))
-    where
-      go : (found .0 ≡ y) ⊎ In (found .0) ys → (b : Arc) × In b ys × ArcsAgree R a b
-      go (inl e) =
-          let one : a .name ≡ found .0 .name = found .2 .names in
-          let two : found .0 .name ≡ y .name = ap (λ (z : Arc). z .name) e in
-          let z : ⊥ = omega arith in
-          absurd z
-      go (inr n) = (found .0, n, found .2)
-
-  back-agrees :
-      (x y : Arc) (xs : List Arc) → x .name ≡ y .name → (b : Arc) → suc (y .name) ≤ b .name →
-      ((a : Arc) × In a (x ∷ xs) × ArcsAgree R a b) → (a : Arc) × In a xs × ArcsAgree R a b
-  back-agrees x y xs same b above found = go (List·Memᴰ·cases-cons (found .1))
-    where
-      go : (found .0 ≡ x) ⊎ In (found .0) xs → (a : Arc) × In a xs × ArcsAgree R a b
-      go (inl e) =
-          let one : found .0 .name ≡ b .name = found .2 .names in
-          let two : found .0 .name ≡ x .name = ap (λ (z : Arc). z .name) e in
-          let z : ⊥ = omega arith in
-          absurd z
-      go (inr n) = (found .0, n, found .2)
 
   pub ascending-paired :
       (next : ℕ) (xs ys : List Arc) → Ascending next xs → Ascending next ys →
@@ -164,5 +133,11 @@ module _ {R : ℕ → ℕ → Type 0} where
       let from : Ascending (suc (x .name)) ys = subst (λ (n : ℕ). Ascending (suc n) ys) (sym same) (q .1) in
       pair agree
       (ascending-paired (suc (x .name)) xs ys (p .1) from
-      (λ a m. tail-agrees x y ys same a (ascending-above (suc (x .name)) xs (p .1) a m) (f a (there m)))
-      (λ b m. back-agrees x y xs same b (ascending-above (suc (y .name)) ys (q .1) b m) (g b (there m))))
+      (λ a m.
+      let found = f a (there m) in
+      let above = ascending-low (suc (x .name)) xs a (p .1) m in
+      (found .0, after-first y ys (found .0) (omega (arith, found .2 .names)) (found .1), found .2))
+      (λ b m.
+      let found = g b (there m) in
+      let above = ascending-low (suc (y .name)) ys b (q .1) m in
+      (found .0, after-first x xs (found .0) (omega (arith, found .2 .names)) (found .1), found .2)))

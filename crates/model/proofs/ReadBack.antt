@@ -1,4 +1,5 @@
--- Written fields are read back one by one: names, the class, states. Assumes nothing.
+-- Written fields are read back, whatever was read before them: one field, then names, the class and states, and with them a
+-- whole table. Assumes nothing.
 use mathlib.Core.Path.{_≡_, refl, sym, ap, _∙_, subst}
 use mathlib.Core.Bool.{true}
 use mathlib.Core.List.{List, [], _∷_, _++_, map, flatMap, append-nil, append-assoc, List·Memᴰ as In, List·Memᴰ·head as here}
@@ -19,6 +20,7 @@ use Rattle.model.proofs.Books.{NamesOk}
 abbrev pub ReadsTo : File → List ℕ → Read → Type 0
 ReadsTo f s r = (l : ℕ) → length s < l → readFrom l table f s ≡ r
 
+-- a field without a fault is read, and the rest after it
 reads-field :
     (f : File) (mark : ℕ) (body rest : List ℕ) (r : Read) → fieldFault table f mark body ≡ 0 →
     ReadsTo (withField f mark body) rest r → ReadsTo f (fieldBytes mark body ++ rest) r
@@ -28,6 +30,7 @@ reads-field f mark body rest r ok again (suc l) h =
     one-field l table f mark (length body / 256) (length body % 256) body rest (sym (two-bytes (length body))) ok
     ∙ again l (omega (arith, length-append body rest))
 
+-- a name, where names may come
 reads-name :
     (stage : ℕ) (names : List (List ℕ)) (c : Class) (body rest : List ℕ) (r : Read) → stage ≤ 1 → NameFits names body →
     ReadsTo (file 1 (names ++ (body ∷ [])) c []) rest r → ReadsTo (file stage names c []) (fieldBytes 1 body ++ rest) r
@@ -39,7 +42,8 @@ reads-name stage names c body rest r low fits again =
 -- at least one name is among those read and these
 reads-names :
     (stage : ℕ) (names more : List (List ℕ)) (c : Class) (rest : List ℕ) (r : Read) → stage ≤ 1 → (length more ≡ 0 → stage ≡ 1) →
-    NamesOk names more → ReadsTo (file 1 (names ++ more) c []) rest r → ReadsTo (file stage names c []) (nameFields more ++ rest) r
+    NamesOk names more → ReadsTo (file 1 (names ++ more) c []) rest r →
+    ReadsTo (file stage names c []) (nameFields more ++ rest) r
 unfolding nameFields flatMap
 reads-names stage names [] c rest r low named ok again =
     subst (λ (k : ℕ). ReadsTo (file k names c []) rest r) (sym (named refl))
@@ -50,6 +54,7 @@ reads-names stage names (n ∷ more) c rest r low named ok again =
     (reads-names 1 (names ++ (n ∷ [])) more c rest r (omega arith) (λ e. refl) (ok .1)
     (subst (λ (z : List (List ℕ)). ReadsTo (file 1 z c []) rest r) (sym (append-assoc names (n ∷ []) more)) again)))
 
+-- the class, after the names
 reads-class :
     (names : List (List ℕ)) (d c : Class) (rest : List ℕ) (r : Read) → ClassOk c →
     ReadsTo (file 2 names c []) rest r → ReadsTo (file 1 names d []) (classField c ++ rest) r
@@ -58,6 +63,7 @@ reads-class names d c rest r ok again =
     let body = c .kind ∷ (c .first ∷ (c .second ∷ [])) in
     reads-field (file 1 names d []) 2 body rest r (fits-class body ok) again
 
+-- a state, after the class
 reads-state :
     (stage : ℕ) (names items : List (List ℕ)) (c : Class) (body rest : List ℕ) (r : Read) → 2 ≤ stage →
     StateFits (length names) items body → ReadsTo (file 3 names c (items ++ (body ∷ []))) rest r →
@@ -79,7 +85,8 @@ reads-states :
 unfolding stateFields flatMap readFrom
 reads-states stage names items c [] high some ok few zero h = let z : ⊥ = omega arith in absurd z
 reads-states stage names items c [] high some ok few (suc l) h =
-    subst (λ (k : ℕ). readFrom (suc l) table (file k names c items) [] ≡ accepted-file (file 3 names c (items ++ []))) (sym (some refl))
+    subst (λ (k : ℕ). readFrom (suc l) table (file k names c items) [] ≡ accepted-file (file 3 names c (items ++ [])))
+    (sym (some refl))
     (ap (λ (z : List (List ℕ)). accepted-file (file 3 names c z)) (sym (append-nil items)))
 reads-states stage names items c (s ∷ states) high some ok few l h =
     let body = stateBody s in

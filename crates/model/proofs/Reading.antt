@@ -8,17 +8,19 @@ use native.Mathlib.Omega.{arith}
 use lib.ListN.{length, length-append}
 use Rattle.model.specs.Limits.{name-limit, state-limit, input-limit, when, firstOf, bad-numbering}
 use Rattle.model.specs.Fields.{file, table, readFields, readWith, default-class, accepted-file}
-use Rattle.model.specs.Tables.{State, fieldBytes, nameFields, classField, stateFields, stateBody, statesIn, tableBytes, isFirstMet}
+use Rattle.model.specs.Tables.{State, fieldBytes, nameFields, classField, stateFields, stateBody, tableBytes}
+use Rattle.model.specs.Tables.{isFirstMet}
 use Rattle.model.specs.Calls.{bookOf, sizesFault, tableStates, tableFault, rewritten}
 use Rattle.model.specs.Claims.{Accepted, AllBytes}
 use Rattle.model.proofs.Writable.{Writable, arcCount}
 use Rattle.model.proofs.FieldLaws.{first-of}
-use Rattle.model.proofs.StateBodies.{body-ok, states-read-back}
+use Rattle.model.proofs.StateBodies.{body-ok}
 use Rattle.model.proofs.Books.{accepted-book, tells-allBelow}
 use Rattle.model.proofs.ReadBack.{reads-table}
 use Rattle.model.proofs.WrittenLengths.{name-fields-length, names-few, state-fields-length}
 use Rattle.model.proofs.Rewriting.{bytes-of, rewritten-same}
 
+-- a list that is not empty has an element
 first-in : (rows : List (List ℕ)) → 1 ≤ length rows → (r : List ℕ) × In r rows
 first-in [] h = let z : ⊥ = omega arith in absurd z
 first-in (r ∷ rows) h = (r, here refl)
@@ -30,7 +32,9 @@ accepted-has-row s ok =
     first-in (bookOf s .items) (r .1 .some-row (omega (arith, r .0)))
 
 -- entries of its rows are numbers of its names
-pub accepted-entries : (s : List ℕ) → Accepted s → (r : List ℕ) → In r (bookOf s .items) → (a : ℕ) → In a r → a < length (bookOf s .names)
+pub accepted-entries :
+    (s : List ℕ) → Accepted s → (r : List ℕ) → In r (bookOf s .items) → (a : ℕ) → In a r →
+    a < length (bookOf s .names)
 accepted-entries s ok r m a n = tells-allBelow (length (bookOf s .names)) r .fact (accepted-book s ok .1 .rows-below r m) a n
 
 -- a table with the book's names and class, and states that can be written, is read back
@@ -43,13 +47,12 @@ reads-written s states ok w =
     let b = accepted-book s ok in
     let names = bookOf s .names in
     let bytes = tableBytes names (bookOf s .class-is) states in
-    reads-table names default-class (bookOf s .class-is) states (b .1 .names-ok) (b .1 .named (omega (arith, b .0))) (b .1 .class-ok)
+    reads-table names default-class (bookOf s .class-is) states
+    (b .1 .names-ok) (b .1 .named (omega (arith, b .0))) (b .1 .class-ok)
     (λ t m. body-ok (length names) t (w .ascending t m) (λ a n. w .names-below t a m n)) (w .some-state) (w .few-states)
     (suc (length bytes)) (omega arith)
 
-pub states-read : (n : ℕ) (states : List State) → Writable n states → statesIn (map stateBody states) ≡ states
-states-read n states w = states-read-back states
-
+-- and has no more bytes than an input may have
 pub written-length :
     (s : List ℕ) (states : List State) → Accepted s → Writable (length (bookOf s .names)) states →
     length (tableBytes (bookOf s .names) (bookOf s .class-is) states) ≤ input-limit

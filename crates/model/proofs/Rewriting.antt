@@ -3,9 +3,8 @@
 use mathlib.Core.Path.{_≡_, refl, sym, ap, ap₂, _∙_, subst}
 use mathlib.Core.Logic.{⊎-elim}
 use mathlib.Core.Bool.{Bool, true, false, cond, true≢false}
-use mathlib.Core.List.{List, [], _∷_, _++_, flatMap, append-nil, append-assoc, List·Memᴰ as In}
-use mathlib.Core.List.{List·Memᴰ·head as here, List·Memᴰ·tail as there}
-use mathlib.Core.List.{List·Memᴰ·not-nil, List·Memᴰ·append-cases, List·Memᴰ·eq-of-singleton}
+use mathlib.Core.List.{List, [], _∷_, _++_, flatMap, append-nil, append-assoc, List·Memᴰ as In, List·Memᴰ·head as here}
+use mathlib.Core.List.{List·Memᴰ·tail as there, List·Memᴰ·not-nil, List·Memᴰ·append-cases, List·Memᴰ·eq-of-singleton}
 use Prim.Native.Nat.{ℕ, suc, _+_, _*_, _/_, _%_, _≤_, _<_}
 use native.Mathlib.Omega.{arith}
 use lib.Dec.{leb}
@@ -19,10 +18,12 @@ use Rattle.model.proofs.FieldLaws.{StateFits, Fitting, a-name, a-class,
 use Rattle.model.proofs.Turns.{read-keeps}
 use Rattle.model.proofs.StateBodies.{Bytes, body-rewritten}
 
+-- numbers below 256 at every place
 pub bytes-of : (s : List ℕ) → ((i : ℕ) → i < length s → getD s i 0 < 256) → Bytes s
 bytes-of [] h = tt
 bytes-of (x ∷ s) h = (h 0 (omega arith), bytes-of s (λ i p. h (suc i) (omega arith)))
 
+-- both parts of bytes are bytes
 bytes-parts : (xs ys : List ℕ) → Bytes (xs ++ ys) → Bytes xs × Bytes ys
 bytes-parts [] ys h = (tt, h)
 bytes-parts (x ∷ xs) ys h = let r = bytes-parts xs ys (h .1) in ((h .0, r .0), r .1)
@@ -63,7 +64,8 @@ class-again body ok =
 
 -- names, the class if it is read, and items, written, and then what is left
 abbrev written : List (List ℕ) → Bool → Class → List (List ℕ) → List ℕ → List ℕ
-written names class-read c items rest = nameFields names ++ (cond class-read (classField c) [] ++ (flatMap (fieldBytes 4) items ++ rest))
+written names class-read c items rest =
+    nameFields names ++ (cond class-read (classField c) [] ++ (flatMap (fieldBytes 4) items ++ rest))
 
 -- a table as read so far, of the input s
 record Rewrites (s : List ℕ) (f : File) (rest : List ℕ) : Type 0 where
@@ -73,9 +75,13 @@ record Rewrites (s : List ℕ) (f : File) (rest : List ℕ) : Type 0 where
   bodies : (r : List ℕ) → In r (f .items) → stateBody (stateIn r) ≡ r
 
 module _ (s : List ℕ) (f : File) (a b : ℕ) (body rest : List ℕ) (size : length body ≡ 256 * a + b) where
-  front : (mark : ℕ) → Rewrites s f (mark ∷ (a ∷ (b ∷ (body ++ rest)))) → mark ∷ (a ∷ (b ∷ (body ++ rest))) ≡ fieldBytes mark body ++ rest
+  -- the field in front is as it is written
+  front :
+      (mark : ℕ) → Rewrites s f (mark ∷ (a ∷ (b ∷ (body ++ rest)))) →
+      mark ∷ (a ∷ (b ∷ (body ++ rest))) ≡ fieldBytes mark body ++ rest
   front mark h = field-again mark a b body rest size (h .bytes .1 .1 .0)
 
+  -- it stays so after a name, the class, a state
   with-name : f .stage ≤ 1 → Rewrites s f (1 ∷ (a ∷ (b ∷ (body ++ rest)))) → Rewrites s (withField f 1 body) rest
   unfolding withField nameFields flatMap
   with-name low h =
@@ -92,7 +98,9 @@ module _ (s : List ℕ) (f : File) (a b : ℕ) (body rest : List ℕ) (size : le
         bodies = h .bodies;
       }
 
-  with-class : f .stage ≡ 1 → classOk body ≡ true → Rewrites s f (2 ∷ (a ∷ (b ∷ (body ++ rest)))) → Rewrites s (withField f 2 body) rest
+  with-class :
+      f .stage ≡ 1 → classOk body ≡ true → Rewrites s f (2 ∷ (a ∷ (b ∷ (body ++ rest)))) →
+      Rewrites s (withField f 2 body) rest
   unfolding withField flatMap
   with-class at ok h =
       let no-items = h .no-items (omega arith) in
@@ -128,6 +136,7 @@ module _ (s : List ℕ) (f : File) (a b : ℕ) (body rest : List ℕ) (size : le
             (List·Memᴰ·append-cases (f .items) m);
       }
 
+  -- for the mark as it was read
   at-mark :
       (mark m : ℕ) → mark ≡ m →
       (Rewrites s f (m ∷ (a ∷ (b ∷ (body ++ rest)))) → Rewrites s (withField f m body) rest) →
@@ -136,6 +145,7 @@ module _ (s : List ℕ) (f : File) (a b : ℕ) (body rest : List ℕ) (size : le
       subst (λ (z : ℕ). Rewrites s (withField f z body) rest) (sym e)
       (step (subst (λ (z : ℕ). Rewrites s f (z ∷ (a ∷ (b ∷ (body ++ rest))))) e h))
 
+  -- so it does after any field without a fault
   table-step :
       (mark : ℕ) → Fitting table f mark body → Rewrites s f (mark ∷ (a ∷ (b ∷ (body ++ rest)))) →
       Rewrites s (withField f mark body) rest
@@ -144,6 +154,7 @@ module _ (s : List ℕ) (f : File) (a b : ℕ) (body rest : List ℕ) (size : le
   table-step mark (a-row k e high fits) h = absurd (true≢false k)
   table-step mark (a-state k e high fits) h = at-mark mark 4 e (with-state high fits) h
 
+-- before the first field
 nothing-read : (s : List ℕ) → Bytes s → Rewrites s (unread default-class) s
 unfolding nameFields flatMap
 nothing-read s bytes = record { same = refl; no-items = λ h. refl; bytes = bytes; bodies = λ r m. absurd (List·Memᴰ·not-nil m) }
@@ -157,6 +168,7 @@ states-again [] h = refl
 states-again (r ∷ items) h =
     ap₂ (λ (x xs : List ℕ). fieldBytes 4 x ++ xs) (h r (here refl)) (states-again items (λ q m. h q (there m)))
 
+-- so an accepted table is rewritten to the same bytes
 pub rewritten-same : (s : List ℕ) → Bytes s → readFields table s .number ≡ 0 → rewritten s ≡ s
 unfolding rewritten tableStates tableOf tableBytes readWith
 rewritten-same s bytes ok =

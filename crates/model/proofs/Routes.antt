@@ -1,36 +1,20 @@
 -- The paths that the context rule runs over, as walks: a path taken apart after each of its arcs, a path for any two walks in
 -- succession, and what `afterSameArc` tells of two paths. Assumes nothing.
 use mathlib.Core.Path.{_≡_, refl, sym, ap, _∙_, subst}
-use mathlib.Core.Logic.{⊎-elim}
 use mathlib.Core.Bool.{Bool, true, false, false≢true}
-use mathlib.Core.List.{List, [], _∷_, _++_, map, List·Memᴰ as In, List·Memᴰ·head as here, List·Memᴰ·tail as there}
-use mathlib.Core.List.{List·Memᴰ·not-nil, List·Memᴰ·cases-cons, List·Memᴰ·eq-of-singleton, Memᴰ·cast}
-use Prim.Native.Nat.{ℕ, zero, suc, _+_, _-_, _≤_, _<_}
+use mathlib.Core.List.{List, [], _∷_, _++_, map, List·Memᴰ as In, List·Memᴰ·head as here}
+use mathlib.Core.List.{List·Memᴰ·not-nil, List·Memᴰ·eq-of-singleton, Memᴰ·cast, Memᴰ·map}
+use Prim.Native.Nat.{ℕ, zero, suc, _-_, _≤_}
 use native.Mathlib.Omega.{arith}
 use lib.Dec.{eqb}
 use lib.ListN.{length, getD, take, drop}
 use Rattle.model.specs.Classes.{Word}
 use Rattle.model.specs.Lists.{numbersFrom}
 use Rattle.model.specs.Joinings.{Transition, transition, Route, route, routesFrom, afterSameArc}
-use Rattle.model.proofs.Tests.{Tells, tells-eqb, tells-and, tells-any, tells-by, eq-dec}
-use Rattle.model.proofs.Lists.{in-map, map-in, in-flatMap, flatMap-in}
+use Rattle.model.proofs.Tests.{Tells, tells-eqb, tells-and, tells-any, tells-by}
+use Rattle.model.proofs.Lists.{map-in, in-flatMap, flatMap-in}
+use Rattle.model.proofs.Places.{in-numbersFrom, numbersFrom-in}
 use Rattle.model.proofs.Notions.{Walks}
-
--- ---- numbers in succession
-
-pub in-numbersFrom : (n i j : ℕ) → i ≤ j → j < i + n → In j (numbersFrom n i)
-unfolding numbersFrom
-in-numbersFrom zero i j low high = let z : ⊥ = omega arith in absurd z
-in-numbersFrom (suc n) i j low high =
-    ⊎-elim (λ e. here e) (λ d. there (in-numbersFrom n (suc i) j (omega (arith, d)) (omega arith))) (eq-dec j i)
-
-pub numbersFrom-in : (n i j : ℕ) → In j (numbersFrom n i) → (i ≤ j) × (j < i + n)
-unfolding numbersFrom
-numbersFrom-in zero i j m = absurd (List·Memᴰ·not-nil m)
-numbersFrom-in (suc n) i j m =
-    ⊎-elim (λ e. (omega (arith, e), omega (arith, e)))
-    (λ k. let r = numbersFrom-in n (suc i) j k in (omega (arith, r .0), omega (arith, r .1)))
-    (List·Memᴰ·cases-cons m)
 
 -- x and y stand after the same arc of two paths
 pub tells-afterSameArc :
@@ -40,7 +24,8 @@ pub tells-afterSameArc :
 unfolding afterSameArc
 tells-afterSameArc k h x y r s =
     tells-by
-    (tells-any (λ i. tells-and (tells-eqb (getD (r .groups) i 0) x) (tells-eqb (getD (s .groups) i 0) y)) (numbersFrom (suc k - h) h))
+    (tells-any (λ i. tells-and (tells-eqb (getD (r .groups) i 0) x) (tells-eqb (getD (s .groups) i 0) y))
+    (numbersFrom (suc k - h) h))
     (λ f. let b = numbersFrom-in (suc k - h) h (f .0) (f .1) in (f .0, b .0, omega (arith, b .0, b .1), f .2 .0, f .2 .1))
     (λ f. (f .0, in-numbersFrom (suc k - h) h (f .0) (f .1) (omega (arith, f .1, f .2)), (f .3, f .4)))
 
@@ -52,6 +37,7 @@ module _ (ts : List Transition) where
   Steps n g r =
       (a z : ℕ) × In (transition g a z) ts × (s : Route) × In s (routesFrom ts n z) × (r ≡ route (a ∷ s .names) (g ∷ s .groups))
 
+  -- every path of one arc more is such a step
   route-steps : (n g : ℕ) (r : Route) → In r (routesFrom ts (suc n) g) → Steps n g r
   unfolding routesFrom
   route-steps n g r m =
@@ -76,6 +62,7 @@ module _ (ts : List Transition) where
           )
       go t k false e l = absurd (List·Memᴰ·not-nil l)
 
+  -- a path has as many names as arcs
   pub route-length : (n g : ℕ) (r : Route) → In r (routesFrom ts n g) → length (r .names) ≡ n
   unfolding routesFrom
   route-length zero g r m = ap (λ (s : Route). length (s .names)) (List·Memᴰ·eq-of-singleton m)
@@ -89,6 +76,7 @@ module _ (ts : List Transition) where
       Walks ts g (take i (r .names)) (getD (r .groups) i 0)
       × ((e : ℕ) × Walks ts (getD (r .groups) i 0) (drop i (r .names)) e)
 
+  -- that is so of each of its arcs
   pub route-through : (n g : ℕ) (r : Route) (i : ℕ) → In r (routesFrom ts n g) → i ≤ n → Through g r i
   unfolding routesFrom
   route-through zero g r zero m h = subst (λ (s : Route). Through g s zero) (sym (List·Memᴰ·eq-of-singleton m)) (refl, (g, refl))
@@ -96,8 +84,9 @@ module _ (ts : List Transition) where
   route-through (suc n) g r zero m h =
       let f = route-steps n g r m in
       let again = route-through n (f .1) (f .3) zero (f .4) (omega arith) in
+      let on = subst (λ (x : ℕ). Walks ts x (f .3 .names) (again .1 .0)) (sym (again .0)) (again .1 .1) in
       subst (λ (s : Route). Through g s zero) (sym (f .5))
-      (refl, (again .1 .0, (f .1, f .2, subst (λ (x : ℕ). Walks ts x (f .3 .names) (again .1 .0)) (sym (again .0)) (again .1 .1))))
+      (refl, (again .1 .0, (f .1, f .2, on)))
   route-through (suc n) g r (suc i) m h =
       let f = route-steps n g r m in
       let again = route-through n (f .1) (f .3) i (f .4) (omega arith) in
@@ -105,6 +94,7 @@ module _ (ts : List Transition) where
 
   -- ---- a path for two walks in succession
 
+  -- an arc in front of a path
   route-with : (n g a z : ℕ) (s : Route) → In (transition g a z) ts → In s (routesFrom ts n z) →
       In (route (a ∷ s .names) (g ∷ s .groups)) (routesFrom ts (suc n) g)
   unfolding routesFrom
@@ -115,13 +105,14 @@ module _ (ts : List Transition) where
             | true ↦ map (λ (r : Route). route (a ∷ r .names) (g ∷ r .groups)) (routesFrom ts n z)
             | false ↦ []
           ])
-      go true e = in-map (λ (r : Route). route (a ∷ r .names) (g ∷ r .groups)) k
+      go true e = Memᴰ·map (λ (r : Route). route (a ∷ r .names) (g ∷ r .groups)) k
       go false e = absurd (false≢true e)
 
   -- a path by these names whose group after arc i is x
   abbrev pub RouteBy : ℕ → Word → ℕ → ℕ → Type 0
   RouteBy g p i x = (r : Route) × In r (routesFrom ts (length p) g) × (r .names ≡ p) × (getD (r .groups) i 0 ≡ x)
 
+  -- a walk gives a path from its first group
   route-along : (p : Word) (g y : ℕ) → Walks ts g p y → RouteBy g p 0 g
   unfolding routesFrom
   route-along [] g y f = (route [] (g ∷ []), here refl, refl, refl)
@@ -133,6 +124,7 @@ module _ (ts : List Transition) where
         refl,
       )
 
+  -- two walks give one through the group between them
   pub route-by : (p q : Word) (g x y : ℕ) → Walks ts g p x → Walks ts x q y → RouteBy g (p ++ q) (length p) x
   route-by [] q g x y f k = subst (λ (z : ℕ). RouteBy z q 0 x) (sym f) (route-along q x y k)
   route-by (a ∷ p) q g x y f k =

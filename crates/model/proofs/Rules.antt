@@ -1,20 +1,20 @@
--- Open steps as facts: what the tests of Joinings tell of two groups. Assumes nothing.
+-- Open steps as facts: what the tests of Joinings tell of two groups. In order: forks, one name into one group, the rule of the
+-- class, open steps, and that in a full joining groups that a rule joins are one. Assumes nothing.
 use mathlib.Core.Path.{_≡_, refl, sym, _∙_}
 use mathlib.Core.Logic.{_⊎_, inl, inr, ⊎-elim}
 use mathlib.Core.Bool.{Bool, true, false, _||_, true≢false, false≢true}
-use mathlib.Core.List.{List, [], _∷_, map, List·Memᴰ as In, Memᴰ·cast, List·Memᴰ·not-nil}
+use mathlib.Core.List.{List, [], _∷_, map, List·Memᴰ as In, Memᴰ·cast, Memᴰ·map, List·Memᴰ·not-nil}
 use Prim.Native.Nat.{ℕ}
 use native.Mathlib.Omega.{arith}
 use lib.Dec.{eqb}
 use lib.ListN.{length}
 use Rattle.model.specs.Fields.{Class}
 use Rattle.model.specs.Classes.{Word}
-use Rattle.model.specs.Joinings.{Transition, transition, transitionsOf, groupsIn, forks, intoOne}
-use Rattle.model.specs.Joinings.{byContext, fOfGroup, byF, byRule, groupAccepts}
-use Rattle.model.specs.Joinings.{Step, step, isOpen, stepsBetween, openSteps, isFull}
-use Rattle.model.proofs.Tests.{Tells, tells-eqb, tells-same, tells-and, tells-or, tells-not, tells-by, tells-anyTwo, tells-isIn}
-use Rattle.model.proofs.Tests.{eq-dec}
-use Rattle.model.proofs.Lists.{in-map, in-flatMap, in-filterBy, filterBy-in}
+use Rattle.model.specs.Joinings.{Transition, transition, transitionsOf, groupsIn, forks, intoOne, byContext, fOfGroup}
+use Rattle.model.specs.Joinings.{byF, byRule, groupAccepts, Step, step, isOpen, stepsBetween, openSteps, isFull}
+use Rattle.model.proofs.Tests.{Tells, tells-eqb, tells-same, tells-and, tells-or, tells-not, tells-by, tells-anyTwo}
+use Rattle.model.proofs.Tests.{tells-isIn, tells-itself, eq-dec}
+use Rattle.model.proofs.Lists.{in-flatMap, in-filterBy, filterBy-in}
 use Rattle.model.proofs.Groups.{in-groupsIn, groupsIn-in}
 use Rattle.model.proofs.Contexts.{paths-from}
 pub use Rattle.model.proofs.Contexts.{TwoPaths, tells-context}
@@ -90,9 +90,6 @@ tells-intoOne ts x y =
       Memᴰ·cast (λ i. transition (sym from-y i) (same-name i) (same-to i)) n,
     )
 
-tells-itself : (b : Bool) → Tells b (b ≡ true)
-tells-itself b = record { fact = λ e. e; test = λ e. e }
-
 module _ (c : Class) (rows nodes : List Word) (groups : List ℕ) (x y : ℕ) where
   -- equal f, and both accept or one name leads from both into the same group
   abbrev ByF : Type 0
@@ -114,10 +111,18 @@ module _ (c : Class) (rows nodes : List Word) (groups : List ℕ) (x y : ℕ) wh
       ((eqb (c .kind) 0 ≡ true) × TwoPaths (c .first) (c .second) (transitionsOf nodes groups) groups x y)
       ⊎ ((eqb (c .kind) 0 ≡ false) × ByF)
 
+  -- a rule of the class joins the two exactly then
   tells-byRule : Tells (byRule c rows nodes groups x y) ByRule
   unfolding byRule
   tells-byRule = go (eqb (c .kind) 0) refl
     where
+      -- paths do not see how the groups are listed
+      listed :
+          (gs others : List ℕ) → ((g : ℕ) → In g gs → In g others) →
+          TwoPaths (c .first) (c .second) (transitionsOf nodes groups) gs x y →
+          TwoPaths (c .first) (c .second) (transitionsOf nodes groups) others x y
+      listed gs others = paths-from (c .first) (c .second) (transitionsOf nodes groups) gs others x y
+
       go :
           (b : Bool) → eqb (c .kind) 0 ≡ b →
           Tells (elim b as (λ z. Bool) [
@@ -126,12 +131,12 @@ module _ (c : Class) (rows nodes : List Word) (groups : List ℕ) (x y : ℕ) wh
           ]) ByRule
       go true e =
           tells-by (tells-context (c .first) (c .second) (transitionsOf nodes groups) (groupsIn groups) x y)
-          (λ f. inl (e, paths-from (c .first) (c .second) (transitionsOf nodes groups) (groupsIn groups) groups x y (groupsIn-in groups) f))
-          (λ f. ⊎-elim
-          (λ r. paths-from (c .first) (c .second) (transitionsOf nodes groups) groups (groupsIn groups) x y (in-groupsIn groups) (r .1))
+          (λ f. inl (e, listed (groupsIn groups) groups (groupsIn-in groups) f))
+          (λ f. ⊎-elim (λ r. listed groups (groupsIn groups) (in-groupsIn groups) (r .1))
           (λ r. absurd (true≢false (sym e ∙ r .0))) f)
       go false e = tells-by tells-byF (λ f. inr (e, f)) (λ f. ⊎-elim (λ r. absurd (false≢true (sym e ∙ r .0))) (λ r. r .1) f)
 
+  -- the rule of every class: one group has arcs of one name to both
   abbrev Forked : Type 0
   Forked = (g a : ℕ) × In (transition g a x) (transitionsOf nodes groups) × In (transition g a y) (transitionsOf nodes groups)
 
@@ -148,9 +153,11 @@ module _ (c : Class) (rows nodes : List Word) (groups : List ℕ) (x y : ℕ) wh
   of-ruled (by-ends k e f g) = inr (inr (k, (e, inl (f, g))))
   of-ruled (by-back k e a g m n) = inr (inr (k, (e, inr (a, g, m, n))))
 
+  -- a rule joins two groups exactly when there is a reason
   tells-ruled : Tells (forks (transitionsOf nodes groups) x y || byRule c rows nodes groups x y) (Ruled c rows nodes groups x y)
   tells-ruled = tells-by (tells-or (tells-forks (transitionsOf nodes groups) x y) tells-byRule) to-ruled of-ruled
 
+-- and a step is open exactly when it is `Open`
 pub tells-open :
     (c : Class) (rows nodes : List Word) (groups : List ℕ) (x y : ℕ) →
     Tells (isOpen c rows nodes groups (step x y)) (Open c rows nodes groups x y)
@@ -165,7 +172,7 @@ tells-open c rows nodes groups x y =
 -- every step between two of the groups is tried
 in-stepsBetween : (xs ys : List ℕ) (x y : ℕ) → In x xs → In y ys → In (step x y) (stepsBetween xs ys)
 unfolding stepsBetween
-in-stepsBetween xs ys x y m n = in-flatMap (λ (z : ℕ). map (step z) ys) xs m (in-map (step x) n)
+in-stepsBetween xs ys x y m n = in-flatMap (λ (z : ℕ). map (step z) ys) xs m (Memᴰ·map (step x) n)
 
 -- the open steps are those that are open, and no other
 pub in-openSteps :
@@ -174,7 +181,8 @@ pub in-openSteps :
 unfolding openSteps
 in-openSteps c rows nodes groups x y o =
     in-filterBy (isOpen c rows nodes groups) (stepsBetween (groupsIn groups) (groupsIn groups))
-    (in-stepsBetween (groupsIn groups) (groupsIn groups) x y (in-groupsIn groups x (o .left-in)) (in-groupsIn groups y (o .right-in)))
+    (in-stepsBetween (groupsIn groups) (groupsIn groups) x y
+    (in-groupsIn groups x (o .left-in)) (in-groupsIn groups y (o .right-in)))
     (tells-open c rows nodes groups x y .test o)
 
 pub openSteps-in :
@@ -185,6 +193,7 @@ openSteps-in c rows nodes groups s m =
     tells-open c rows nodes groups (s .left) (s .right) .fact
     (filterBy-in (isOpen c rows nodes groups) (stepsBetween (groupsIn groups) (groupsIn groups)) m .1)
 
+-- a list of length 0 has no element
 none-in : {A : Type 0} {x : A} (xs : List A) → In x xs → length xs ≡ 0 → ⊥
 none-in [] m e = List·Memᴰ·not-nil m
 none-in (y ∷ ys) m e = omega arith

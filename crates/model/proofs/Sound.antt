@@ -1,6 +1,6 @@
 -- Every joining stays inside every closed relation that its start lies in: arcs and walks between groups as arcs and ways
 -- between their nodes, then what each rule joins, then one merge, then all the steps. Assumes nothing.
-use mathlib.Core.Path.{_≡_, sym, ap, _∙_, subst, subst₂}
+use mathlib.Core.Path.{_≡_, sym, _∙_, subst, subst₂}
 use mathlib.Core.Logic.{_⊎_, inl, inr}
 use mathlib.Core.Bool.{true, false, and-eq-true-iff}
 use mathlib.Core.List.{List, [], _∷_, List·Memᴰ as In}
@@ -8,28 +8,12 @@ use Prim.Native.Nat.{ℕ}
 use lib.Dec.{eqb}
 use Rattle.model.specs.Fields.{Class}
 use Rattle.model.specs.Classes.{Word}
-use Rattle.model.specs.Joinings.{Transition, transition, transitionsOf, apart, groupAt, merged, memberOf, groupAccepts, fOfGroup}
+use Rattle.model.specs.Joinings.{transition, transitionsOf, apart, groupAt, merged, memberOf, groupAccepts, fOfGroup}
 use Rattle.model.specs.Joinings.{Step, isOpen, afterSteps, allOpen}
 use Rattle.model.proofs.Notions.{Tree, Fits, Walks, Ways, OneContext, Closed, Inside, _▸_}
 use Rattle.model.proofs.Groups.{apart-single, merged-fits, groupAt-merged, mergedTo-cases, member-of, tells-accepts}
-use Rattle.model.proofs.Transitions.{transitions-in}
+use Rattle.model.proofs.Transitions.{arc-node}
 use Rattle.model.proofs.Rules.{Ruled, forked, by-context, by-ends, by-back, TwoPaths, tells-open}
-
--- an arc between groups is an arc between two of their members
-pub arc-node :
-    (nodes : List Word) (groups : List ℕ) → Tree nodes → (x a z : ℕ) → In (transition x a z) (transitionsOf nodes groups) →
-    (v : Word) × In v nodes × In (v ▸ a) nodes × (groupAt nodes groups v ≡ x) × (groupAt nodes groups (v ▸ a) ≡ z)
-arc-node nodes groups tree x a z m =
-    let r = transitions-in nodes groups (transition x a z) m in
-    let name-is : a ≡ r .1 = ap (λ (t : Transition). t .name) (r .3) in
-    let there : In (r .0 ▸ a) nodes = subst (λ (b : ℕ). In (r .0 ▸ b) nodes) (sym name-is) (r .2) in
-    let ends : z ≡ groupAt nodes groups (r .0 ▸ r .1) = ap (λ (t : Transition). t .to) (r .3) in (
-      r .0,
-      tree .parent (r .0) a there,
-      there,
-      sym (ap (λ (t : Transition). t .from) (r .3)),
-      subst (λ (b : ℕ). groupAt nodes groups (r .0 ▸ b) ≡ z) (sym name-is) (sym ends),
-    )
 
 -- a node of the group
 pub record Member (nodes : List Word) (groups : List ℕ) (g : ℕ) : Type 0 where
@@ -38,7 +22,9 @@ pub record Member (nodes : List Word) (groups : List ℕ) (g : ℕ) : Type 0 whe
   pub its-group : groupAt nodes groups node ≡ g
 
 -- every group has a node
-group-member : (nodes : List Word) (groups : List ℕ) → Tree nodes → Fits nodes groups → (g : ℕ) → In g groups → Member nodes groups g
+group-member :
+    (nodes : List Word) (groups : List ℕ) → Tree nodes → Fits nodes groups → (g : ℕ) → In g groups →
+    Member nodes groups g
 group-member nodes groups tree fits g m =
     let r = member-of nodes groups g (tree .distinct) fits m in
     record { node = memberOf nodes groups g; is-node = r .0; its-group = r .1 }
@@ -62,7 +48,8 @@ walks-ways nodes groups R tree inside (a ∷ p) u w m n f =
     let r = arc-node nodes groups tree (groupAt nodes groups u) a (f .0) (f .1) in
     let rest : Walks (transitionsOf nodes groups) (groupAt nodes groups (r .0 ▸ a)) p (groupAt nodes groups w) =
     subst (λ (z : ℕ). Walks (transitionsOf nodes groups) z p (groupAt nodes groups w)) (sym (r .4)) (f .2) in
-    (r .0, r .1, inside .related u (r .0) m (r .1) (sym (r .3)), r .2, walks-ways nodes groups R tree inside p (r .0 ▸ a) w (r .2) n rest)
+    let first : R u (r .0) = inside .related u (r .0) m (r .1) (sym (r .3)) in
+    (r .0, r .1, first, r .2, walks-ways nodes groups R tree inside p (r .0 ▸ a) w (r .2) n rest)
 
 -- the same with the ends' groups named
 ways-between :
@@ -74,12 +61,13 @@ ways-between nodes groups R tree inside p x y u w f =
     (subst₂ (λ (i j : ℕ). Walks (transitionsOf nodes groups) i p j) (sym (u .its-group)) (sym (w .its-group)) f)
 
 -- what is shown of two groups that a rule joins: they have related members
-abbrev Related : List Word → List ℕ → (Word → Word → Type 0) → ℕ → ℕ → Type 0
+abbrev pub Related : List Word → List ℕ → (Word → Word → Type 0) → ℕ → ℕ → Type 0
 Related nodes groups R x y =
     (u w : Word) × In u nodes × In w nodes × (groupAt nodes groups u ≡ x) × (groupAt nodes groups w ≡ y) × R u w
 
 module _ (c : Class) (rows nodes : List Word) (groups : List ℕ) (R : Word → Word → Type 0) (tree : Tree nodes)
     (fits : Fits nodes groups) (closed : Closed c rows nodes R) (inside : Inside nodes groups R) (x y : ℕ) where
+  -- joined by arcs of one name from one group
   forked-related :
       (g a : ℕ) → In (transition g a x) (transitionsOf nodes groups) → In (transition g a y) (transitionsOf nodes groups) →
       Related nodes groups R x y
@@ -89,6 +77,7 @@ module _ (c : Class) (rows nodes : List Word) (groups : List ℕ) (R : Word → 
       let from : R (u .0) (w .0) = inside .related (u .0) (w .0) (u .1) (w .1) (u .3 ∙ sym (w .3)) in
       (u .0 ▸ a, w .0 ▸ a, u .2, w .2, u .4, w .4, closed .fork (u .0) (w .0) a from (u .2) (w .2))
 
+  -- joined by paths of one context
   context-related :
       eqb (c .kind) 0 ≡ true → In x groups → In y groups →
       TwoPaths (c .first) (c .second) (transitionsOf nodes groups) groups x y → Related nodes groups R x y
@@ -122,6 +111,7 @@ module _ (c : Class) (rows nodes : List Word) (groups : List ℕ) (R : Word → 
       } in
       (u .node, w .node, u .is-node, w .is-node, u .its-group, w .its-group, closed .context kind (u .node) (w .node) one)
 
+  -- joined by equal f, where both accept
   ends-related :
       eqb (c .kind) 0 ≡ false → In x groups → In y groups → fOfGroup c nodes groups x ≡ fOfGroup c nodes groups y →
       groupAccepts rows nodes groups x ≡ true → groupAccepts rows nodes groups y ≡ true → Related nodes groups R x y
@@ -144,6 +134,7 @@ module _ (c : Class) (rows nodes : List Word) (groups : List ℕ) (R : Word → 
         closed .ends kind first other (r .0) (q .0) same-f (u .0) (w .0) (r .1) (q .1) near far (r .3) (q .3),
       )
 
+  -- joined by equal f, where one name leads from both into one group
   back-related :
       eqb (c .kind) 0 ≡ false → In x groups → In y groups → fOfGroup c nodes groups x ≡ fOfGroup c nodes groups y →
       (a g : ℕ) → In (transition x a g) (transitionsOf nodes groups) → In (transition y a g) (transitionsOf nodes groups) →
@@ -172,7 +163,7 @@ module _ (c : Class) (rows nodes : List Word) (groups : List ℕ) (R : Word → 
 pub ruled-related :
     (c : Class) (rows nodes : List Word) (groups : List ℕ) (R : Word → Word → Type 0) → Tree nodes → Fits nodes groups →
     Closed c rows nodes R → Inside nodes groups R → (x y : ℕ) → In x groups → In y groups → Ruled c rows nodes groups x y →
-    (u w : Word) × In u nodes × In w nodes × (groupAt nodes groups u ≡ x) × (groupAt nodes groups w ≡ y) × R u w
+    Related nodes groups R x y
 ruled-related c rows nodes groups R tree fits closed inside x y m n (forked g a s t) =
     forked-related c rows nodes groups R tree fits closed inside x y g a s t
 ruled-related c rows nodes groups R tree fits closed inside x y m n (by-context kind two) =
@@ -189,20 +180,24 @@ pub merged-inside :
     groupAt nodes groups u ≡ x → groupAt nodes groups w ≡ y → R u w → Inside nodes (merged x y groups) R
 merged-inside c rows nodes groups R fits closed inside x y u w m n gu gw ruw = record { related = kept }
   where
+    OfTwo : Word → Type 0
+    OfTwo s = (groupAt nodes groups s ≡ x) ⊎ (groupAt nodes groups s ≡ y)
+
     -- the members of both are related to u
-    to-u : (s : Word) → In s nodes → (groupAt nodes groups s ≡ x) ⊎ (groupAt nodes groups s ≡ y) → R s u
+    to-u : (s : Word) → In s nodes → OfTwo s → R s u
     to-u s k (inl e) = inside .related s u k m (e ∙ sym gu)
     to-u s k (inr e) = closed .transitive s w u (inside .related s w k n (e ∙ sym gw)) (closed .symmetric u w ruw)
 
     by-cases :
         (s t : Word) → In s nodes → In t nodes →
         (groupAt nodes groups s ≡ groupAt nodes groups t)
-        ⊎ (((groupAt nodes groups s ≡ x) ⊎ (groupAt nodes groups s ≡ y)) × ((groupAt nodes groups t ≡ x) ⊎ (groupAt nodes groups t ≡ y))) →
-        R s t
+        ⊎ (OfTwo s × OfTwo t) → R s t
     by-cases s t k l (inl e) = inside .related s t k l e
     by-cases s t k l (inr b) = closed .transitive s u t (to-u s k (b .0)) (closed .symmetric t u (to-u t l (b .1)))
 
-    kept : (s t : Word) → In s nodes → In t nodes → groupAt nodes (merged x y groups) s ≡ groupAt nodes (merged x y groups) t → R s t
+    kept :
+        (s t : Word) → In s nodes → In t nodes →
+        groupAt nodes (merged x y groups) s ≡ groupAt nodes (merged x y groups) t → R s t
     kept s t k l e =
         by-cases s t k l
         (mergedTo-cases x y (groupAt nodes groups s) (groupAt nodes groups t)
@@ -227,7 +222,8 @@ sound c rows nodes R tree closed groups (s ∷ steps) fits opened inside =
     let next = merged (s .left) (s .right) groups in
     let both = and-eq-true-iff (isOpen c rows nodes groups s) (allOpen c rows nodes next steps) .0 opened in
     let o = tells-open c rows nodes groups (s .left) (s .right) .fact (both .0) in
-    let r = ruled-related c rows nodes groups R tree fits closed inside (s .left) (s .right) (o .left-in) (o .right-in) (o .ruled) in
+    let r =
+    ruled-related c rows nodes groups R tree fits closed inside (s .left) (s .right) (o .left-in) (o .right-in) (o .ruled) in
     sound c rows nodes R tree closed next steps (merged-fits nodes groups (s .left) (s .right) fits) (both .1)
     (merged-inside c rows nodes groups R fits closed inside (s .left) (s .right) (r .0) (r .1) (r .2) (r .3) (r .4) (r .5) (r .6))
 

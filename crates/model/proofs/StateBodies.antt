@@ -1,7 +1,7 @@
 -- State fields' bytes: what is written for a state is read as that state, has one byte and three for each arc, and passes the
 -- test where arcs ascend; and bytes that pass the test are written again as they stood. Assumes nothing.
 use mathlib.Core.Path.{_≡_, refl, ap, ap₂}
-use mathlib.Core.Bool.{Bool, true, false, _&&_, false≢true}
+use mathlib.Core.Bool.{Bool, true, false, _&&_, false≢true, and-eq-true-iff}
 use mathlib.Core.List.{List, [], _∷_, map, flatMap, List·Memᴰ as In, List·Memᴰ·head as here, List·Memᴰ·tail as there}
 use Prim.Native.Nat.{ℕ, zero, suc, _+_, _*_, _/_, _%_, _≤_, _<_}
 use native.Mathlib.Omega.{arith}
@@ -12,8 +12,8 @@ use Rattle.model.specs.Limits.{when}
 use Rattle.model.specs.Fields.{arcsOk, stateOk}
 use Rattle.model.specs.Tables.{Arc, arc, State, state, arcBytes, stateBody, arcsIn, stateIn, statesIn}
 use Rattle.model.proofs.Arcs.{Ascending}
-use Rattle.model.proofs.FieldLaws.{both}
 
+-- a number is its high byte and its low byte
 pub two-bytes : (n : ℕ) → 256 * (n / 256) + n % 256 ≡ n
 two-bytes n = omega arith
 
@@ -26,6 +26,7 @@ pub body-length : (s : State) → length (stateBody s) ≡ suc (3 * length (s .a
 unfolding stateBody
 body-length s = ap suc (arc-bytes-length (s .arcs))
 
+-- written arcs are read as they were, then states one by one
 arcs-read : (f : ℕ) (arcs : List Arc) → length (arcBytes arcs) ≤ f → arcsIn f (arcBytes arcs) ≡ arcs
 unfolding arcBytes flatMap arcsIn
 arcs-read zero [] h = refl
@@ -49,6 +50,7 @@ unfolding statesIn
 states-read-back [] = refl
 states-read-back (s ∷ states) = ap₂ (λ (x : State) (more : List State). x ∷ more) (state-read s) (states-read-back states)
 
+-- ascending arcs with names below n pass the test
 arcs-ok :
     (f n next : ℕ) (arcs : List Arc) → Ascending next arcs → ((a : Arc) → In a arcs → a .name < n) →
     arcsOk f n next (arcBytes arcs) ≡ true
@@ -79,6 +81,7 @@ abbrev pub Bytes : List ℕ → Type 0
 Bytes [] = Unit {0}
 Bytes (x ∷ xs) = (x < 256) × Bytes xs
 
+-- arcs that pass the test are written as they stood
 arcs-rewritten : (f n next : ℕ) (s : List ℕ) → length s ≤ f → Bytes s → arcsOk f n next s ≡ true → arcBytes (arcsIn f s) ≡ s
 unfolding arcBytes flatMap arcsOk arcsIn
 arcs-rewritten zero n next [] h bytes ok = refl
@@ -87,8 +90,8 @@ arcs-rewritten (suc f) n next [] h bytes ok = refl
 arcs-rewritten (suc f) n next (a ∷ []) h bytes ok = absurd (false≢true ok)
 arcs-rewritten (suc f) n next (a ∷ (x ∷ [])) h bytes ok = absurd (false≢true ok)
 arcs-rewritten (suc f) n next (a ∷ (x ∷ (y ∷ s))) h bytes ok =
-    let p = both (leb 2 (length (x ∷ (y ∷ s)))) ((ltb a n && leb next a) && arcsOk f n (suc a) s) ok in
-    let q = both (ltb a n && leb next a) (arcsOk f n (suc a) s) (p .1) in
+    let p = and-eq-true-iff (leb 2 (length (x ∷ (y ∷ s)))) ((ltb a n && leb next a) && arcsOk f n (suc a) s) .0 ok in
+    let q = and-eq-true-iff (ltb a n && leb next a) (arcsOk f n (suc a) s) .0 (p .1) in
     let more = arcs-rewritten f n (suc a) s (omega arith) (bytes .1 .1 .1) (q .1) in
     let low : y < 256 = bytes .1 .1 .0 in
     let high-byte : (256 * x + y) / 256 ≡ x = omega arith in
@@ -105,6 +108,6 @@ pub body-rewritten : (n : ℕ) (body : List ℕ) → Bytes body → stateOk n bo
 unfolding stateBody stateIn stateOk
 body-rewritten n [] bytes ok = absurd (false≢true ok)
 body-rewritten n (b ∷ s) bytes ok =
-    let p = both (leb b 1) (arcsOk (length s) n 0 s) ok in
+    let p = and-eq-true-iff (leb b 1) (arcsOk (length s) n 0 s) .0 ok in
     ap₂ (λ (x : ℕ) (xs : List ℕ). x ∷ xs) (accepts-rewritten b (leb-true b 1 (p .0)))
     (arcs-rewritten (length s) n 0 s (omega arith) (bytes .1) (p .1))

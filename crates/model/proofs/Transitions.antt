@@ -1,22 +1,26 @@
--- Arcs between groups by their nodes, and walks between groups. Assumes nothing.
+-- Arcs between groups by their nodes, and walks between groups. First a word's last name, then that the arcs are exactly those
+-- of the tree between the groups of their ends, then walks appended, taken apart and down the tree. Assumes nothing.
 use mathlib.Core.Path.{_≡_, refl, sym, ap, ap₂, _∙_, subst}
 use mathlib.Core.Logic.{⊎-elim}
-use mathlib.Core.List.{List, [], _∷_, _++_, dropLast, append-assoc, append-nil}
-use mathlib.Core.List.{List·Memᴰ as In, List·Memᴰ·head as here, List·Memᴰ·tail as there, List·Memᴰ·not-nil, List·Memᴰ·cases-cons, Memᴰ·cast}
-use mathlib.Core.List.{head-eq-of-cons-eq, tail-eq-of-cons-eq, cons≢nil}
+use mathlib.Core.List.{List, [], _∷_, _++_, dropLast, append-assoc, append-nil, List·Memᴰ as In, List·Memᴰ·head as here}
+use mathlib.Core.List.{List·Memᴰ·tail as there, List·Memᴰ·not-nil, List·Memᴰ·cases-cons, Memᴰ·cast, head-eq-of-cons-eq}
+use mathlib.Core.List.{tail-eq-of-cons-eq, cons≢nil}
 use Prim.Native.Nat.{ℕ}
 use Rattle.model.specs.Classes.{Word}
 use Rattle.model.specs.Lists.{lastOr}
 use Rattle.model.specs.Joinings.{Transition, transition, transitionsInto, transitionsOf, groupAt}
-use Rattle.model.proofs.Notions.{Tree, Walks, _▸_, Deterministic}
+use Rattle.model.proofs.Notions.{Tree, Fits, Walks, _▸_, Deterministic}
+use Rattle.model.proofs.Groups.{group-in}
 
 -- ---- a word that is not empty, as a word with one name more
 
+-- its last name put after the rest gives the word
 last-split : (x : ℕ) (w : Word) → dropLast (x ∷ w) ▸ lastOr x w ≡ x ∷ w
 unfolding lastOr
 last-split x [] = refl
 last-split x (y ∷ w) = ap (λ (v : Word). x ∷ v) (last-split y w)
 
+-- of a word with one name more, the rest and the last name
 dropLast-snoc : (w : Word) (a : ℕ) → dropLast (w ▸ a) ≡ w
 dropLast-snoc [] a = refl
 dropLast-snoc (x ∷ []) a = refl
@@ -33,6 +37,7 @@ lastOr-snoc x (y ∷ w) a = lastOr-snoc y w a
 abbrev arcInto : List Word → List ℕ → ℕ → Word → Transition
 arcInto nodes groups x w = transition (groupAt nodes groups (dropLast (x ∷ w))) (lastOr x w) (groupAt nodes groups (x ∷ w))
 
+-- every word that is not empty has its arc
 in-transitionsInto :
     (nodes : List Word) (groups : List ℕ) (ws : List Word) (x : ℕ) (w : Word) → In (x ∷ w) ws →
     In (arcInto nodes groups x w) (transitionsInto nodes groups ws)
@@ -57,6 +62,7 @@ in-transitions nodes groups (x ∷ w) a m =
     (sym (dropLast-snoc (x ∷ w) a)) (sym (lastOr-snoc x w a)))
     (in-transitionsInto nodes groups nodes x (w ▸ a) m)
 
+-- every arc is that of a word
 transitionsInto-in :
     (nodes : List Word) (groups : List ℕ) (ws : List Word) (t : Transition) → In t (transitionsInto nodes groups ws) →
     (w : Word) × (a : ℕ) × In (w ▸ a) ws × (t ≡ transition (groupAt nodes groups w) a (groupAt nodes groups (w ▸ a)))
@@ -85,19 +91,47 @@ pub transitions-in :
 unfolding transitionsOf
 transitions-in nodes groups t m = transitionsInto-in nodes groups nodes t m
 
+-- an arc between groups is an arc between two of their members
+pub arc-node :
+    (nodes : List Word) (groups : List ℕ) → Tree nodes → (x a z : ℕ) → In (transition x a z) (transitionsOf nodes groups) →
+    (v : Word) × In v nodes × In (v ▸ a) nodes × (groupAt nodes groups v ≡ x) × (groupAt nodes groups (v ▸ a) ≡ z)
+arc-node nodes groups tree x a z m =
+    let r = transitions-in nodes groups (transition x a z) m in
+    let name-is : a ≡ r .1 = ap (λ (t : Transition). t .name) (r .3) in
+    let node : In (r .0 ▸ a) nodes = subst (λ (b : ℕ). In (r .0 ▸ b) nodes) (sym name-is) (r .2) in
+    let ends : z ≡ groupAt nodes groups (r .0 ▸ r .1) = ap (λ (t : Transition). t .to) (r .3) in (
+      r .0,
+      tree .parent (r .0) a node,
+      node,
+      sym (ap (λ (t : Transition). t .from) (r .3)),
+      subst (λ (b : ℕ). groupAt nodes groups (r .0 ▸ b) ≡ z) (sym name-is) (sym ends),
+    )
+
+-- an arc leads to a group
+pub target-in :
+    (nodes : List Word) (groups : List ℕ) → Fits nodes groups → (x a z : ℕ) →
+    In (transition x a z) (transitionsOf nodes groups) → In z groups
+target-in nodes groups fits x a z m =
+    let r = transitions-in nodes groups (transition x a z) m in
+    Memᴰ·cast (ap (λ (t : Transition). t .to) (r .3)) (group-in nodes groups (r .0 ▸ r .1) fits (r .2))
+
 -- ---- walks
 
+-- walks in succession, and a walk taken apart
 pub walks-append :
     (ts : List Transition) (x z y : ℕ) (p q : Word) → Walks ts x p z → Walks ts z q y → Walks ts x (p ++ q) y
 walks-append ts x z y [] q f g = subst (λ (k : ℕ). Walks ts k q y) (sym f) g
 walks-append ts x z y (a ∷ p) q f g = (f .0, f .1, walks-append ts (f .0) z y p q (f .2) g)
 
-pub walks-split : (ts : List Transition) (x y : ℕ) (p q : Word) → Walks ts x (p ++ q) y → (z : ℕ) × Walks ts x p z × Walks ts z q y
+pub walks-split :
+    (ts : List Transition) (x y : ℕ) (p q : Word) → Walks ts x (p ++ q) y →
+    (z : ℕ) × Walks ts x p z × Walks ts z q y
 walks-split ts x y [] q f = (x, refl, f)
 walks-split ts x y (a ∷ p) q f =
     let r = walks-split ts (f .0) y p q (f .2) in
     (r .0, (f .0, f .1, r .1), r .2)
 
+-- a deterministic automaton goes to one group
 pub walks-unique :
     (ts : List Transition) → Deterministic ts → (x y z : ℕ) (p : Word) → Walks ts x p y → Walks ts x p z → y ≡ z
 walks-unique ts det x y z [] f g = sym f ∙ g

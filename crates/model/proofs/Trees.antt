@@ -5,12 +5,13 @@ use mathlib.Core.Logic.{_⊎_, inl, inr, ⊎-elim}
 use mathlib.Core.Bool.{Bool, true, false, cond}
 use mathlib.Core.List.{List, [], _∷_, _++_, map, append-assoc, append-nil, append-ne-nil-of-right-ne-nil, cons≢nil}
 use mathlib.Core.List.{List·Memᴰ as In, List·Memᴰ·head as here, List·Memᴰ·tail as there, List·Memᴰ·not-nil, List·Memᴰ·cases-cons}
-use mathlib.Core.List.{Memᴰ·cast, Memᴰ·append-left, Memᴰ·append-right, List·Memᴰ·append-cases, List·Memᴰ·eq-of-singleton}
+use mathlib.Core.List.{Memᴰ·cast, Memᴰ·map, Memᴰ·append-left, Memᴰ·append-right, List·Memᴰ·append-cases}
+use mathlib.Core.List.{List·Memᴰ·eq-of-singleton}
 use Rattle.model.specs.Lists.{hasRow}
 use Rattle.model.specs.Classes.{Word}
 use Rattle.model.specs.Joinings.{beginnings, withStates, withRows, treeOf}
 use Rattle.model.proofs.Tests.{tells-hasRow, not-told}
-use Rattle.model.proofs.Lists.{Distinct, in-map, map-in}
+use Rattle.model.proofs.Lists.{Distinct, distinct-snoc, map-in}
 use Rattle.model.proofs.Notions.{Tree, _▸_}
 
 -- the word begins a row
@@ -19,11 +20,12 @@ Begins w rows = (v : Word) × In (w ++ v) rows
 
 -- ---- beginnings
 
+-- the beginnings of a row are those words that it goes on from
 pub in-beginnings : (w v : Word) → In w (beginnings (w ++ v))
 unfolding beginnings
 in-beginnings [] [] = here refl
 in-beginnings [] (x ∷ v) = here refl
-in-beginnings (x ∷ w) v = there (in-map (λ (u : Word). x ∷ u) (in-beginnings w v))
+in-beginnings (x ∷ w) v = there (Memᴰ·map (λ (u : Word). x ∷ u) (in-beginnings w v))
 
 pub beginnings-in : (row w : Word) → In w (beginnings row) → (v : Word) × (w ++ v ≡ row)
 unfolding beginnings
@@ -48,9 +50,11 @@ record Extends (nodes : List Word) (New : Word → Type 0) (result : List Word) 
   origin : (w : Word) → In w result → In w nodes ⊎ New w
   distinct : Distinct nodes → Distinct result
 
+-- extended by nothing, where the new ones were there
 extends-none : (nodes : List Word) (New : Word → Type 0) → ((w : Word) → New w → In w nodes) → Extends nodes New nodes
 extends-none nodes New old = record { kept = λ w m. m; added = old; origin = λ w m. inl m; distinct = λ d. d }
 
+-- extended by some and then by others
 extends-then :
     {nodes between result : List Word} {P Q : Word → Type 0} →
     Extends nodes P between → Extends between Q result → Extends nodes (λ w. P w ⊎ Q w) result
@@ -74,13 +78,7 @@ extends-by s f g =
       distinct = s .distinct;
     }
 
-distinct-append : (nodes : List Word) (w : Word) → Distinct nodes → (In w nodes → ⊥) → Distinct (nodes ++ (w ∷ []))
-distinct-append [] w d out = (List·Memᴰ·not-nil, tt)
-distinct-append (u ∷ nodes) w d out = (
-  λ m. ⊎-elim (d .0) (λ n. out (here (sym (List·Memᴰ·eq-of-singleton n)))) (List·Memᴰ·append-cases nodes m),
-  distinct-append nodes w (d .1) (λ n. out (there n)),
-)
-
+-- one word more, if it is new, is an extension by that word
 extends-one : (nodes : List Word) (w : Word) → Extends nodes (λ u. u ≡ w) (cond (hasRow w nodes) nodes (nodes ++ (w ∷ [])))
 extends-one nodes w = go (hasRow w nodes) refl
   where
@@ -91,9 +89,10 @@ extends-one nodes w = go (hasRow w nodes) refl
           kept = λ u m. Memᴰ·append-left (w ∷ []) m;
           added = λ u p. Memᴰ·append-right nodes (here p);
           origin = λ u m. ⊎-elim (λ n. inl n) (λ n. inr (List·Memᴰ·eq-of-singleton n)) (List·Memᴰ·append-cases nodes m);
-          distinct = λ d. distinct-append nodes w d (not-told (tells-hasRow w nodes) e);
+          distinct = λ d. distinct-snoc nodes w d (not-told (tells-hasRow w nodes) e);
         }
 
+-- and so with some words, with the beginnings of some rows, and from the root on
 withStates-extends : (nodes ws : List Word) → Extends nodes (λ u. In u ws) (withStates nodes ws)
 unfolding withStates
 withStates-extends nodes [] = extends-none nodes (λ u. In u []) (λ u m. absurd (List·Memᴰ·not-nil m))
@@ -119,12 +118,14 @@ treeOf-extends rows = withRows-extends ([] ∷ []) rows
 
 -- ---- the prefix tree
 
+-- what begins a row is a state, and the root is
 pub begins-node : (rows : List Word) (w : Word) → Begins w rows → In w (treeOf rows)
 begins-node rows w b = treeOf-extends rows .added w b
 
 pub root-node : (rows : List Word) → In [] (treeOf rows)
 root-node rows = treeOf-extends rows .kept [] (here refl)
 
+-- and there is no other
 pub node-begins : (rows : List Word) (w : Word) → In w (treeOf rows) → (w ≡ []) ⊎ Begins w rows
 node-begins rows w m = ⊎-elim (λ n. inl (List·Memᴰ·eq-of-singleton n)) (λ b. inr b) (treeOf-extends rows .origin w m)
 
@@ -133,9 +134,11 @@ pub node-begins-row : (rows : List Word) (r : Word) → In r rows → (w : Word)
 node-begins-row rows r m w n =
     ⊎-elim (λ e. (r, Memᴰ·cast (ap (λ (z : Word). z ++ r) e) m)) (λ b. b) (node-begins rows w n)
 
+-- every row is a state
 pub row-node : (rows : List Word) (r : Word) → In r rows → In r (treeOf rows)
 row-node rows r m = begins-node rows r ([], Memᴰ·cast (append-nil r) m)
 
+-- so it is a tree
 pub treeOf-tree : (rows : List Word) → Tree (treeOf rows)
 treeOf-tree rows =
     record {

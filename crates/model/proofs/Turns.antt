@@ -1,7 +1,7 @@
 -- One turn of reading: the input's end, a refusal, or a field and what is left; and the law by which what each field keeps
 -- holds of an accepted file. Assumes nothing.
 use mathlib.Core.Path.{_≡_, refl, sym, ap, ap₂, _∙_, subst}
-use mathlib.Core.Bool.{Bool, true, false, _||_, cond, true≢false}
+use mathlib.Core.Bool.{Bool, true, false, cond}
 use mathlib.Core.List.{List, [], _∷_, _++_}
 use Prim.Native.Nat.{ℕ, zero, suc, _+_, _*_, _≤_}
 use native.Mathlib.Omega.{arith}
@@ -12,8 +12,10 @@ use borrow.Author.Tests.{ltb-false, le-ltb, eqb-true, eq-eqb, ne-eqb}
 use Rattle.model.specs.Limits.{cut-off, unfinished}
 use Rattle.model.specs.Fields.{File, FileKind, fieldFault, withField, Read, refused, accepted-file, atEnd}
 use Rattle.model.specs.Fields.{statedLength, runsPast, bodyOf, afterField, readFrom}
+use Rattle.model.proofs.Tests.{or-false, false-or}
 
 module _ (l : ℕ) (kind : FileKind) (f : File) (s : List ℕ) where
+  -- the four cases of a turn: the end, a field cut off, a fault, a field
   at-stop : eqb (length s) 0 ≡ true → readFrom (suc l) kind f s ≡ atEnd f
   unfolding readFrom
   at-stop e = rw (e, readFrom)
@@ -37,9 +39,6 @@ module _ (l : ℕ) (kind : FileKind) (f : File) (s : List ℕ) where
 three-more : (n : ℕ) → 3 + n ≡ suc (suc (suc n))
 three-more n = omega arith
 
-no-or : {a b : Bool} → a ≡ false → b ≡ false → (a || b) ≡ false
-no-or p q = rw (p, q)
-
 -- the field at the front is read, and what comes after it is left
 pub one-field :
     (l : ℕ) (kind : FileKind) (f : File) (mark a b : ℕ) (body rest : List ℕ) → length body ≡ 256 * a + b →
@@ -53,7 +52,7 @@ one-field l kind f mark a b body rest size ok =
     let here-rest : drop (3 + n) s ≡ rest = ap (λ (k : ℕ). drop k s) (three-more n) ∙ drop-at body rest n size in
     let fault = fieldFault kind f mark (take n (body ++ rest)) in
     let no-fault : fault ≡ 0 = ap (λ (x : List ℕ). fieldFault kind f mark x) here-body ∙ ok in
-    let whole : runsPast s ≡ false = no-or (le-ltb (length s) 3 (omega arith)) (le-ltb (length s) (3 + n) (omega arith)) in
+    let whole : runsPast s ≡ false = or-false (le-ltb (length s) 3 (omega arith)) (le-ltb (length s) (3 + n) (omega arith)) in
     at-field l kind f s (eqb·suc-zero (length (a ∷ (b ∷ (body ++ rest))))) whole (eq-eqb fault 0 no-fault)
     ∙ ap₂ (λ (x y : List ℕ). readFrom l kind (withField f mark x) y) here-body here-rest
 
@@ -100,10 +99,7 @@ nil-of-length : (s : List ℕ) → length s ≡ 0 → s ≡ []
 nil-of-length [] e = refl
 nil-of-length (x ∷ s) e = let z : ⊥ = omega arith in absurd z
 
-or-none : (a b : Bool) → (a || b) ≡ false → (a ≡ false) × (b ≡ false)
-or-none true b e = absurd (true≢false e)
-or-none false b e = (refl, e)
-
+-- each turn is one of the three
 pub turn : (l : ℕ) (kind : FileKind) (f : File) (s : List ℕ) → Turn l kind f s
 turn l kind f s = go (eqb (length s) 0) refl (runsPast s) refl
   where
@@ -111,7 +107,7 @@ turn l kind f s = go (eqb (length s) 0) refl (runsPast s) refl
     go true e u p = ended (nil-of-length s (eqb-true (length s) 0 e)) (at-stop l kind f s e)
     go false e true p = failed 1 (ap (λ (r : Read). r .number) (at-cut l kind f s e p))
     go false e false p =
-        let q = or-none (ltb (length s) 3) (ltb (length s) (3 + statedLength s)) p in
+        let q = false-or (ltb (length s) 3) (ltb (length s) (3 + statedLength s)) p in
         turn-whole l kind f s e p (ltb-false (length s) 3 (q .0)) (ltb-false (length s) (3 + statedLength s) (q .1))
 
 -- what holds of a file and of what is left to read, and is kept by each field without a fault, holds at an accepted end
@@ -119,6 +115,7 @@ module _ (kind : FileKind) (P : File → List ℕ → Type 0)
     (step :
     (f : File) (mark a b : ℕ) (body rest : List ℕ) → length body ≡ 256 * a + b → fieldFault kind f mark body ≡ 0 →
     P f (mark ∷ (a ∷ (b ∷ (body ++ rest)))) → P (withField f mark body) rest) where
+  -- an accepted end is at stage 3
   end-keeps : (f : File) → P f [] → atEnd f .number ≡ 0 → (atEnd f .file-is .stage ≡ 3) × P (atEnd f .file-is) []
   end-keeps f h ok = go (eqb (f .stage) 3) refl ok
     where
@@ -129,6 +126,7 @@ module _ (kind : FileKind) (P : File → List ℕ → Type 0)
       go true e q = (eqb-true (f .stage) 3 e, h)
       go false e q = let z : ⊥ = omega arith in absurd z
 
+  -- from any file on, whatever the fuel
   pub read-keeps :
       (l : ℕ) (f : File) (s : List ℕ) → P f s → readFrom l kind f s .number ≡ 0 →
       (readFrom l kind f s .file-is .stage ≡ 3) × P (readFrom l kind f s .file-is) []

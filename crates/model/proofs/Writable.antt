@@ -1,9 +1,9 @@
 -- What it takes of states to be written as a table that is read back: few, with few arcs, names ascending below the number of
 -- names, numbered first-met. Assumes nothing.
 use mathlib.Core.Path.{_≡_}
-use mathlib.Core.Bool.{Bool, true}
+use mathlib.Core.Bool.{true}
 use mathlib.Core.List.{List, [], _∷_, List·Memᴰ as In}
-use Prim.Native.Nat.{ℕ, zero, suc, _+_, _≤_, _<_}
+use Prim.Native.Nat.{ℕ, _+_, _≤_, _<_}
 use lib.ListN.{length}
 use Rattle.model.specs.Limits.{state-limit}
 use Rattle.model.specs.Tables.{Arc, State, isFirstMet}
@@ -14,6 +14,7 @@ unfoldable pub arcCount : List State → ℕ
 arcCount [] = 0
 arcCount (s ∷ states) = length (s .arcs) + arcCount states
 
+-- states for n names that can be written and read back
 pub record Writable (n : ℕ) (states : List State) : Type 0 where
   pub some-state : 1 ≤ length states
   pub few-states : length states ≤ state-limit

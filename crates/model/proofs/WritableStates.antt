@@ -1,4 +1,5 @@
--- The states of a partition's automaton can be written as a table that is read back. Assumes nothing.
+-- The states of a partition's automaton can be written as a table that is read back: the arcs of a state, how many states and
+-- arcs there are, first-met numbers, then all together. Assumes nothing.
 use mathlib.Core.Path.{_≡_, refl, sym, ap, _∙_, subst}
 use mathlib.Core.Bool.{true}
 use mathlib.Core.List.{List, [], _∷_, map, List·Memᴰ as In}
@@ -10,18 +11,19 @@ use Rattle.model.specs.Limits.{state-limit}
 use Rattle.model.specs.Lists.{indexIn}
 use Rattle.model.specs.Classes.{Word}
 use Rattle.model.specs.Tables.{Arc, arc, State, metByStates, isFirstMet}
-use Rattle.model.specs.Joinings.{Transition, transition, transitionsOf, groupAt}
+use Rattle.model.specs.Joinings.{transition, transitionsOf, groupAt}
 use Rattle.model.specs.Quotients.{arcsOutOf, metGroups, renumbered, stateOf, statesOf}
-use Rattle.model.proofs.Lists.{distinct-length, map-in}
+use Rattle.model.proofs.Lists.{map-in}
+use Rattle.model.proofs.Places.{nth-of-index}
 use Rattle.model.proofs.Notions.{Tree, Fits, Deterministic, _▸_}
-use Rattle.model.proofs.Groups.{group-in}
-use Rattle.model.proofs.Transitions.{transitions-in}
+use Rattle.model.proofs.Transitions.{arc-node}
 use Rattle.model.proofs.Arcs.{Ascending, arcsOutOf-ascending, arcsOutOf-in}
-use Rattle.model.proofs.FirstMet.{nth-of-index, met-distinct, met-in, met-closed, all-met}
+use Rattle.model.proofs.FirstMet.{met-distinct, root-met, met-few, met-closed, states-length}
 use Rattle.model.proofs.MetOrder.{metByStates-follows}
 use Rattle.model.proofs.ArcCount.{arcs-few}
 use Rattle.model.proofs.Writable.{Writable, arcCount}
 
+-- renumbered arcs keep their names
 renumbered-ascending : (next : ℕ) (met : List ℕ) (arcs : List Arc) → Ascending next arcs → Ascending next (renumbered met arcs)
 unfolding renumbered
 renumbered-ascending next met [] p = p
@@ -35,12 +37,14 @@ record ArcOf (nodes : List Word) (groups : List ℕ) (a : Arc) : Type 0 where
   goes : In (transition from (a .name) to) (transitionsOf nodes groups)
   target : a .to ≡ indexIn to (metGroups nodes groups)
 
+-- a state is that of a group met
 state-of :
     (rows nodes : List Word) (groups : List ℕ) (s : State) → In s (statesOf rows nodes groups) →
     (g : ℕ) × In g (metGroups nodes groups) × (s ≡ stateOf rows nodes groups (metGroups nodes groups) g)
 unfolding statesOf
 state-of rows nodes groups s m = map-in (stateOf rows nodes groups (metGroups nodes groups)) (metGroups nodes groups) m
 
+-- each arc of a state is such an arc
 arc-of :
     (rows nodes : List Word) (groups : List ℕ) (s : State) (a : Arc) → In s (statesOf rows nodes groups) → In a (s .arcs) →
     ArcOf nodes groups a
@@ -62,6 +66,7 @@ arc-of rows nodes groups s a m n =
       target = ap (λ (b : Arc). b .to) (g .2);
     }
 
+-- the arcs of a state ascend
 states-ascending :
     (rows nodes : List Word) (groups : List ℕ) (s : State) → In s (statesOf rows nodes groups) → Ascending 0 (s .arcs)
 unfolding stateOf
@@ -71,17 +76,7 @@ states-ascending rows nodes groups s m =
     (renumbered-ascending 0 (metGroups nodes groups) (arcsOutOf (f .0) (transitionsOf nodes groups))
     (arcsOutOf-ascending (f .0) (transitionsOf nodes groups)))
 
-states-length : (rows nodes : List Word) (groups : List ℕ) → length (statesOf rows nodes groups) ≡ length (metGroups nodes groups)
-unfolding statesOf
-states-length rows nodes groups = length-map (metGroups nodes groups) (stateOf rows nodes groups (metGroups nodes groups))
-
-met-few : (nodes : List Word) (groups : List ℕ) → Tree nodes → Fits nodes groups → length (metGroups nodes groups) ≤ length nodes
-met-few nodes groups tree fits =
-    let few : length (metGroups nodes groups) ≤ length groups =
-    distinct-length (metGroups nodes groups) groups (met-distinct nodes groups tree fits) (met-in nodes groups tree fits) in
-    let size : length groups ≡ length nodes = fits .lengths in
-    omega arith
-
+-- states are numbered first-met
 states-first-met :
     (rows nodes : List Word) (groups : List ℕ) → Tree nodes → Fits nodes groups → isFirstMet (statesOf rows nodes groups) ≡ true
 unfolding isFirstMet statesOf metGroups
@@ -93,6 +88,7 @@ states-first-met rows nodes groups tree fits =
     metByStates-follows rows nodes groups met (length nodes) 0 (groupAt nodes groups [] ∷ []) refl (omega arith) in
     eq-eqb (metByStates 0 1 states) (length states) (counted ∙ sym (length-map met (stateOf rows nodes groups met)))
 
+-- all states have at most as many arcs as the tree has nodes
 states-arcs :
     (rows nodes : List Word) (groups : List ℕ) → Tree nodes → Fits nodes groups →
     arcCount (statesOf rows nodes groups) ≤ length nodes
@@ -100,6 +96,7 @@ unfolding statesOf
 states-arcs rows nodes groups tree fits =
     arcs-few rows nodes groups (metGroups nodes groups) (metGroups nodes groups) (met-distinct nodes groups tree fits)
 
+-- so they can be written, with names below n
 pub states-writable :
     (rows nodes : List Word) (groups : List ℕ) (n : ℕ) → Tree nodes → Fits nodes groups →
     Deterministic (transitionsOf nodes groups) → length nodes ≤ state-limit →
@@ -116,7 +113,7 @@ states-writable rows nodes groups n tree fits det few below =
     }
   where
     size : length (statesOf rows nodes groups) ≡ length (metGroups nodes groups)
-    size = states-length rows nodes groups
+    size = states-length nodes groups tree fits rows
 
     small : length (metGroups nodes groups) ≤ length nodes
     small = met-few nodes groups tree fits
@@ -126,16 +123,14 @@ states-writable rows nodes groups n tree fits det few below =
 
     some : 1 ≤ length (statesOf rows nodes groups)
     some =
-        let root : In (groupAt nodes groups []) (metGroups nodes groups) =
-        all-met nodes groups tree fits det (groupAt nodes groups []) (group-in nodes groups [] fits (tree .root)) in
-        let first = nth-of-index (metGroups nodes groups) (groupAt nodes groups []) root .0 in
+        let root = nth-of-index (metGroups nodes groups) (groupAt nodes groups []) (root-met nodes groups tree fits) .0 in
         omega (arith, size)
 
     names : (s : State) (a : Arc) → In s (statesOf rows nodes groups) → In a (s .arcs) → a .name < n
     names s a m k =
         let r = arc-of rows nodes groups s a m k in
-        let t = transitions-in nodes groups (transition (r .from) (a .name) (r .to)) (r .goes) in
-        subst (λ (x : ℕ). x < n) (sym (ap (λ (u : Transition). u .name) (t .3))) (below (t .0) (t .1) (t .2))
+        let t = arc-node nodes groups tree (r .from) (a .name) (r .to) (r .goes) in
+        below (t .0) (a .name) (t .2)
 
     targets :
         (s : State) (a : Arc) → In s (statesOf rows nodes groups) → In a (s .arcs) → a .to < length (statesOf rows nodes groups)

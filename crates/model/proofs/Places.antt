@@ -1,0 +1,112 @@
+-- Places in lists: numbers in succession, the place of an element (`indexIn`) and the element at a place, in a list, in one
+-- that goes on, and in a mapped one. Assumes nothing.
+use mathlib.Core.Path.{_≡_, refl, sym, ap, _∙_, subst}
+use mathlib.Core.Logic.{_⊎_, inl, inr, ⊎-elim}
+use mathlib.Core.List.{List, [], _∷_, _++_, map, List·Memᴰ as In, List·Memᴰ·head as here, List·Memᴰ·tail as there}
+use mathlib.Core.List.{List·Memᴰ·not-nil, List·Memᴰ·cases-cons, Memᴰ·cast}
+use Prim.Native.Nat.{ℕ, zero, suc, _+_, _≤_, _<_}
+use native.Mathlib.Omega.{arith}
+use lib.ListN.{length, getD}
+use borrow.Author.Tests.{eq-eqb, ne-eqb}
+use Rattle.model.specs.Lists.{numbersFrom, indexIn}
+use Rattle.model.proofs.Tests.{eq-dec}
+use Rattle.model.proofs.Lists.{Distinct}
+
+-- ---- numbers in succession
+
+pub length-numbersFrom : (n i : ℕ) → length (numbersFrom n i) ≡ n
+unfolding numbersFrom
+length-numbersFrom zero i = refl
+length-numbersFrom (suc n) i = ap suc (length-numbersFrom n (suc i))
+
+-- they are those from i on, n of them
+pub in-numbersFrom : (n i j : ℕ) → i ≤ j → j < i + n → In j (numbersFrom n i)
+unfolding numbersFrom
+in-numbersFrom zero i j low high = let z : ⊥ = omega arith in absurd z
+in-numbersFrom (suc n) i j low high =
+    ⊎-elim (λ e. here e) (λ d. there (in-numbersFrom n (suc i) j (omega (arith, d)) (omega arith))) (eq-dec j i)
+
+pub numbersFrom-in : (n i j : ℕ) → In j (numbersFrom n i) → (i ≤ j) × (j < i + n)
+unfolding numbersFrom
+numbersFrom-in zero i j m = absurd (List·Memᴰ·not-nil m)
+numbersFrom-in (suc n) i j m =
+    ⊎-elim (λ e. (omega (arith, e), omega (arith, e)))
+    (λ k. let r = numbersFrom-in n (suc i) j k in (omega (arith, r .0), omega (arith, r .1)))
+    (List·Memᴰ·cases-cons m)
+
+-- ---- the place of an element
+
+-- the first is at place 0, others one further than in the rest
+pub index-here : (x y : ℕ) (ys : List ℕ) → x ≡ y → indexIn x (y ∷ ys) ≡ 0
+unfolding indexIn
+index-here x y ys e = rw (eq-eqb x y e, indexIn)
+
+pub index-there : (x y : ℕ) (ys : List ℕ) → (x ≡ y → ⊥) → indexIn x (y ∷ ys) ≡ suc (indexIn x ys)
+unfolding indexIn
+index-there x y ys d = rw (ne-eqb x y d, indexIn)
+
+pub nth-in : (xs : List ℕ) (i : ℕ) → i < length xs → In (getD xs i 0) xs
+nth-in [] i h = let z : ⊥ = omega arith in absurd z
+nth-in (x ∷ xs) zero h = here refl
+nth-in (x ∷ xs) (suc i) h = there (nth-in xs i (omega arith))
+
+-- the i-th of a list without repeats has the place i
+pub index-of-nth : (xs : List ℕ) (i : ℕ) → Distinct xs → i < length xs → indexIn (getD xs i 0) xs ≡ i
+index-of-nth [] i d h = let z : ⊥ = omega arith in absurd z
+index-of-nth (x ∷ xs) zero d h = index-here x x xs refl
+index-of-nth (x ∷ xs) (suc i) d h =
+    let below : i < length xs = omega arith in
+    index-there (getD xs i 0) x xs (λ e. d .0 (Memᴰ·cast (sym e) (nth-in xs i below)))
+    ∙ ap suc (index-of-nth xs i (d .1) below)
+
+-- at the place of an element stands the element
+pub nth-of-index : (xs : List ℕ) (x : ℕ) → In x xs → (indexIn x xs < length xs) × (getD xs (indexIn x xs) 0 ≡ x)
+nth-of-index [] x m = absurd (List·Memᴰ·not-nil m)
+nth-of-index (y ∷ ys) x m = go (eq-dec x y) (nth-of-index ys x) (List·Memᴰ·cases-cons m)
+  where
+    Place : ℕ → Type 0
+    Place i = (i < suc (length ys)) × (getD (y ∷ ys) i 0 ≡ x)
+
+    go :
+        (x ≡ y) ⊎ (x ≡ y → ⊥) → (In x ys → (indexIn x ys < length ys) × (getD ys (indexIn x ys) 0 ≡ x)) →
+        (x ≡ y) ⊎ In x ys → (indexIn x (y ∷ ys) < suc (length ys)) × (getD (y ∷ ys) (indexIn x (y ∷ ys)) 0 ≡ x)
+    go (inl e) again n = subst Place (sym (index-here x y ys e)) (omega arith, sym e)
+    go (inr d) again (inl e) = absurd (d e)
+    go (inr d) again (inr n) =
+        let r = again n in
+        let low : indexIn x ys < length ys = r .0 in
+        subst Place (sym (index-there x y ys d)) (omega arith, r .1)
+
+-- an element of the front has its place there
+pub index-in-front : (x : ℕ) (xs ys : List ℕ) → In x xs → indexIn x (xs ++ ys) < length xs
+index-in-front x [] ys m = absurd (List·Memᴰ·not-nil m)
+index-in-front x (z ∷ xs) ys m = go (eq-dec x z) (List·Memᴰ·cases-cons m) (λ n. index-in-front x xs ys n)
+  where
+    go :
+        (x ≡ z) ⊎ (x ≡ z → ⊥) → (x ≡ z) ⊎ In x xs → (In x xs → indexIn x (xs ++ ys) < length xs) →
+        indexIn x (z ∷ (xs ++ ys)) < suc (length xs)
+    go (inl e) n again = omega (arith, index-here x z (xs ++ ys) e)
+    go (inr d) (inl e) again = absurd (d e)
+    go (inr d) (inr n) again = omega (arith, index-there x z (xs ++ ys) d, again n)
+
+-- and one that is not there, but comes next, has the next place
+pub index-after : (x : ℕ) (xs ys : List ℕ) → (In x xs → ⊥) → indexIn x (xs ++ (x ∷ ys)) ≡ length xs
+index-after x [] ys out = index-here x x ys refl
+index-after x (z ∷ xs) ys out =
+    index-there x z (xs ++ (x ∷ ys)) (λ e. out (here e)) ∙ ap suc (index-after x xs ys (λ m. out (there m)))
+
+-- what a list becomes at the place of x is what x becomes
+pub map-at-index :
+    {A : Type 0} (f : ℕ → A) (d : A) (xs : List ℕ) (x : ℕ) → In x xs → getD (map f xs) (indexIn x xs) d ≡ f x
+map-at-index f d [] x m = absurd (List·Memᴰ·not-nil m)
+map-at-index {A} f d (y ∷ ys) x m = go (eq-dec x y) (map-at-index f d ys x) (List·Memᴰ·cases-cons m)
+  where
+    at : ℕ → A
+    at i = getD (map f (y ∷ ys)) i d
+
+    go :
+        (x ≡ y) ⊎ (x ≡ y → ⊥) → (In x ys → getD (map f ys) (indexIn x ys) d ≡ f x) → (x ≡ y) ⊎ In x ys →
+        getD (map f (y ∷ ys)) (indexIn x (y ∷ ys)) d ≡ f x
+    go (inl e) again n = ap at (index-here x y ys e) ∙ ap f (sym e)
+    go (inr no-head) again (inl e) = absurd (no-head e)
+    go (inr no-head) again (inr n) = ap at (index-there x y ys no-head) ∙ again n
