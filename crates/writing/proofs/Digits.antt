@@ -94,7 +94,9 @@ pub record DigitsLeft (out₀ : List ℕ) (at value : ℕ) (out : List ℕ) (i l
   pub written : Written out₀ out i later
 
 -- at the start all are to be written
-pub digits-start : (out : List ℕ) (at value end : ℕ) → value < 65536 → end ≡ at + length (decimal value) → DigitsLeft out at value out end value
+pub digits-start :
+    (out : List ℕ) (at value end : ℕ) → value < 65536 → end ≡ at + length (decimal value) →
+    DigitsLeft out at value out end value
 digits-start out at value end h e =
     record {
       fuel = 4;
@@ -102,7 +104,7 @@ digits-start out at value end h e =
       later = [];
       whole = sym (append-nil (decimal value));
       reached = e;
-      written = none-written out end
+      written = none-written out end;
     }
 
 -- there is one more to write
@@ -139,7 +141,7 @@ digits-turn {out₀} {at} {value} {out} {i} {left} d more fits = go (d .fuel) (d
               ∙ ap (λ (l : List ℕ). l ++ d .later) (more-digits f left more)
               ∙ append-assoc (digits f (left / 10)) ((48 + left % 10) ∷ []) (d .later);
           reached = omega (arith, more-digits-length f left more);
-          written = byte-back (48 + left % 10) (d .written) (omega (arith, digits-more d)) fits
+          written = byte-back (48 + left % 10) (d .written) (omega (arith, digits-more d)) fits;
         }
 
 -- the first digit, the only one left
@@ -149,7 +151,6 @@ pub digits-last :
 digits-last {out₀} {at} {value} {out} {i} {left} d one fits =
     let e : i ≡ at + 1 = omega (arith, d .reached, one-digit-length (d .fuel) left one) in
     let back : i - 1 ≡ at = omega arith in
-    let bytes : decimal value ≡ (48 + left) ∷ d .later =
-        d .whole ∙ ap (λ (l : List ℕ). l ++ d .later) (one-digit (d .fuel) left one) in
-    rw bytes (subst (λ (n : ℕ). Written out₀ (set out (i - 1) (48 + left)) n ((48 + left) ∷ d .later)) back
-      (byte-back (48 + left) (d .written) (omega arith) fits))
+    let bytes : decimal value ≡ (48 + left) ∷ d .later = rw (one-digit (d .fuel) left one) at (d .whole) in
+    let last = byte-back (48 + left) (d .written) (omega arith) fits in
+    rw (bytes, back) (rw back at last)

@@ -39,7 +39,9 @@ arc-bytes-snoc [] a = refl
 arc-bytes-snoc (b ∷ arcs) a = ap (λ (l : List ℕ). arcPart (b .name) (b .to) ++ l) (arc-bytes-snoc arcs a)
 
 -- one state more at the end
-pub state-fields-snoc : (states : List State) (s : State) → stateFields (states ++ (s ∷ [])) ≡ stateFields states ++ fieldBytes 4 (stateBody s)
+pub state-fields-snoc :
+    (states : List State) (s : State) →
+    stateFields (states ++ (s ∷ [])) ≡ stateFields states ++ fieldBytes 4 (stateBody s)
 unfolding stateFields flatMap
 state-fields-snoc [] s = append-nil (fieldBytes 4 (stateBody s))
 state-fields-snoc (t ∷ states) s =

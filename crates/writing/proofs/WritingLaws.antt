@@ -27,41 +27,53 @@ byte-written out at b fits = stores-written (b ∷ []) out at (omega arith)
 head-length : (out bytes : List ℕ) (at : ℕ) → at ≤ length out → length (take at out ++ bytes) ≡ at + length bytes
 head-length out bytes at fits = omega (arith, length-append (take at out) bytes, length-take-le at out fits)
 
--- what the output has after the bytes is what it had there
-pub written-drop : {out out′ : List ℕ} {at : ℕ} {bytes : List ℕ} → Written out out′ at bytes → at ≤ length out → drop (at + length bytes) out′ ≡ drop (at + length bytes) out
-written-drop {out} {out′} {at} {bytes} w fits =
-    let rest = drop (at + length bytes) out in
-    let whole : out′ ≡ (take at out ++ bytes) ++ rest = w .becomes ∙ sym (append-assoc (take at out) bytes rest) in
-    ap (λ (l : List ℕ). drop (at + length bytes) l) whole
-    ∙ drop-at (take at out ++ bytes) rest (at + length bytes) (head-length out bytes at fits)
+-- the output in two: up to the end of the bytes, and after them
+in-two :
+    {out out′ : List ℕ} {at : ℕ} {bytes : List ℕ} → Written out out′ at bytes →
+    out′ ≡ (take at out ++ bytes) ++ drop (at + length bytes) out
+in-two {out} {out′} {at} {bytes} w = w .becomes ∙ sym (append-assoc (take at out) bytes (drop (at + length bytes) out))
 
--- what it has up to their end is what it had before them, and the bytes
-pub written-take : {out out′ : List ℕ} {at : ℕ} {bytes : List ℕ} → Written out out′ at bytes → at ≤ length out → take (at + length bytes) out′ ≡ take at out ++ bytes
+-- up to the end of the bytes the output has what it had before them, and the bytes
+pub written-take :
+    {out out′ : List ℕ} {at : ℕ} {bytes : List ℕ} → Written out out′ at bytes → at ≤ length out →
+    take (at + length bytes) out′ ≡ take at out ++ bytes
 written-take {out} {out′} {at} {bytes} w fits =
-    let rest = drop (at + length bytes) out in
-    let whole : out′ ≡ (take at out ++ bytes) ++ rest = w .becomes ∙ sym (append-assoc (take at out) bytes rest) in
-    ap (λ (l : List ℕ). take (at + length bytes) l) whole
-    ∙ take-at (take at out ++ bytes) rest (at + length bytes) (head-length out bytes at fits)
+    ap (λ (l : List ℕ). take (at + length bytes) l) (in-two w)
+    ∙ take-at (take at out ++ bytes) (drop (at + length bytes) out) (at + length bytes) (head-length out bytes at fits)
+
+-- after the bytes it has what it had there
+pub written-drop :
+    {out out′ : List ℕ} {at : ℕ} {bytes : List ℕ} → Written out out′ at bytes → at ≤ length out →
+    drop (at + length bytes) out′ ≡ drop (at + length bytes) out
+written-drop {out} {out′} {at} {bytes} w fits =
+    ap (λ (l : List ℕ). drop (at + length bytes) l) (in-two w)
+    ∙ drop-at (take at out ++ bytes) (drop (at + length bytes) out) (at + length bytes) (head-length out bytes at fits)
+
+-- and further on
+pub written-drop-more :
+    {out out′ : List ℕ} {at : ℕ} {bytes : List ℕ} (n : ℕ) → Written out out′ at bytes → at ≤ length out →
+    drop (at + length bytes + n) out′ ≡ drop (at + length bytes + n) out
+written-drop-more {out} {out′} {at} {bytes} n w fits =
+    sym (drop-drop n (at + length bytes) out′)
+    ∙ ap (λ (l : List ℕ). drop n l) (written-drop w fits)
+    ∙ drop-drop n (at + length bytes) out
 
 -- two writings one after the other are one writing of the appended bytes
 pub written-append :
     {out mid out′ : List ℕ} {at next : ℕ} {xs ys : List ℕ} →
     Written out mid at xs → Written mid out′ next ys → next ≡ at + length xs → at ≤ length out → Written out out′ at (xs ++ ys)
 written-append {out} {mid} {out′} {at} {next} {xs} {ys} v w e fits =
-    let far : at + length (xs ++ ys) ≡ (at + length xs) + length ys = omega (arith, length-append xs ys) in
-    let after : drop ((at + length xs) + length ys) mid ≡ drop (at + length (xs ++ ys)) out =
-        sym (drop-drop (length ys) (at + length xs) mid)
-        ∙ ap (λ (l : List ℕ). drop (length ys) l) (written-drop v fits)
-        ∙ drop-drop (length ys) (at + length xs) out
-        ∙ ap (λ (n : ℕ). drop n out) (sym far) in
+    let far : at + length xs + length ys ≡ at + length (xs ++ ys) = omega (arith, length-append xs ys) in
+    let rest = drop (at + length xs + length ys) out in
     record {
       becomes =
           w .becomes
           ∙ ap (λ (n : ℕ). take n mid ++ (ys ++ drop (n + length ys) mid)) e
-          ∙ ap (λ (l : List ℕ). l ++ (ys ++ drop ((at + length xs) + length ys) mid)) (written-take v fits)
-          ∙ ap (λ (l : List ℕ). (take at out ++ xs) ++ (ys ++ l)) after
-          ∙ append-assoc (take at out) xs (ys ++ drop (at + length (xs ++ ys)) out)
-          ∙ ap (λ (l : List ℕ). take at out ++ l) (sym (append-assoc xs ys (drop (at + length (xs ++ ys)) out)))
+          ∙ ap (λ (l : List ℕ). l ++ (ys ++ drop (at + length xs + length ys) mid)) (written-take v fits)
+          ∙ ap (λ (l : List ℕ). (take at out ++ xs) ++ (ys ++ l)) (written-drop-more (length ys) v fits)
+          ∙ append-assoc (take at out) xs (ys ++ rest)
+          ∙ ap (λ (l : List ℕ). take at out ++ l) (sym (append-assoc xs ys rest))
+          ∙ ap (λ (n : ℕ). take at out ++ ((xs ++ ys) ++ drop n out)) far;
     }
 
 -- a writing from 0 is the bytes and what stood after them
@@ -69,7 +81,9 @@ pub written-from-zero : {out out′ bytes : List ℕ} → Written out out′ 0 b
 written-from-zero {out} {out′} {bytes} w = w .becomes ∙ ap (λ (n : ℕ). bytes ++ drop n out) (zero-add (length bytes))
 
 -- a writing that fits keeps the length
-pub written-length : {out out′ : List ℕ} {at : ℕ} {bytes : List ℕ} → Written out out′ at bytes → at + length bytes ≤ length out → length out′ ≡ length out
+pub written-length :
+    {out out′ : List ℕ} {at : ℕ} {bytes : List ℕ} → Written out out′ at bytes → at + length bytes ≤ length out →
+    length out′ ≡ length out
 written-length {out} {out′} {at} {bytes} w fits =
     let rest = drop (at + length bytes) out in
     omega (
@@ -81,23 +95,28 @@ written-length {out} {out′} {at} {bytes} w fits =
       length-drop (at + length bytes) out,
     )
 
+-- the output in front of a writing, apart at the byte before it
+before-apart :
+    {out mid : List ℕ} {at : ℕ} {bytes : List ℕ} → Written out mid (suc at) bytes → at < length out →
+    mid ≡ take at out ++ (getD out at 0 ∷ (bytes ++ drop (suc at + length bytes) out))
+before-apart {out} {mid} {at} {bytes} w fits =
+    let rest = bytes ++ drop (suc at + length bytes) out in
+    w .becomes
+    ∙ ap (λ (l : List ℕ). l ++ rest) (take-suc out at 0 fits)
+    ∙ append-assoc (take at out) (getD out at 0 ∷ []) rest
+
 -- a byte in front of what was written
 pub byte-before :
     {out mid : List ℕ} {at : ℕ} {bytes : List ℕ} (b : ℕ) → Written out mid (suc at) bytes → at < length out →
     Written out (set mid at b) at (b ∷ bytes)
 byte-before {out} {mid} {at} {bytes} b w fits =
-    let rest = drop (suc at + length bytes) out in
-    let old = getD out at 0 in
+    let rest = bytes ++ drop (suc at + length bytes) out in
     let far : suc at + length bytes ≡ at + suc (length bytes) = omega arith in
-    let apart : mid ≡ take at out ++ (old ∷ (bytes ++ rest)) =
-        w .becomes
-        ∙ ap (λ (l : List ℕ). l ++ (bytes ++ rest)) (take-suc out at 0 fits)
-        ∙ append-assoc (take at out) (old ∷ []) (bytes ++ rest) in
     record {
       becomes =
-          ap (λ (l : List ℕ). set l at b) apart
-          ∙ set-at (take at out) old (bytes ++ rest) b at (length-take-le at out (omega arith))
-          ∙ ap (λ (n : ℕ). take at out ++ (b ∷ (bytes ++ drop n out))) far
+          ap (λ (l : List ℕ). set l at b) (before-apart w fits)
+          ∙ set-at (take at out) (getD out at 0) rest b at (length-take-le at out (omega arith))
+          ∙ ap (λ (n : ℕ). take at out ++ (b ∷ (bytes ++ drop n out))) far;
     }
 
 -- one byte more of a list that is copied in
@@ -123,7 +142,7 @@ put-append {out} {mid} {out′} {at} {next} {after} {xs} {ys} {m} {n} p q fits =
     record {
       written = written-append (p .written) (q .written) (omega arith) fits;
       counted = omega (arith, length-append xs ys);
-      ends = omega arith
+      ends = omega arith;
     }
 
 pub put-length :
@@ -151,5 +170,5 @@ stores-put b bytes out at fits =
           rw (stores-from (set out at b) at 1 bytes, add-one)
           (stores-written (b ∷ bytes) out at fits);
       counted = refl;
-      ends = refl
+      ends = refl;
     }

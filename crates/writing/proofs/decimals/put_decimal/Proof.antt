@@ -1,7 +1,7 @@
 -- `decimals::put_decimal` meets its contract. The loop's invariant: the digits of `left` are still to be written before i, those from i
 -- on are written, and the output is as long as it was. Assumes nothing.
 use mathlib.Core.Path.{_≡_, refl}
-use Prim.Native.Nat.{_≤_, _<_}
+use Prim.Native.Nat.{_+_, _≤_, _<_}
 use native.Mathlib.Omega.{arith}
 use lib.ListN.{length, length-set}
 use Rattle.writing.proofs.Digits.{DigitsLeft, digits-start, digits-more, digits-turn, digits-last}
@@ -22,7 +22,11 @@ add-end : tie.Need-add-end Inv-loop μ-loop
 add-end c = omega arith
 
 loop-holds : tie.Need-loop-holds Inv-loop μ-loop
-loop-holds c = ?
+loop-holds c =
+    let a = c .before .before .args in
+    let end = a .at + c .decimal-len .result in
+    let start = digits-start (a .out .now) (a .at) (a .value) end (omega arith) (omega arith) in
+    (refl, omega arith, digits-more start, start)
 
 sub-i : tie.Need-sub-i Inv-loop μ-loop
 sub-i c = omega arith
@@ -40,7 +44,11 @@ loop-less : tie.Need-loop-less Inv-loop μ-loop
 loop-less c = omega arith
 
 loop-again : tie.Need-loop-again Inv-loop μ-loop
-loop-again c = ?
+loop-again c =
+    let l = c .before .loop in
+    let same = l .inv .0 in
+    let next = digits-turn (l .inv .3) (omega arith) (omega arith) in
+    (simp length-set same, omega arith, digits-more next, next)
 
 sub-i-2 : tie.Need-sub-i-2 Inv-loop μ-loop
 sub-i-2 c = omega arith
@@ -55,10 +63,12 @@ slice-write-out-2 : tie.Need-slice-write-out-2 Inv-loop μ-loop
 slice-write-out-2 c = omega arith
 
 same-length : tie.Need-same-length Inv-loop μ-loop
-same-length c = ?
+same-length c = simp length-set (c .before .loop .inv .0)
 
 returns : tie.Need-returns Inv-loop μ-loop
-returns c = ?
+returns c =
+    let l = c .before .loop in
+    record { written = digits-last (l .inv .3) (omega arith) (omega arith); counted = refl; ends = omega arith }
 
 pub put-decimal-spec : {M : Type 1} → statement M
 put-decimal-spec =
