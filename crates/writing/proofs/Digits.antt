@@ -46,14 +46,14 @@ pub decimal-length : (n : ℕ) → (1 ≤ length (decimal n)) × (length (decima
 decimal-length n = digits-length 4 n
 
 -- how many, by the number's size
-pub length-1 : (n : ℕ) → n < 10 → length (decimal n) ≡ 1
-length-1 n h = one-digit-length 4 n h
+pub decimal-length-1 : (n : ℕ) → n < 10 → length (decimal n) ≡ 1
+decimal-length-1 n h = one-digit-length 4 n h
 
-pub length-2 : (n : ℕ) → 10 ≤ n → n < 100 → length (decimal n) ≡ 2
-length-2 n l h = omega (arith, more-digits-length 3 n l, one-digit-length 3 (n / 10) (omega arith))
+pub decimal-length-2 : (n : ℕ) → 10 ≤ n → n < 100 → length (decimal n) ≡ 2
+decimal-length-2 n l h = omega (arith, more-digits-length 3 n l, one-digit-length 3 (n / 10) (omega arith))
 
-pub length-3 : (n : ℕ) → 100 ≤ n → n < 1000 → length (decimal n) ≡ 3
-length-3 n l h =
+pub decimal-length-3 : (n : ℕ) → 100 ≤ n → n < 1000 → length (decimal n) ≡ 3
+decimal-length-3 n l h =
     omega (
       arith,
       more-digits-length 3 n (omega arith),
@@ -61,8 +61,8 @@ length-3 n l h =
       one-digit-length 2 (n / 10 / 10) (omega arith),
     )
 
-pub length-4 : (n : ℕ) → 1000 ≤ n → n < 10000 → length (decimal n) ≡ 4
-length-4 n l h =
+pub decimal-length-4 : (n : ℕ) → 1000 ≤ n → n < 10000 → length (decimal n) ≡ 4
+decimal-length-4 n l h =
     omega (
       arith,
       more-digits-length 3 n (omega arith),
@@ -71,8 +71,8 @@ length-4 n l h =
       one-digit-length 1 (n / 10 / 10 / 10) (omega arith),
     )
 
-pub length-5 : (n : ℕ) → 10000 ≤ n → n < 100000 → length (decimal n) ≡ 5
-length-5 n l h =
+pub decimal-length-5 : (n : ℕ) → 10000 ≤ n → n < 100000 → length (decimal n) ≡ 5
+decimal-length-5 n l h =
     omega (
       arith,
       more-digits-length 3 n (omega arith),

@@ -1,5 +1,5 @@
--- Laws of writings: nothing written, bytes stored one by one, two writings one after the other, a writing from 0, the length kept;
--- then the same of what the functions give back. Assumes nothing.
+-- Laws of writings: nothing written, bytes stored one by one, what stands before and after, two writings one after the other, a writing
+-- from 0, the length kept, a byte in front, a copy's next byte; then of what the functions give back. Assumes nothing.
 use mathlib.Core.Path.{_≡_, refl, sym, ap, _∙_}
 use mathlib.Core.List.{List, [], _∷_, _++_, append-assoc}
 use Prim.Native.Nat.{ℕ, suc, _+_, _≤_, _<_}
@@ -130,6 +130,10 @@ copy-more {out} {mid} {at} src i w same more fits =
 
 -- ---- of what the functions give back
 
+-- nothing put
+pub put-none : (out : List ℕ) (at : ℕ) → Put out out at [] 0 at
+put-none out at = record { written = none-written out at; counted = refl; ends = sym (add-zero at) }
+
 -- two functions one after the other give what one would give for the appended bytes
 pub put-append :
     {out mid out′ : List ℕ} {at next after : ℕ} {xs ys : List ℕ} {m n : ℕ} →
@@ -145,6 +149,7 @@ put-append {out} {mid} {out′} {at} {next} {after} {xs} {ys} {m} {n} p q fits =
       ends = omega arith;
     }
 
+-- what fits keeps the length
 pub put-length :
     {out out′ : List ℕ} {at : ℕ} {bytes : List ℕ} {count after : ℕ} →
     Put out out′ at bytes count after → at + count ≤ length out → length out′ ≡ length out
