@@ -1,0 +1,84 @@
+-- Laws of cells: writing a cell keeps the area's length; the cell just written reads as the value; a cell in another row or
+-- another column reads as before; in an area of zeros every cell is 0. Assumes nothing.
+use mathlib.Core.Path.{_≡_, refl, ap₂, _∙_}
+use mathlib.Core.List.{List}
+use Prim.Native.Nat.{ℕ, zero, suc, _+_, _*_, _/_, _%_, _<_, _≤_}
+use native.Mathlib.Nat.{div-add-mod}
+use native.Mathlib.Omega.{arith}
+use lib.ListN.{length, getD, set, length-set}
+use lib.Seq.{getD-set-same, getD-set-other, lt-length-set}
+use Rattle.cells.specs.Cells.{row-count, column-count, work-bytes, cellAt, withCell, zeros}
+
+pub length-withCell : (work : List ℕ) (row column value : ℕ) → length (withCell work row column value) ≡ length work
+unfolding withCell
+length-withCell work row column value = simp length-set
+
+-- two bytes just written at a place and after it, read together
+pair-same : (work : List ℕ) (at value : ℕ) → at + 1 < length work
+    → 256 * getD (set (set work at (value / 256)) (at + 1) (value % 256)) at 0
+    + getD (set (set work at (value / 256)) (at + 1) (value % 256)) (at + 1) 0
+    ≡ value
+pair-same work at value h =
+    let first = set work at (value / 256) in
+    let high : getD (set first (at + 1) (value % 256)) at 0 ≡ value / 256 =
+    getD-set-other first (at + 1) at (value % 256) 0 (λ e. omega arith) ∙ getD-set-same work at (value / 256) 0 (omega arith) in
+    let low : getD (set first (at + 1) (value % 256)) (at + 1) 0 ≡ value % 256 =
+    getD-set-same first (at + 1) (value % 256) 0 (lt-length-set work at (value / 256) h) in
+    ap₂ (λ (a b : ℕ). 256 * a + b) high low ∙ div-add-mod value 256
+
+-- a byte that stands at neither of the two places written keeps its value
+byte-other : (work : List ℕ) (at k a b : ℕ) → (k ≡ at → ⊥) → (k ≡ at + 1 → ⊥) → getD (set (set work at a) (at + 1) b) k 0 ≡ getD work k 0
+byte-other work at k a b h j = getD-set-other (set work at a) (at + 1) k b 0 j ∙ getD-set-other work at k a 0 h
+
+-- the cell just written reads as the value
+pub cell-same : (work : List ℕ) (row column value : ℕ) → row < row-count → column < column-count → work-bytes ≤ length work
+    → cellAt (withCell work row column value) row column ≡ value
+unfolding cellAt withCell
+cell-same work row column value r c l = pair-same work (128 * row + 2 * column) value (omega arith)
+
+-- two cells with one place have one row
+row-of-place : (row column row' column' : ℕ) → column < column-count → column' < column-count
+    → 128 * row' + 2 * column' ≡ 128 * row + 2 * column
+    → row' ≡ row
+row-of-place row column row' column' c c' e = omega arith
+
+-- and one column
+column-of-place : (row column row' column' : ℕ) → column < column-count → column' < column-count
+    → 128 * row' + 2 * column' ≡ 128 * row + 2 * column
+    → column' ≡ column
+column-of-place row column row' column' c c' e = omega (arith, row-of-place row column row' column' c c' e)
+
+-- a cell that is not in both the same row and the same column keeps its value
+pub cell-other : (work : List ℕ) (row column value row' column' : ℕ) → column < column-count → column' < column-count
+    → (row' ≡ row → column' ≡ column → ⊥)
+    → cellAt (withCell work row column value) row' column' ≡ cellAt work row' column'
+unfolding cellAt withCell
+cell-other work row column value row' column' c c' h =
+    let apart : 128 * row' + 2 * column' ≡ 128 * row + 2 * column → ⊥ =
+    λ e. h (row-of-place row column row' column' c c' e) (column-of-place row column row' column' c c' e) in
+    ap₂ (λ (a b : ℕ). 256 * a + b)
+    (byte-other work (128 * row + 2 * column) (128 * row' + 2 * column') (value / 256) (value % 256) apart (λ e. omega arith))
+    (byte-other work (128 * row + 2 * column) (128 * row' + 2 * column' + 1) (value / 256) (value % 256)
+    (λ e. omega arith)
+    (λ e. apart (omega arith)))
+
+pub cell-other-row : (work : List ℕ) (row column value row' column' : ℕ) → column < column-count → column' < column-count
+    → (row' ≡ row → ⊥)
+    → cellAt (withCell work row column value) row' column' ≡ cellAt work row' column'
+cell-other-row work row column value row' column' c c' h = cell-other work row column value row' column' c c' (λ e _. h e)
+
+pub cell-other-column : (work : List ℕ) (row column value row' column' : ℕ) → column < column-count → column' < column-count
+    → (column' ≡ column → ⊥)
+    → cellAt (withCell work row column value) row' column' ≡ cellAt work row' column'
+cell-other-column work row column value row' column' c c' h = cell-other work row column value row' column' c c' (λ _ e. h e)
+
+-- a byte of an area of zeros, and past its end, is 0
+byte-zeros : (n k : ℕ) → getD (zeros n) k 0 ≡ 0
+byte-zeros zero k = refl
+byte-zeros (suc n) zero = refl
+byte-zeros (suc n) (suc k) = byte-zeros n k
+
+pub cell-zeros : (n row column : ℕ) → cellAt (zeros n) row column ≡ 0
+unfolding cellAt
+cell-zeros n row column =
+    ap₂ (λ (a b : ℕ). 256 * a + b) (byte-zeros n (128 * row + 2 * column)) (byte-zeros n (128 * row + 2 * column + 1))

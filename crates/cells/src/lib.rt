@@ -1,0 +1,46 @@
+// The lent working area as 512 rows of 64 cells of two bytes: read a cell, write a cell, clear the area. The module `numbers`
+// changes the width of a number and keeps its value.
+pub mod numbers;
+
+ghost use mathlib.Core.Path.{_≡_};
+ghost use Prim.Native.Nat.{_<_, _≤_};
+ghost use Rattle.cells.specs.Cells.{row-count, column-count, work-bytes, cell-limit, withCell, zeros, IsCell};
+
+// The value of the cell in a row and a column.
+pub fn cell(work: &[u8], row: usize, column: usize) -> usize
+    requires in_rows { ⌜ row < row-count ⌝ }
+    requires in_columns { ⌜ column < column-count ⌝ }
+    requires room { do ⌜ work-bytes ≤ (← ⟦work.len()⟧) ⌝ }
+    ensures { λ r. ⌜ IsCell (now (work .entry)) row column r ⌝ }
+{
+    let high = 128 * row + 2 * column;
+    let low = high + 1;
+    256 * numbers::wide8(work[high]) + numbers::wide8(work[low])
+}
+
+// Writes a value into the cell in a row and a column; every other cell keeps its value.
+pub fn set_cell(work: &mut [u8], row: usize, column: usize, value: usize)
+    requires in_rows { ⌜ row < row-count ⌝ }
+    requires in_columns { ⌜ column < column-count ⌝ }
+    requires small { ⌜ value < cell-limit ⌝ }
+    requires room { do ⌜ work-bytes ≤ (← ⟦work.len()⟧) ⌝ }
+    ensures { λ _. ⌜ now (work .exit) ≡ withCell (now (work .entry)) row column value ⌝ }
+{
+    let high = 128 * row + 2 * column;
+    let low = high + 1;
+    work[high] = numbers::narrow8(value / 256);
+    work[low] = numbers::narrow8(value % 256);
+}
+
+// Sets every byte of the area to 0, so that every cell is 0.
+pub fn clear(work: &mut [u8])
+    ensures { λ _. do
+      n ← ⟦work.len()⟧ .entry
+      ⌜ now (work .exit) ≡ zeros n ⌝ }
+{
+    let mut i = 0;
+    while i < work.len() {
+        work[i] = 0;
+        i += 1;
+    }
+}
