@@ -1,0 +1,1 @@
+-- Tables as read. Assumes nothing.

@@ -1,0 +1,1 @@
+-- Walks. Assumes nothing.
