@@ -1,7 +1,7 @@
 -- First-met numbering: one arc, one state and the end, as the code takes them; then that the numbers met only grow, and that every
 -- arc of a table so numbered leads to one of its states. Assumes nothing.
 use mathlib.Core.Path.{_≡_, refl, sym, ap, _∙_, subst}
-use mathlib.Core.Bool.{Bool, true, false, cond}
+use mathlib.Core.Bool.{Bool, true, false, cond, false≢true}
 use mathlib.Core.List.{List, [], _∷_}
 use Prim.Native.Nat.{ℕ, zero, suc, _+_, _≤_, _<_}
 use native.Mathlib.Numerals.{add-one}
@@ -146,3 +146,9 @@ target-in-table n states ok j h =
     let all-met : metByStates 0 1 states ≡ length states = eqb-true (metByStates 0 1 states) (length states) ok in
     let some : 0 < metByStates 0 1 states = omega arith in
     omega (arith, targets-met n 0 1 states some j h)
+
+-- state 0 is met before any arc, so that such a table has a state
+pub first-met-some : (states : List State) → isFirstMet states ≡ true → 0 < length states
+unfolding isFirstMet metByStates
+first-met-some [] ok = absurd (false≢true ok)
+first-met-some (s ∷ states) ok = omega arith

@@ -12,10 +12,10 @@ body-requires : tie.Need-body-requires
 body-requires c κs = search needs
 
 name-set-requires : tie.Need-name-set-requires
-name-set-requires c κs = ?
+name-set-requires c κs = subst (λ (l : List ℕ). StateOk l) (sym (c .body .ensures)) (c .before .before .pre .ok)
 
 returns : tie.Need-returns
-returns c = ?
+returns c = c .name-set .ensures ∙ ap (λ (l : List ℕ). nameSet (stateIn l .arcs)) (c .before .body .ensures)
 
 pub next-names-spec : {M : Type 1} → statement M
 next-names-spec = tie.close (tie.spec body-requires name-set-requires returns)
