@@ -49,9 +49,9 @@ arcs-turn s i h =
     arcs-fuel (length s) (suc (length s)) (drop i s) p q
     ∙ ap (arcsIn (suc (length s))) (drop-cons s i 0 h)
     ∙ (λ k.
-      arc (getD s i 0)
-      (256 * (getD-drop (suc i) s 0 0 ∙ ap (λ (j : ℕ). getD s j 0) high) k + (getD-drop (suc i) s 1 0 ∙ ap (λ (j : ℕ). getD s j 0) low) k)
-      ∷ arcsIn (length s) ((drop-drop 2 (suc i) s ∙ ap (λ (j : ℕ). drop j s) after) k))
+    arc (getD s i 0)
+    (256 * (getD-drop (suc i) s 0 0 ∙ ap (λ (j : ℕ). getD s j 0) high) k + (getD-drop (suc i) s 1 0 ∙ ap (λ (j : ℕ). getD s j 0) low) k)
+    ∷ arcsIn (length s) ((drop-drop 2 (suc i) s ∙ ap (λ (j : ℕ). drop j s) after) k))
 
 no-arcs : (f : ℕ) → arcsIn f [] ≡ []
 unfolding arcsIn

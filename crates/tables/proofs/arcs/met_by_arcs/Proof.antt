@@ -56,8 +56,7 @@ loop-again c =
     let at = here (c .before .before .before) in
     let loop = c .before .before .before .before .loop in
     let s = c .before .before .before .before .before .before .args .state .now in
-    let to = c .before .before .target-at in
-    (
+    let to = c .before .before .target-at in (
       at .whole,
       (getD s (loop .i) 0 + 1, at .after),
       ap (λ (m : ℕ). metByArcs m (arcsFrom s (loop .i + 3))) (c .met-with .ensures)

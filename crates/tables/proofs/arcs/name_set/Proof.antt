@@ -61,8 +61,7 @@ loop-again c =
     let loop = c .before .before .loop in
     let s = c .before .before .before .args .state .now in
     let a = getD s (loop .i) 0 in
-    let low : loop .names < 2 ^ a = omega (arith, loop .inv .1 .2, pow-mono {i = loop .inv .1 .0} {j = a} (at .up)) in
-    (
+    let low : loop .names < 2 ^ a = omega (arith, loop .inv .1 .2, pow-mono {i = loop .inv .1 .0} {j = a} (at .up)) in (
       at .whole,
       (a + 1, at .after, with-name-small (loop .names) a low (at .named)),
       nameSet-goes (loop .names) a (targetAt s (loop .i)) (arcsFrom s (loop .i + 3)) low (at .named)
