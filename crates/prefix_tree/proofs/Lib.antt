@@ -2,3 +2,4 @@
 pub mod WordLaws
 pub mod TreeLaws
 pub mod GrowthLaws
+pub mod StepLaws
