@@ -6,19 +6,20 @@ use mathlib.Core.List.{List, [], _∷_, _++_, List·Memᴰ as In, Memᴰ·cast}
 use Prim.Native.Nat.{ℕ, zero, suc, _+_, _<_, _≤_}
 use native.Mathlib.Numerals.{add-one}
 use native.Mathlib.Omega.{arith}
-use lib.ListN.{length, getD, take, set}
+use lib.ListN.{length, getD, take, set, length-set}
 use lib.Seq.{take-suc, take-all}
 use Rattle.model.specs.Limits.{name-limit, state-limit, work-bytes}
 use Rattle.model.specs.Classes.{Word}
-use Rattle.model.specs.Joinings.{beginnings, withStates, treeOf}
+use Rattle.model.specs.Joinings.{beginnings, withStates, withRows, treeOf}
 use Rattle.fields.specs.Offsets.{bodyAt, nextAt, offsetAt, fieldsAt}
-use Rattle.fields.proofs.OffsetLaws.{fields-more, offset-suc}
+use Rattle.fields.proofs.OffsetLaws.{fields-more, offset-suc, field-within, field-at, length-fields}
 use Rattle.prefix_tree.specs.Growth.{Store, store, Sized, Grown, IsChild, NoChild, appended, longer, withState}
-use Rattle.prefix_tree.specs.Growth.{Stepped, StepTooMany, RowAdded, RowTooMany, TreeTooLarge}
+use Rattle.prefix_tree.specs.Growth.{Stepped, StepTooMany, RowAdded, RowTooMany, RowBelow, RowsBelow, TreeBuilt, TreeTooLarge, BuiltOf, TreeOf}
+use Rattle.prefix_tree.specs.declared.Tree.{Tree}
 use Rattle.prefix_tree.proofs.WordLaws.{at-in, snoc-new, snoc-length}
 use Rattle.prefix_tree.proofs.TreeLaws.{withState-there, withState-new, walked, walked-none, walked-more, walked-longer}
 use Rattle.prefix_tree.proofs.TreeLaws.{treeOf-more, treeOf-longer}
-use Rattle.prefix_tree.proofs.GrowthLaws.{child-word, child-met, child-new, appended-grown, marked-grown}
+use Rattle.prefix_tree.proofs.GrowthLaws.{child-word, child-met, child-new, appended-grown, marked-grown, begun-grown, grown-built}
 
 -- arrays that kept their lengths have the room that they had
 pub sized-kept : (s s′ : Store) → Sized (s .parents) (s .names) (s .accepts) (s .work)
@@ -176,16 +177,43 @@ walking-ends row count s₀ s n state i w done =
 -- ---- the rows of a book
 
 -- the arrays hold the tree of the first i rows
-pub record Adding (book : List ℕ) (start items : ℕ) (s₀ s : Store) (n at i : ℕ) : Type 0 where
+pub record Adding (book : List ℕ) (start items : ℕ) (work₀ : List ℕ) (s : Store) (n at i : ℕ) : Type 0 where
   pub within : i ≤ items
   pub at-is : at ≡ offsetAt book start i
   pub some : 0 < n
   pub few : n ≤ state-limit
   pub sizes : Sized (s .parents) (s .names) (s .accepts) (s .work)
-  pub work-kept : length (s .work) ≡ length (s₀ .work)
+  pub work-kept : length (s .work) ≡ length work₀
   pub grown : Grown (treeOf (fieldsAt book start i)) (fieldsAt book start i) n s
 
-module _ (book : List ℕ) (start items : ℕ) (s₀ s : Store) (n at i : ℕ) (a : Adding book start items s₀ s n at i) (more : i < items) where
+pub adding-begins : (book : List ℕ) (start items : ℕ) (parents names accepts work : List ℕ) → Sized parents names accepts work
+    → Adding book start items work (store (set parents 0 0) (set names 0 64) (set accepts 0 0) work) 1 start 0
+unfolding treeOf withRows fieldsAt offsetAt
+adding-begins book start items parents names accepts work sizes =
+    record {
+      within = omega arith;
+      at-is = refl;
+      some = omega arith;
+      few = omega arith;
+      sizes =
+          sized-kept (store parents names accepts work) (store (set parents 0 0) (set names 0 64) (set accepts 0 0) work) sizes
+          (length-set parents 0 0) (length-set names 0 64) (length-set accepts 0 0) refl;
+      work-kept = refl;
+      grown = begun-grown parents names accepts work sizes;
+    }
+
+module _ (book : List ℕ) (start items : ℕ) (work₀ : List ℕ) (s : Store) (n at i : ℕ) (a : Adding book start items work₀ s n at i)
+    (more : i < items) where
+  -- the next row lies within the book
+  pub adding-fits : offsetAt book start items ≤ length book → nextAt book at ≤ length book
+  adding-fits fits = rw (a .at-is) (omega (arith, fits, field-within book start items i more))
+
+  -- and is one of the rows
+  pub adding-below : RowsBelow (fieldsAt book start items) → RowBelow (bodyAt book at)
+  adding-below below =
+      rw (a .at-is, ← field-at book start items i more)
+      (below (getD (fieldsAt book start items) i []) (at-in (fieldsAt book start items) i (omega (arith, length-fields book start items))))
+
   tree-next : treeOf (fieldsAt book start (suc i)) ≡ withStates (treeOf (fieldsAt book start i)) (beginnings (bodyAt book at))
   tree-next =
       treeOf-more book start i
@@ -197,7 +225,7 @@ module _ (book : List ℕ) (start items : ℕ) (s₀ s : Store) (n at i : ℕ) (
   adding-next : (s′ : Store) (m : ℕ) → RowAdded (bodyAt book at) n s s′ m
       → Sized (s′ .parents) (s′ .names) (s′ .accepts) (s′ .work)
       → length (s′ .work) ≡ length (s .work)
-      → Adding book start items s₀ s′ m (nextAt book at) (suc i)
+      → Adding book start items work₀ s′ m (nextAt book at) (suc i)
   adding-next s′ m is sizes kept =
       record {
         within = more;
@@ -206,18 +234,15 @@ module _ (book : List ℕ) (start items : ℕ) (s₀ s : Store) (n at i : ℕ) (
         few = is .few;
         sizes = sizes;
         work-kept = kept ∙ a .work-kept;
-        grown =
-            rw (tree-next, rows-next)
-            (is .grown (treeOf (fieldsAt book start i)) (fieldsAt book start i) (a .grown));
+        grown = rw (tree-next, rows-next) (is .grown (treeOf (fieldsAt book start i)) (fieldsAt book start i) (a .grown));
       }
 
   pub adding-goes : (s′ : Store) (m : ℕ) → RowAdded (bodyAt book at) n s s′ m
       → Sized (s′ .parents) (s′ .names) (s′ .accepts) (s′ .work)
       → length (s′ .work) ≡ length (s .work)
       → (next : ℕ) → next ≡ nextAt book at
-      → Adding book start items s₀ s′ m next (i + 1)
-  adding-goes s′ m is sizes kept next e =
-      rw (e, add-one i) (adding-next s′ m is sizes kept)
+      → Adding book start items work₀ s′ m next (i + 1)
+  adding-goes s′ m is sizes kept next e = rw (e, add-one i) (adding-next s′ m is sizes kept)
 
   pub adding-full : RowTooMany (bodyAt book at) n s → TreeTooLarge (fieldsAt book start items)
   adding-full full =
@@ -226,3 +251,25 @@ module _ (book : List ℕ) (start items : ℕ) (s₀ s : Store) (n at i : ℕ) (
             let over = full .over (treeOf (fieldsAt book start i)) (fieldsAt book start i) (a .grown) in
             omega (arith, over, ap length tree-next, treeOf-longer book start (suc i) items more);
       }
+
+pub adding-ends : (book : List ℕ) (start items : ℕ) (work₀ : List ℕ) (s : Store) (n at i : ℕ) → Adding book start items work₀ s n at i
+    → items ≤ i
+    → TreeBuilt (fieldsAt book start items) s n
+adding-ends book start items work₀ s n at i a done =
+    let all : i ≡ items = omega (arith, a .within) in
+    subst (λ (k : ℕ). TreeBuilt (fieldsAt book start k) s n) all
+    (grown-built (fieldsAt book start i) n s (a .grown) (a .some) (a .few) (a .sizes))
+
+pub tree-answer : (rows : List Word) (s s′ : Store) (answer : Tree) → BuiltOf rows s′ answer
+    → Sized (s .parents) (s .names) (s .accepts) (s .work)
+    → Sized (s′ .parents) (s′ .names) (s′ .accepts) (s′ .work)
+    → length (s′ .work) ≡ length (s .work)
+    → TreeOf rows s s′ answer
+tree-answer rows s s′ answer built sizes sizes′ kept =
+    record {
+      built = built;
+      parents-kept = sizes′ .parents-size ∙ sym (sizes .parents-size);
+      names-kept = sizes′ .names-size ∙ sym (sizes .names-size);
+      accepts-kept = sizes′ .accepts-size ∙ sym (sizes .accepts-size);
+      work-kept = kept;
+    }
