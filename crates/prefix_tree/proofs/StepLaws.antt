@@ -1,0 +1,275 @@
+-- Turns of the loops. One step of the code is one state of the definition: where the child is there, where it is appended, where
+-- there is no room. The walk along a row: begun, gone on, out of room, ended. The rows of a book: begun, gone on, out of room.
+-- Assumes nothing.
+use mathlib.Core.Path.{_≡_, refl, sym, ap, _∙_, subst}
+use mathlib.Core.List.{List, [], _∷_, _++_, List·Memᴰ as In, Memᴰ·cast}
+use Prim.Native.Nat.{ℕ, zero, suc, _+_, _<_, _≤_}
+use native.Mathlib.Numerals.{add-one}
+use native.Mathlib.Omega.{arith}
+use lib.ListN.{length, getD, take, set, length-set}
+use lib.Seq.{take-suc, take-all}
+use Rattle.model.specs.Limits.{name-limit, state-limit, work-bytes}
+use Rattle.model.specs.Classes.{Word}
+use Rattle.model.specs.Joinings.{beginnings, withStates, withRows, treeOf}
+use Rattle.fields.specs.Offsets.{bodyAt, nextAt, offsetAt, fieldsAt}
+use Rattle.fields.proofs.OffsetLaws.{fields-more, offset-suc, field-within, field-at, length-fields}
+use Rattle.prefix_tree.specs.Growth.{Store, store, Sized, Grown, IsChild, NoChild, appended, longer, withState}
+use Rattle.prefix_tree.specs.Growth.{Stepped, StepTooMany, RowAdded, RowTooMany, RowBelow, RowsBelow, TreeBuilt, TreeTooLarge, BuiltOf, TreeOf}
+use Rattle.prefix_tree.specs.declared.Tree.{Tree}
+use Rattle.prefix_tree.proofs.WordLaws.{at-in, snoc-new, snoc-length}
+use Rattle.prefix_tree.proofs.TreeLaws.{withState-there, withState-new, walked, walked-none, walked-more, walked-longer}
+use Rattle.prefix_tree.proofs.TreeLaws.{treeOf-more, treeOf-longer}
+use Rattle.prefix_tree.proofs.GrowthLaws.{child-word, child-met, child-new, appended-grown, marked-grown, begun-grown, grown-built}
+
+-- arrays that kept their lengths have the room that they had
+pub sized-kept : (s s′ : Store) → Sized (s .parents) (s .names) (s .accepts) (s .work)
+    → length (s′ .parents) ≡ length (s .parents)
+    → length (s′ .names) ≡ length (s .names)
+    → length (s′ .accepts) ≡ length (s .accepts)
+    → length (s′ .work) ≡ length (s .work)
+    → Sized (s′ .parents) (s′ .names) (s′ .accepts) (s′ .work)
+sized-kept s s′ sizes p n a w =
+    record {
+      parents-size = p ∙ sizes .parents-size;
+      names-size = n ∙ sizes .names-size;
+      accepts-size = a ∙ sizes .accepts-size;
+      work-size = omega (arith, sizes .work-size);
+    }
+
+-- ---- one step
+
+module _ (count state name : ℕ) (s : Store) (low : state < count) (small : name < name-limit) where
+  pub step-found : (c : ℕ) → count ≤ state-limit → IsChild count state name (s .parents) (s .names) c
+      → Stepped count state name s s c count
+  step-found c few is =
+      record {
+        below = is .below;
+        few = few;
+        grown =
+            λ nodes rows g.
+            rw (withState-there nodes (longer nodes state name) (child-met g state name low small c is))
+            (g, child-word g state name low small c is);
+      }
+
+  pub step-appended : (s′ : Store) → count < state-limit → Sized (s .parents) (s .names) (s .accepts) (s .work)
+      → NoChild count state name (s .parents) (s .names) (s .work)
+      → s′ ≡ appended count state name s
+      → Stepped count state name s s′ count (count + 1)
+  step-appended s′ room sizes no-one e =
+      subst (λ (t : Store). Stepped count state name s t count (count + 1)) (sym e)
+      (record {
+        below = omega arith;
+        few = omega arith;
+        grown =
+            λ nodes rows g.
+            let out = child-new g state name low small no-one in
+            rw (withState-new nodes (longer nodes state name) out) (
+              appended-grown g state name low small room sizes out,
+              snoc-new nodes (longer nodes state name) count (g .size),
+            );
+      })
+
+  pub step-full : state-limit ≤ count → NoChild count state name (s .parents) (s .names) (s .work) → StepTooMany count state name s
+  step-full full no-one =
+      record {
+        over =
+            λ nodes rows g.
+            rw (withState-new nodes (longer nodes state name) (child-new g state name low small no-one))
+            (omega (arith, snoc-length nodes (longer nodes state name), g .size));
+      }
+
+-- ---- the walk along a row
+
+-- the first i entries of the row are walked: the arrays hold the tree with their beginnings, and the state is their word
+pub record Walking (row : Word) (count : ℕ) (s₀ s : Store) (n state i : ℕ) : Type 0 where
+  pub within : i ≤ length row
+  pub low : state < n
+  pub few : n ≤ state-limit
+  pub sizes : Sized (s .parents) (s .names) (s .accepts) (s .work)
+  pub work-kept : length (s .work) ≡ length (s₀ .work)
+  pub grown :
+      (nodes rows : List Word) → Grown nodes rows count s₀ →
+      Grown (walked nodes row i) rows n s × (getD (walked nodes row i) state [] ≡ take i row)
+
+pub walking-begins : (row : Word) (count : ℕ) (s : Store) → 0 < count → count ≤ state-limit
+    → Sized (s .parents) (s .names) (s .accepts) (s .work)
+    → Walking row count s s count 0 0
+walking-begins row count s some few sizes =
+    record {
+      within = omega arith;
+      low = some;
+      few = few;
+      sizes = sizes;
+      work-kept = refl;
+      grown =
+          λ nodes rows g.
+          rw (walked-none nodes row (Memᴰ·cast (sym (g .root)) (at-in nodes 0 (omega (arith, g .size))))) (g, g .root);
+    }
+
+module _ (row : Word) (count : ℕ) (s₀ s : Store) (n state i : ℕ) (w : Walking row count s₀ s n state i) (more : i < length row) where
+  -- the word of the next state is the next beginning
+  next-word : (nodes rows : List Word) → Grown nodes rows count s₀
+      → longer (walked nodes row i) state (getD row i 0) ≡ take i row ++ (getD row i 0 ∷ [])
+  next-word nodes rows g = ap (λ (u : Word). u ++ (getD row i 0 ∷ [])) (w .grown nodes rows g .1)
+
+  next-walked : (nodes rows : List Word) → Grown nodes rows count s₀
+      → withState (walked nodes row i) (longer (walked nodes row i) state (getD row i 0)) ≡ walked nodes row (suc i)
+  next-walked nodes rows g = ap (withState (walked nodes row i)) (next-word nodes rows g) ∙ sym (walked-more nodes row i more)
+
+  walking-next : (s′ : Store) (v m : ℕ) → Stepped n state (getD row i 0) s s′ v m
+      → Sized (s′ .parents) (s′ .names) (s′ .accepts) (s′ .work)
+      → length (s′ .work) ≡ length (s .work)
+      → Walking row count s₀ s′ m v (suc i)
+  walking-next s′ v m is sizes kept =
+      record {
+        within = more;
+        low = is .below;
+        few = is .few;
+        sizes = sizes;
+        work-kept = kept ∙ w .work-kept;
+        grown =
+            λ nodes rows g.
+            let next = is .grown (walked nodes row i) rows (w .grown nodes rows g .0) in
+            (
+              subst (λ (l : List Word). Grown l rows m s′) (next-walked nodes rows g) (next .0),
+              ap (λ (l : List Word). getD l v []) (sym (next-walked nodes rows g))
+              ∙ next .1
+              ∙ next-word nodes rows g
+              ∙ sym (take-suc row i 0 more),
+            );
+      }
+
+  pub walking-goes : (s′ : Store) (v m : ℕ) → Stepped n state (getD row i 0) s s′ v m
+      → Sized (s′ .parents) (s′ .names) (s′ .accepts) (s′ .work)
+      → length (s′ .work) ≡ length (s .work)
+      → Walking row count s₀ s′ m v (i + 1)
+  walking-goes s′ v m is sizes kept =
+      subst (λ (k : ℕ). Walking row count s₀ s′ m v k) (sym (add-one i)) (walking-next s′ v m is sizes kept)
+
+  pub walking-full : StepTooMany n state (getD row i 0) s → RowTooMany row count s₀
+  walking-full full =
+      record {
+        over =
+            λ nodes rows g.
+            let over = full .over (walked nodes row i) rows (w .grown nodes rows g .0) in
+            omega (arith, over, ap length (next-walked nodes rows g), walked-longer nodes row (suc i));
+      }
+
+pub walking-ends : (row : Word) (count : ℕ) (s₀ s : Store) (n state i : ℕ) → Walking row count s₀ s n state i → length row ≤ i
+    → RowAdded row count s₀ (store (s .parents) (s .names) (set (s .accepts) state 1) (s .work)) n
+unfolding walked
+walking-ends row count s₀ s n state i w done =
+    let whole : take i row ≡ row = take-all i row done in
+    record {
+      some = omega (arith, w .low);
+      few = w .few;
+      grown =
+          λ nodes rows g.
+          let walk = w .grown nodes rows g in
+          subst
+          (λ (u : Word).
+          Grown (withStates nodes (beginnings u)) (rows ++ (row ∷ [])) n
+          (store (s .parents) (s .names) (set (s .accepts) state 1) (s .work)))
+          whole
+          (marked-grown (walk .0) state row (w .low) (walk .1 ∙ whole) (omega (arith, w .low, w .few, w .sizes .accepts-size)));
+    }
+
+-- ---- the rows of a book
+
+-- the arrays hold the tree of the first i rows
+pub record Adding (book : List ℕ) (start items : ℕ) (work₀ : List ℕ) (s : Store) (n at i : ℕ) : Type 0 where
+  pub within : i ≤ items
+  pub at-is : at ≡ offsetAt book start i
+  pub some : 0 < n
+  pub few : n ≤ state-limit
+  pub sizes : Sized (s .parents) (s .names) (s .accepts) (s .work)
+  pub work-kept : length (s .work) ≡ length work₀
+  pub grown : Grown (treeOf (fieldsAt book start i)) (fieldsAt book start i) n s
+
+pub adding-begins : (book : List ℕ) (start items : ℕ) (parents names accepts work : List ℕ) → Sized parents names accepts work
+    → Adding book start items work (store (set parents 0 0) (set names 0 64) (set accepts 0 0) work) 1 start 0
+unfolding treeOf withRows fieldsAt offsetAt
+adding-begins book start items parents names accepts work sizes =
+    record {
+      within = omega arith;
+      at-is = refl;
+      some = omega arith;
+      few = omega arith;
+      sizes =
+          sized-kept (store parents names accepts work) (store (set parents 0 0) (set names 0 64) (set accepts 0 0) work) sizes
+          (length-set parents 0 0) (length-set names 0 64) (length-set accepts 0 0) refl;
+      work-kept = refl;
+      grown = begun-grown parents names accepts work sizes;
+    }
+
+module _ (book : List ℕ) (start items : ℕ) (work₀ : List ℕ) (s : Store) (n at i : ℕ) (a : Adding book start items work₀ s n at i)
+    (more : i < items) where
+  -- the next row lies within the book
+  pub adding-fits : offsetAt book start items ≤ length book → nextAt book at ≤ length book
+  adding-fits fits = rw (a .at-is) (omega (arith, fits, field-within book start items i more))
+
+  -- and is one of the rows
+  pub adding-below : RowsBelow (fieldsAt book start items) → RowBelow (bodyAt book at)
+  adding-below below =
+      rw (a .at-is, ← field-at book start items i more)
+      (below (getD (fieldsAt book start items) i []) (at-in (fieldsAt book start items) i (omega (arith, length-fields book start items))))
+
+  tree-next : treeOf (fieldsAt book start (suc i)) ≡ withStates (treeOf (fieldsAt book start i)) (beginnings (bodyAt book at))
+  tree-next =
+      treeOf-more book start i
+      ∙ ap (λ (k : ℕ). withStates (treeOf (fieldsAt book start i)) (beginnings (bodyAt book k))) (sym (a .at-is))
+
+  rows-next : fieldsAt book start (suc i) ≡ fieldsAt book start i ++ (bodyAt book at ∷ [])
+  rows-next = fields-more book start i ∙ ap (λ (k : ℕ). fieldsAt book start i ++ (bodyAt book k ∷ [])) (sym (a .at-is))
+
+  adding-next : (s′ : Store) (m : ℕ) → RowAdded (bodyAt book at) n s s′ m
+      → Sized (s′ .parents) (s′ .names) (s′ .accepts) (s′ .work)
+      → length (s′ .work) ≡ length (s .work)
+      → Adding book start items work₀ s′ m (nextAt book at) (suc i)
+  adding-next s′ m is sizes kept =
+      record {
+        within = more;
+        at-is = ap (λ (k : ℕ). nextAt book k) (a .at-is) ∙ sym (offset-suc book start i);
+        some = is .some;
+        few = is .few;
+        sizes = sizes;
+        work-kept = kept ∙ a .work-kept;
+        grown = rw (tree-next, rows-next) (is .grown (treeOf (fieldsAt book start i)) (fieldsAt book start i) (a .grown));
+      }
+
+  pub adding-goes : (s′ : Store) (m : ℕ) → RowAdded (bodyAt book at) n s s′ m
+      → Sized (s′ .parents) (s′ .names) (s′ .accepts) (s′ .work)
+      → length (s′ .work) ≡ length (s .work)
+      → (next : ℕ) → next ≡ nextAt book at
+      → Adding book start items work₀ s′ m next (i + 1)
+  adding-goes s′ m is sizes kept next e = rw (e, add-one i) (adding-next s′ m is sizes kept)
+
+  pub adding-full : RowTooMany (bodyAt book at) n s → TreeTooLarge (fieldsAt book start items)
+  adding-full full =
+      record {
+        over =
+            let over = full .over (treeOf (fieldsAt book start i)) (fieldsAt book start i) (a .grown) in
+            omega (arith, over, ap length tree-next, treeOf-longer book start (suc i) items more);
+      }
+
+pub adding-ends : (book : List ℕ) (start items : ℕ) (work₀ : List ℕ) (s : Store) (n at i : ℕ) → Adding book start items work₀ s n at i
+    → items ≤ i
+    → TreeBuilt (fieldsAt book start items) s n
+adding-ends book start items work₀ s n at i a done =
+    let all : i ≡ items = omega (arith, a .within) in
+    subst (λ (k : ℕ). TreeBuilt (fieldsAt book start k) s n) all
+    (grown-built (fieldsAt book start i) n s (a .grown) (a .some) (a .few) (a .sizes))
+
+pub tree-answer : (rows : List Word) (s s′ : Store) (answer : Tree) → BuiltOf rows s′ answer
+    → Sized (s .parents) (s .names) (s .accepts) (s .work)
+    → Sized (s′ .parents) (s′ .names) (s′ .accepts) (s′ .work)
+    → length (s′ .work) ≡ length (s .work)
+    → TreeOf rows s s′ answer
+tree-answer rows s s′ answer built sizes sizes′ kept =
+    record {
+      built = built;
+      parents-kept = sizes′ .parents-size ∙ sym (sizes .parents-size);
+      names-kept = sizes′ .names-size ∙ sym (sizes .names-size);
+      accepts-kept = sizes′ .accepts-size ∙ sym (sizes .accepts-size);
+      work-kept = kept;
+    }

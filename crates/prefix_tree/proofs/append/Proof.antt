@@ -1,0 +1,62 @@
+-- `append` meets its contract. Assumes nothing.
+use borrow.Author.Needs.{needs}
+use Rattle.prefix_tree.proofs.append.Statement.{statement}
+use Rattle.prefix_tree.proofs.append.Tie as tie
+use Rattle.prefix_tree.proofs.append.Reads as reads
+use Rattle.prefix_tree.proofs.append.Lts as lts
+use Rattle.cells.proofs.numbers.narrow16.Reads as narrow16-reads
+use Rattle.cells.proofs.numbers.wide8.Reads as wide8-reads
+use Rattle.cells.proofs.set_cell.Reads as set-cell-reads
+
+narrow16-requires : tie.Need-narrow16-requires
+narrow16-requires c κs = search needs
+
+mul-parents : tie.Need-mul-parents
+mul-parents c = search needs
+
+slice-write-parents : tie.Need-slice-write-parents
+slice-write-parents c = search needs
+
+slice-write-names : tie.Need-slice-write-names
+slice-write-names c = search needs
+
+slice-write-accepts : tie.Need-slice-write-accepts
+slice-write-accepts c = search needs
+
+wide8-requires : tie.Need-wide8-requires
+wide8-requires c κs = search needs
+
+set-cell-requires : tie.Need-set-cell-requires
+set-cell-requires c κs = search needs
+
+same-length : tie.Need-same-length
+same-length c = search needs
+
+same-length-2 : tie.Need-same-length-2
+same-length-2 c = search needs
+
+same-length-3 : tie.Need-same-length-3
+same-length-3 c = search needs
+
+same-length-4 : tie.Need-same-length-4
+same-length-4 c = search needs
+
+returns : tie.Need-returns
+returns c = cc
+
+pub append-spec : {M : Type 1} → statement M
+append-spec =
+    tie.close
+    (tie.spec
+    narrow16-requires
+    mul-parents
+    slice-write-parents
+    slice-write-names
+    slice-write-accepts
+    wide8-requires
+    set-cell-requires
+    same-length
+    same-length-2
+    same-length-3
+    same-length-4
+    returns)

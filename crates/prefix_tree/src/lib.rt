@@ -1,0 +1,187 @@
+// The prefix tree of a book's rows, in arrays that the caller lends: for each state, in the order met, its parent, its name and
+// whether it accepts. A child is found in one look: the cell [state][name] of the working area is believed only where the state
+// that it names has that parent and that name, so the area may hold anything at the start.
+use cells::cell;
+use cells::numbers::narrow16;
+use cells::numbers::wide16;
+use cells::numbers::wide8;
+use cells::set_cell;
+use fields::limits::NAME_LIMIT;
+use fields::limits::STATE_LIMIT;
+use fields::offsets::body;
+use fields::offsets::next_field;
+ghost use mathlib.Core.Path.{_≡_};
+ghost use Prim.Native.Nat.{_+_, _<_, _≤_};
+ghost use lib.ListN.{length};
+ghost use Rattle.model.specs.Limits.{name-limit, state-limit};
+ghost use Rattle.fields.specs.Offsets.{offsetAt, fieldsAt};
+ghost use Rattle.prefix_tree.specs.Growth.{Roomy, store, Sized, ChildOf, appended, StepOf, RowBelow, RowOf, RowsBelow, TreeOf};
+
+// The state that a state goes on to by a name, if there is one.
+pub enum Found {
+    At(usize),
+    Nothing,
+}
+
+// The state that a step leads to, and how many states there are then; or a 513th would be needed.
+pub enum Went {
+    To(usize, usize),
+    Full,
+}
+
+// How many states there are with the row; or a 513th would be needed.
+pub enum Added {
+    With(usize),
+    Full,
+}
+
+// How many states the tree has; or a 513th would be needed.
+pub enum Tree {
+    Built(usize),
+    TooLarge,
+}
+
+// The child of a state by a name, in one look.
+pub fn child(parents: &[u16], names: &[u8], work: &[u8], count: usize, state: usize, name: u8) -> Found
+    requires { ⌜ (state < state-limit) × (name < name-limit) ⌝ }
+    requires { ⌜ Roomy count (now parents) (now names) (now work) ⌝ }
+    ensures { λ r. ⌜ ChildOf count state name (now (parents .entry)) (now (names .entry)) (now (work .entry)) r ⌝ }
+{
+    let c = cell(work, state, wide8(name));
+    if c < count {
+        let parent = wide16(parents[c]);
+        if parent == state {
+            let named = names[c];
+            if named == name {
+                return Found::At(c);
+            }
+        }
+    }
+    Found::Nothing
+}
+
+// Appends a state that goes on from a state by a name, does not accept, and is found in its cell.
+fn append(
+    parents: &mut [u16],
+    names: &mut [u8],
+    accepts: &mut [u8],
+    work: &mut [u8],
+    count: usize,
+    state: usize,
+    name: u8,
+)
+    requires { ⌜ (count < state-limit) × (state < count) × (name < name-limit) ⌝ }
+    requires { ⌜ Sized (now parents) (now names) (now accepts) (now work) ⌝ }
+    ensures { λ _. ⌜ store (now (parents .exit)) (now (names .exit)) (now (accepts .exit)) (now (work .exit))
+      ≡ appended count state name (store (now (parents .entry)) (now (names .entry)) (now (accepts .entry)) (now (work .entry))) ⌝ }
+{
+    parents[count] = narrow16(state);
+    names[count] = name;
+    accepts[count] = 0;
+    set_cell(work, state, wide8(name), count);
+}
+
+// One step along a row: to the child by the name, which is appended where there is none.
+fn step(
+    parents: &mut [u16],
+    names: &mut [u8],
+    accepts: &mut [u8],
+    work: &mut [u8],
+    count: usize,
+    state: usize,
+    name: u8,
+) -> Went
+    requires { ⌜ (count ≤ state-limit) × (state < count) × (name < name-limit) ⌝ }
+    requires { ⌜ Sized (now parents) (now names) (now accepts) (now work) ⌝ }
+    ensures { λ r. ⌜ StepOf count state name
+      (store (now (parents .entry)) (now (names .entry)) (now (accepts .entry)) (now (work .entry)))
+      (store (now (parents .exit)) (now (names .exit)) (now (accepts .exit)) (now (work .exit))) r ⌝ }
+{
+    let found = child(parents, names, work, count, state, name);
+    match found {
+        Found::At(c) => Went::To(c, count),
+        Found::Nothing => {
+            if STATE_LIMIT <= count {
+                return Went::Full;
+            }
+            append(parents, names, accepts, work, count, state, name);
+            Went::To(count, count + 1)
+        }
+    }
+}
+
+// Adds a row: walks it from the root, appends what is missing, and marks the last state.
+pub fn add_row(
+    row: &[u8],
+    parents: &mut [u16],
+    names: &mut [u8],
+    accepts: &mut [u8],
+    work: &mut [u8],
+    count: usize,
+) -> Added
+    requires { ⌜ (0 < count) × (count ≤ state-limit) × RowBelow (now row) ⌝ }
+    requires { ⌜ Sized (now parents) (now names) (now accepts) (now work) ⌝ }
+    ensures { λ r. ⌜ RowOf (now (row .entry)) count
+      (store (now (parents .entry)) (now (names .entry)) (now (accepts .entry)) (now (work .entry)))
+      (store (now (parents .exit)) (now (names .exit)) (now (accepts .exit)) (now (work .exit))) r ⌝ }
+{
+    let mut n = count;
+    let mut state = 0;
+    let mut i = 0;
+    while i < row.len() {
+        let went = step(parents, names, accepts, work, n, state, row[i]);
+        match went {
+            Went::To(v, m) => {
+                state = v;
+                n = m;
+            }
+            Went::Full => {
+                return Added::Full;
+            }
+        }
+        i += 1;
+    }
+    accepts[state] = 1;
+    Added::With(n)
+}
+
+// The prefix tree of the rows of a book, `items` fields from offset `start` on: the first places of the arrays, in the order in
+// which states are met, or refusal 10.
+pub fn add_rows(
+    book: &[u8],
+    start: usize,
+    items: usize,
+    parents: &mut [u16],
+    names: &mut [u8],
+    accepts: &mut [u8],
+    work: &mut [u8],
+) -> Tree
+    requires { ⌜ offsetAt (now book) start items ≤ length (now book) ⌝ }
+    requires { ⌜ RowsBelow (fieldsAt (now book) start items) ⌝ }
+    requires { ⌜ Sized (now parents) (now names) (now accepts) (now work) ⌝ }
+    ensures { λ r. ⌜ TreeOf (fieldsAt (now (book .entry)) start items)
+      (store (now (parents .entry)) (now (names .entry)) (now (accepts .entry)) (now (work .entry)))
+      (store (now (parents .exit)) (now (names .exit)) (now (accepts .exit)) (now (work .exit))) r ⌝ }
+{
+    parents[0] = 0;
+    names[0] = NAME_LIMIT;
+    accepts[0] = 0;
+    let mut n = 1;
+    let mut at = start;
+    let mut i = 0;
+    while i < items {
+        let row = body(book, at);
+        let added = add_row(row, parents, names, accepts, work, n);
+        match added {
+            Added::With(m) => {
+                n = m;
+            }
+            Added::Full => {
+                return Tree::TooLarge;
+            }
+        }
+        at = next_field(book, at);
+        i += 1;
+    }
+    Tree::Built(n)
+}
