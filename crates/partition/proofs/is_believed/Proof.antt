@@ -8,6 +8,7 @@ use borrow.Author.Needs.{needs}
 use Rattle.partition.proofs.is_believed.Statement.{statement}
 use Rattle.partition.proofs.is_believed.Tie as tie
 
+-- the state that ins lead to is one of the partition's
 from-below :
     (c : tie.Start) (from : ℕ) → from ≡ getD (c .args .ins .now) (c .args .c) 0 → c .args .c < length (c .args .groups .now) →
     from < length (c .args .groups .now)
@@ -33,10 +34,16 @@ shared-slice-read-result : tie.Need-shared-slice-read-result
 shared-slice-read-result c = search needs
 
 mul-result : tie.Need-mul-result
-mul-result c = omega (arith, from-below (c .before .before .before .before .before .before .before) (c .before .wide16 .result) (c .before .wide16 .ensures) (omega arith))
+mul-result c =
+    let called = c .before in
+    let at = called .before .before .before .before .before .before in
+    omega (arith, from-below at (called .wide16 .result) (called .wide16 .ensures) (omega arith))
 
 shared-slice-read-result-2 : tie.Need-shared-slice-read-result-2
-shared-slice-read-result-2 c = from-below (c .before .before .before .before .before .before .before .before) (c .before .before .wide16 .result) (c .before .before .wide16 .ensures) (omega arith)
+shared-slice-read-result-2 c =
+    let called = c .before .before in
+    let at = called .before .before .before .before .before .before in
+    from-below at (called .wide16 .result) (called .wide16 .ensures) (omega arith)
 
 returns-2 : tie.Need-returns-2
 returns-2 c =

@@ -27,14 +27,14 @@ turn-requires c κs = omega arith
 
 pass-at-requires : tie.Need-pass-at-requires Inv-loop μ-loop
 pass-at-requires c κs =
-    let at = c .before .before .before .before .before .before .before .before .before .before in
     let here = c .before .before .before .before in
-    let same = here .loop .inv .1 .labelled .size in (
-      ready-here (length (at .args .groups .now)) (at .args .ins .now) (at .args .outs .now) (at .args .keys .now) (at .args .groups .now) (here .loop .groups)
-          (at .pre .0) (here .loop .inv .1 .labelled),
+    let at = here .before .before .before .before .before .before in
+    let size = here .loop .inv .1 .labelled .size in (
+      ready-here (length (at .args .groups .now)) (at .args .ins .now) (at .args .outs .now) (at .args .keys .now)
+          (at .args .groups .now) (here .loop .groups) (at .pre .0) (here .loop .inv .1 .labelled),
       (
         omega (arith, here .loop .inv .0, at .pre .1),
-        subst₂ (λ (l u : ℕ). u < l) (sym same) (sym (c .before .before .turn .ensures))
+        subst₂ (λ (l u : ℕ). u < l) (sym size) (sym (c .before .before .turn .ensures))
             (turn-below (length (at .args .groups .now)) (here .loop .i) (at .args .descending) (omega arith)),
       ),
     )
@@ -47,15 +47,16 @@ loop-less c = omega arith
 
 loop-again : tie.Need-loop-again Inv-loop μ-loop
 loop-again c =
-    let at = c .before .before .before .before .before .before .before .before .before .before .before .before .before .before .before in
-    let here = c .before .before .before .before .before .before .before .before .before in
-    let turned = c .before .before .before .before in (
-      turned .pass-at .kept .1 .1 .1 .1 .0 ∙ here .loop .inv .0,
+    let passes = c .before .before .before .before in
+    let turned = passes .before .before .before in
+    let here = turned .before .before in
+    let at = here .before .before .before .before .before .before in (
+      passes .pass-at .kept .1 .1 .1 .1 .0 ∙ here .loop .inv .0,
       passed-more (length (at .args .groups .now)) (at .args .descending) (at .args .ins .now) (at .args .outs .now) (at .args .keys .now)
           (at .args .groups .now) (at .pre .0)
-          (here .loop .i) (length (here .loop .groups)) (c .before .before .before .before .before .before .before .turn .result) (here .loop .groups) (turned .pass-at .last .1 .1 .1 .0)
-          (here .loop .work) (turned .pass-at .last .1 .1 .1 .1 .0) (here .loop .joined) (turned .pass-at .result) (omega arith)
-          (here .loop .inv .1 .labelled .size) (c .before .before .before .before .before .before .before .turn .ensures) (here .loop .inv .1) (turned .pass-at .ensures),
+          (here .loop .i) (length (here .loop .groups)) (turned .turn .result) (here .loop .groups) (passes .pass-at .last .1 .1 .1 .0)
+          (here .loop .work) (passes .pass-at .last .1 .1 .1 .1 .0) (here .loop .joined) (passes .pass-at .result) (omega arith)
+          (here .loop .inv .1 .labelled .size) (turned .turn .ensures) (here .loop .inv .1) (passes .pass-at .ensures),
     )
 
 same-length : tie.Need-same-length Inv-loop μ-loop
@@ -66,10 +67,11 @@ same-length-2 c = c .before .loop .inv .0
 
 returns : tie.Need-returns Inv-loop μ-loop
 returns c =
-    let at = c .before .before .before .before .before .before .before in
+    let here = c .before in
+    let at = here .before .before .before .before .before .before in
     passed-all (length (at .args .groups .now)) (at .args .descending) (at .args .ins .now) (at .args .outs .now) (at .args .keys .now)
     (at .args .groups .now) (at .pre .0)
-    (c .before .loop .i) (c .before .loop .groups) (c .before .loop .work) (c .before .loop .joined) (omega arith) (c .before .loop .inv .1)
+    (here .loop .i) (here .loop .groups) (here .loop .work) (here .loop .joined) (omega arith) (here .loop .inv .1)
 
 pub pass-spec : {M : Type 1} → statement M
 pass-spec =
