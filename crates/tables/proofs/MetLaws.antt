@@ -112,7 +112,8 @@ states-grow i m [] h = omega arith
 states-grow i m (s ∷ states) h = go (ltb i m) (states-grow (suc i) (metByArcs m (s .arcs)) states) h
   where
     go : (b : Bool)
-        → (0 < metByStates (suc i) (metByArcs m (s .arcs)) states → metByArcs m (s .arcs) ≤ metByStates (suc i) (metByArcs m (s .arcs)) states)
+        → (0 < metByStates (suc i) (metByArcs m (s .arcs)) states
+        → metByArcs m (s .arcs) ≤ metByStates (suc i) (metByArcs m (s .arcs)) states)
         → 0 < elim b [ true ↦ metByStates (suc i) (metByArcs m (s .arcs)) states | false ↦ 0 ]
         → m ≤ elim b [ true ↦ metByStates (suc i) (metByArcs m (s .arcs)) states | false ↦ 0 ]
     go true again k =

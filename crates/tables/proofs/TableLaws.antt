@@ -179,7 +179,8 @@ module _ (s : List ℕ) (p : Place) (t : TableRead s p) (lent work : List ℕ) (
         at-is = ap (nextAt s) (now .at-is) ∙ sym (offset-suc s (p .start) i) ∙ ap (offsetAt s (p .start)) (sym (add-one i));
         kept = λ (j : ℕ) (l : j < i + 1). keep few big j l (ltb j i) refl;
         decides =
-            ap (λ (m : ℕ). metByStates (i + 1) m (drop (i + 1) (tableStates s))) (e ∙ ap (λ (st : State). metByArcs met (st .arcs)) state-is)
+            ap (λ (m : ℕ). metByStates (i + 1) m (drop (i + 1) (tableStates s)))
+            (e ∙ ap (λ (st : State). metByArcs met (st .arcs)) state-is)
             ∙ sym (states-go (tableStates s) i met there-is low)
             ∙ now .decides;
       }

@@ -1,14 +1,11 @@
 -- `number_states` meets its contract. The loop's invariant is Passing of TableLaws: before state i the offset is its field's, the
 -- offsets of those before are kept, and the numbers met so far decide. Assumes nothing.
-use mathlib.Core.Path.{_≡_, refl, sym, ap, _∙_, subst}
+use mathlib.Core.Path.{sym, ap, _∙_, subst}
 use mathlib.Core.List.{List}
-use Prim.Native.Nat.{ℕ, _+_, _-_, _≤_, _<_}
+use Prim.Native.Nat.{ℕ, _+_, _-_}
 use native.Mathlib.Omega.{arith}
-use lib.ListN.{length}
 use Rattle.model.specs.Tables.{stateIn, metByArcs}
-use Rattle.fields.specs.Offsets.{bodyAt, nextAt}
 use Rattle.cells.specs.Cells.{withCell}
-use Rattle.cells.proofs.CellLaws.{length-withCell}
 use Rattle.tables.specs.Arcs.{StateOk}
 use Rattle.tables.specs.Accepting.{StateField}
 use Rattle.tables.proofs.TableLaws.{Passing, passing-begins, field-here, passing-goes, passing-stops, passing-refused}
@@ -22,8 +19,19 @@ Inv-loop s p work₀ items at₀ met₀ i₀ work at met i = Passing s p work₀
 abbrev μ-loop : tie.MeasureT-loop
 μ-loop s p work₀ items at₀ met₀ i₀ work at met i = p .items - i
 
+-- the field of state i
+here : (c : tie.In-loop Inv-loop μ-loop) → StateField (c .before .before .before .before .args .s .now) (c .before .loop .at)
+here c =
+    let loop = c .before .loop in
+    let start = c .before .before .before .before in
+    let args = start .args in
+    field-here (args .s .now) (args .p) (start .pre .0) (args .work .now) (loop .work) (loop .at) (loop .met) (loop .i)
+    (loop .inv) (omega arith)
+
 loop-holds : tie.Need-loop-holds Inv-loop μ-loop
-loop-holds c = passing-begins (c .before .before .args .s .now) (c .before .before .args .p) (c .before .before .args .work .now)
+loop-holds c =
+    let args = c .before .before .args in
+    passing-begins (args .s .now) (args .p) (args .work .now)
 
 same-length : tie.Need-same-length Inv-loop μ-loop
 same-length c = c .before .before .loop .inv .same-length
@@ -33,44 +41,25 @@ returns c =
     let loop = c .before .before .loop in
     let start = c .before .before .before .before .before in
     let args = start .args in
-    passing-stops (args .s .now) (args .p) (start .pre .0) (args .work .now) (loop .work) (loop .at) (loop .met) (loop .i) (loop .inv)
-    (omega arith) (omega arith)
+    passing-stops (args .s .now) (args .p) (start .pre .0) (args .work .now) (loop .work) (loop .at) (loop .met) (loop .i)
+    (loop .inv) (omega arith) (omega arith)
 
 set-cell-requires : tie.Need-set-cell-requires Inv-loop μ-loop
 set-cell-requires c κs =
-    let loop = c .before .before .before .loop in
-    let start = c .before .before .before .before .before .before in
-    let args = start .args in
-    let fits = field-here (args .s .now) (args .p) (start .pre .0) (args .work .now) (loop .work) (loop .at) (loop .met) (loop .i) (loop .inv)
-    (omega arith) .fits in
-    let few = start .pre .0 .sound .few-items in
-    let length-is = loop .inv .same-length in
+    let fits = here (c .before .before) .fits in
+    let few = c .before .before .before .before .before .before .pre .0 .sound .few-items in
+    let length-is = c .before .before .before .loop .inv .same-length in
     (omega arith, (omega arith, (omega arith, omega arith)))
 
 body-requires : tie.Need-body-requires Inv-loop μ-loop
-body-requires c κs =
-    let loop = c .before .before .before .before .before .before .loop in
-    let start = c .before .before .before .before .before .before .before .before .before in
-    let args = start .args in
-    field-here (args .s .now) (args .p) (start .pre .0) (args .work .now) (loop .work) (loop .at) (loop .met) (loop .i) (loop .inv) (omega arith)
-    .fits
+body-requires c κs = here (c .before .before .before .before .before) .fits
 
 met-by-arcs-requires : tie.Need-met-by-arcs-requires Inv-loop μ-loop
 met-by-arcs-requires c κs =
-    let loop = c .before .before .before .before .before .before .before .loop in
-    let start = c .before .before .before .before .before .before .before .before .before .before in
-    let args = start .args in
-    subst StateOk (sym (c .body .ensures))
-    (field-here (args .s .now) (args .p) (start .pre .0) (args .work .now) (loop .work) (loop .at) (loop .met) (loop .i) (loop .inv) (omega arith)
-    .ok)
+    subst StateOk (sym (c .body .ensures)) (here (c .before .before .before .before .before .before) .ok)
 
 next-field-requires : tie.Need-next-field-requires Inv-loop μ-loop
-next-field-requires c κs =
-    let loop = c .before .before .before .before .before .before .before .before .loop in
-    let start = c .before .before .before .before .before .before .before .before .before .before .before in
-    let args = start .args in
-    field-here (args .s .now) (args .p) (start .pre .0) (args .work .now) (loop .work) (loop .at) (loop .met) (loop .i) (loop .inv) (omega arith)
-    .fits
+next-field-requires c κs = here (c .before .before .before .before .before .before .before) .fits
 
 add-i : tie.Need-add-i Inv-loop μ-loop
 add-i c = omega arith
@@ -83,15 +72,16 @@ loop-again c =
     let loop = c .before .before .before .before .before .before .before .before .before .loop in
     let start = c .before .before .before .before .before .before .before .before .before .before .before .before in
     let args = start .args in
-    let s = args .s .now in
     let met = c .before .met-by-arcs in
     let next = met .ensures ∙ ap (λ (l : List ℕ). metByArcs (loop .met) (stateIn l .arcs)) (c .before .before .body .ensures) in
-    let gone = passing-goes (args .s .now) (args .p) (start .pre .0) (args .work .now) (loop .work) (loop .at) (loop .met) (loop .i) (loop .inv)
-    (met .result) (start .pre .1 .1) (omega arith) (omega arith) next in
-    subst (λ (w : List ℕ). Passing s (args .p) (args .work .now) w (c .next-field .result) (met .result) (loop .i + 1))
+    let gone =
+    passing-goes (args .s .now) (args .p) (start .pre .0) (args .work .now) (loop .work) (loop .at) (loop .met) (loop .i)
+    (loop .inv) (met .result) (start .pre .1 .1) (omega arith) (omega arith) next in
+    subst (λ (w : List ℕ). Passing (args .s .now) (args .p) (args .work .now) w (c .next-field .result) (met .result) (loop .i + 1))
     (sym (c .before .before .before .before .before .set-cell .ensures))
     (subst
-    (λ (a : ℕ). Passing s (args .p) (args .work .now) (withCell (loop .work) (loop .i) 0 (loop .at)) a (met .result) (loop .i + 1))
+    (λ (a : ℕ).
+    Passing (args .s .now) (args .p) (args .work .now) (withCell (loop .work) (loop .i) 0 (loop .at)) a (met .result) (loop .i + 1))
     (sym (c .next-field .ensures)) gone)
 
 same-length-2 : tie.Need-same-length-2 Inv-loop μ-loop
@@ -102,8 +92,8 @@ returns-2 c =
     let loop = c .before .before .loop in
     let start = c .before .before .before .before .before in
     let args = start .args in
-    passing-accepted (args .s .now) (args .p) (start .pre .0) (args .work .now) (loop .work) (loop .at) (loop .met) (loop .i) (loop .inv)
-    (start .pre .1 .1) (omega arith) (omega arith)
+    passing-accepted (args .s .now) (args .p) (start .pre .0) (args .work .now) (loop .work) (loop .at) (loop .met) (loop .i)
+    (loop .inv) (start .pre .1 .1) (omega arith) (omega arith)
 
 same-length-3 : tie.Need-same-length-3 Inv-loop μ-loop
 same-length-3 c = c .before .before .loop .inv .same-length
@@ -113,8 +103,8 @@ returns-3 c =
     let loop = c .before .before .loop in
     let start = c .before .before .before .before .before in
     let args = start .args in
-    passing-refused (args .s .now) (args .p) (start .pre .0) (args .work .now) (loop .work) (loop .at) (loop .met) (loop .i) (loop .inv)
-    (omega arith) (omega arith)
+    passing-refused (args .s .now) (args .p) (start .pre .0) (args .work .now) (loop .work) (loop .at) (loop .met) (loop .i)
+    (loop .inv) (omega arith) (omega arith)
 
 pub number-states-spec : {M : Type 1} → statement M
 number-states-spec =

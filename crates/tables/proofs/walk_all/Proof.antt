@@ -1,12 +1,12 @@
 -- `walk_all` meets its contract. The loop's invariant: walking the whole row comes to walking on from here with the names from i on.
 -- Assumes nothing.
 use borrow.Author.Needs.{needs}
-use mathlib.Core.Path.{_≡_, refl, sym, ap, _∙_, subst}
-use Prim.Native.Nat.{ℕ, _+_, _-_, _≤_, _<_}
+use mathlib.Core.Path.{subst}
+use Prim.Native.Nat.{_-_}
 use native.Mathlib.Omega.{arith}
 use lib.ListN.{length, getD}
 use Rattle.model.specs.Calls.{tableStates}
-use Rattle.tables.specs.Walking.{SteppedAs, MovedTo}
+use Rattle.tables.specs.Walking.{SteppedAs}
 use Rattle.tables.specs.declared.Stepped.{Stepped}
 use Rattle.tables.proofs.WalkLaws.{Walking, walking-begins, walking-goes, walking-stops, walking-ends}
 use Rattle.tables.proofs.walk_all.Statement.{statement}
@@ -46,7 +46,8 @@ returns c =
     let row = start .args .row .now in
     let states = tableStates (start .args .s .now) in
     walking-stops states row (loop .walk) (loop .i) (loop .inv) (omega arith)
-    (subst (λ (r : Stepped). SteppedAs states (loop .walk) (getD row (loop .i) 0) r) (c .enum-told .given .1) (c .before .before .step .ensures))
+    (subst (λ (r : Stepped). SteppedAs states (loop .walk) (getD row (loop .i) 0) r) (c .enum-told .given .1)
+    (c .before .before .step .ensures))
 
 add-i : tie.Need-add-i Inv-loop μ-loop
 add-i c = omega arith

@@ -1,11 +1,10 @@
 -- `Walk::step` meets its contract: the kept offset is that of the state's field, and what is found there is the table's. Assumes
 -- nothing.
 use borrow.Author.Needs.{needs}
-use mathlib.Core.Path.{_≡_, refl, sym, ap, _∙_, subst}
+use mathlib.Core.Path.{_≡_, sym, ap, _∙_, subst}
 use mathlib.Core.List.{List}
-use Prim.Native.Nat.{ℕ, _+_, _-_, _≤_, _<_}
+use Prim.Native.Nat.{ℕ}
 use native.Mathlib.Omega.{arith}
-use lib.ListN.{length}
 use Rattle.model.specs.Tables.{stateIn, targetIn}
 use Rattle.model.specs.Calls.{tableStates}
 use Rattle.fields.specs.Offsets.{bodyAt}
@@ -23,7 +22,8 @@ cell-requires c κs = search needs
 field : (c : tie.After-cell) → StateField (c .before .before .before .args .s .now) (c .cell .result)
 field c =
     let start = c .before .before .before in
-    subst (StateField (start .args .s .now)) (sym (c .cell .ensures .value)) (start .pre .0 .field (start .args .self .state) (start .pre .1 .0))
+    subst (StateField (start .args .s .now)) (sym (c .cell .ensures .value))
+    (start .pre .0 .field (start .args .self .state) (start .pre .1 .0))
 
 body-requires : tie.Need-body-requires
 body-requires c κs = field c .fits
@@ -33,7 +33,8 @@ target-requires c κs = subst StateOk (sym (c .body .ensures)) (field (c .before
 
 -- what is found in that field is the table's target
 found : (c : tie.After-target)
-    → targetOf (tableStates (c .before .before .before .before .before .args .s .now)) (c .before .before .before .before .before .args .self .state)
+    → targetOf (tableStates (c .before .before .before .before .before .args .s .now))
+    (c .before .before .before .before .before .args .self .state)
     (c .before .before .before .before .before .args .name)
     ≡ c .target .result
 found c =

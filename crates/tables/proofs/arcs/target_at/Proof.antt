@@ -17,7 +17,8 @@ wide8-requires : tie.Need-wide8-requires
 wide8-requires c κs = search needs
 
 -- the first byte read is the high byte
-high-is : (c : tie.After-wide8) → c .wide8 .result ≡ getD (c .before .before .before .args .state .now) (c .before .before .before .args .i + 1) 0
+high-is : (c : tie.After-wide8)
+    → c .wide8 .result ≡ getD (c .before .before .before .args .state .now) (c .before .before .before .args .i + 1) 0
 high-is c = c .wide8 .ensures
 
 high-small : (c : tie.After-wide8) → c .wide8 .result < 256
