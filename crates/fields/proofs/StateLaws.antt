@@ -97,7 +97,8 @@ unfolding stateFault
 state-too-many names count state h =
     record { is = λ (f : File) (e : length (f .names) ≡ names) (g : length (f .items) ≡ count). rw (g, le-leb state-limit count h) }
 
-pub state-bad : (names count : ℕ) (state : List ℕ) → count < state-limit → stateOk names state ≡ false → StateJudged names count state bad-state
+pub state-bad : (names count : ℕ) (state : List ℕ) → count < state-limit → stateOk names state ≡ false
+    → StateJudged names count state bad-state
 unfolding stateFault
 state-bad names count state h b =
     record { is = λ (f : File) (e : length (f .names) ≡ names) (g : length (f .items) ≡ count). rw (g, e, lt-leb state-limit count h, b) }
