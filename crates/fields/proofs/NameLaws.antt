@@ -12,6 +12,7 @@ use lib.Seq.{drop-cons}
 use Rattle.model.specs.Lists.{all, before, lastOr}
 use Rattle.model.specs.Fields.{File, startsName, continuesName, nameOk, above, nameFault}
 use Rattle.fields.specs.Judged.{NameJudged}
+use Rattle.model.specs.Limits.{name-limit, name-bytes, bad-name, name-order, too-many}
 
 pub all-stop : (p : ℕ → Bool) (s : List ℕ) (i : ℕ) → i < length s → p (getD s i 0) ≡ false → all p (drop i s) ≡ false
 unfolding all
@@ -30,21 +31,21 @@ unfolding nameOk
 name-empty [] h = refl
 name-empty (b ∷ s) h = let z : ⊥ = omega arith in absurd z
 
-pub name-long : (s : List ℕ) → 32 < length s → nameOk s ≡ false
+pub name-long : (s : List ℕ) → name-bytes < length s → nameOk s ≡ false
 unfolding nameOk
 name-long [] h = refl
-name-long (b ∷ s) h = rw (lt-leb (length (b ∷ s)) 32 h)
+name-long (b ∷ s) h = rw (lt-leb (length (b ∷ s)) name-bytes h)
 
 pub name-start : (s : List ℕ) → startsName (getD s 0 0) ≡ false → nameOk s ≡ false
 unfolding nameOk
 name-start [] h = refl
 name-start (b ∷ s) h = rw (h, and-false)
 
-pub name-rest : (s : List ℕ) → 0 < length s → length s ≤ 32 → startsName (getD s 0 0) ≡ true
+pub name-rest : (s : List ℕ) → 0 < length s → length s ≤ name-bytes → startsName (getD s 0 0) ≡ true
     → all continuesName (drop 1 s) ≡ nameOk s
 unfolding nameOk
 name-rest [] g h e = let z : ⊥ = omega arith in absurd z
-name-rest (b ∷ s) g h e = rw (le-leb (length (b ∷ s)) 32 h, e)
+name-rest (b ∷ s) g h e = rw (le-leb (length (b ∷ s)) name-bytes h, e)
 
 pub before-short : (a b : List ℕ) (i : ℕ) → i < length a → length b ≤ i → before (drop i a) (drop i b) ≡ false
 unfolding before
@@ -85,33 +86,33 @@ above-last [] [] e = sym e
 above-last [] (y ∷ b) e = refl
 above-last (n ∷ names) b e = refl
 
-pub name-bad : (last : List ℕ) (count : ℕ) (name : List ℕ) → nameOk name ≡ false → NameJudged last count name 5
+pub name-bad : (last : List ℕ) (count : ℕ) (name : List ℕ) → nameOk name ≡ false → NameJudged last count name bad-name
 unfolding nameFault
 name-bad last count name b =
     record { is = λ (f : File) (e : lastOr [] (f .names) ≡ last) (g : length (f .names) ≡ count). rw b }
 
 pub name-unordered : (last : List ℕ) (count : ℕ) (name : List ℕ) → nameOk name ≡ true → before last name ≡ false
-    → NameJudged last count name 6
+    → NameJudged last count name name-order
 unfolding nameFault
 name-unordered last count name b o =
     record {
       is = λ (f : File) (e : lastOr [] (f .names) ≡ last) (g : length (f .names) ≡ count). rw (b, above-last (f .names) name b, e, o);
     }
 
-pub name-too-many : (last : List ℕ) (count : ℕ) (name : List ℕ) → nameOk name ≡ true → before last name ≡ true → 64 ≤ count
-    → NameJudged last count name 7
+pub name-too-many : (last : List ℕ) (count : ℕ) (name : List ℕ) → nameOk name ≡ true → before last name ≡ true → name-limit ≤ count
+    → NameJudged last count name too-many
 unfolding nameFault
 name-too-many last count name b o h =
     record {
       is = λ (f : File) (e : lastOr [] (f .names) ≡ last) (g : length (f .names) ≡ count).
-          rw (b, above-last (f .names) name b, e, o, g, le-leb 64 count h);
+          rw (b, above-last (f .names) name b, e, o, g, le-leb name-limit count h);
     }
 
-pub name-good : (last : List ℕ) (count : ℕ) (name : List ℕ) → nameOk name ≡ true → before last name ≡ true → count < 64
+pub name-good : (last : List ℕ) (count : ℕ) (name : List ℕ) → nameOk name ≡ true → before last name ≡ true → count < name-limit
     → NameJudged last count name 0
 unfolding nameFault
 name-good last count name b o h =
     record {
       is = λ (f : File) (e : lastOr [] (f .names) ≡ last) (g : length (f .names) ≡ count).
-          rw (b, above-last (f .names) name b, e, o, g, lt-leb 64 count h);
+          rw (b, above-last (f .names) name b, e, o, g, lt-leb name-limit count h);
     }

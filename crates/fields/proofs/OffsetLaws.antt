@@ -1,5 +1,5 @@
 -- Fields by their offsets: what the code reads at an offset; offsets rise; a run of fields has its number of fields, and the i-th is
--- the one at the i-th offset; a run grows at its end. Assumes nothing.
+-- the one at the i-th offset; a run grows at its end, and is gone through from its front. Assumes nothing.
 use mathlib.Core.Path.{_≡_, refl, ap}
 use mathlib.Core.List.{List, [], _∷_, _++_}
 use Prim.Native.Nat.{ℕ, zero, suc, _+_, _*_, _-_, _≤_, _<_}
@@ -62,3 +62,19 @@ pub last-more : (d : List ℕ) (xs : List (List ℕ)) (x : List ℕ) → lastOr 
 unfolding lastOr
 last-more d [] x = refl
 last-more d (y ∷ xs) x = last-more y xs x
+
+-- going through n fields by their offsets: with i of them passed and the next at offset a, what is left is that field and the rest
+module _ (s : List ℕ) (a n i : ℕ) (h : i < n) where
+  one-left : n - i ≡ suc (n - (i + 1))
+  one-left = omega arith
+
+  pub fields-left : fieldsAt s a (n - i) ≡ bodyAt s a ∷ fieldsAt s (nextAt s a) (n - (i + 1))
+  unfolding fieldsAt
+  fields-left = rw one-left
+
+  pub offset-left : offsetAt s a (n - i) ≡ offsetAt s (nextAt s a) (n - (i + 1))
+  unfolding offsetAt
+  offset-left = rw one-left
+
+  pub left-within : nextAt s a ≤ offsetAt s a (n - i)
+  left-within = rw offset-left (offset-above s (nextAt s a) (n - (i + 1)))

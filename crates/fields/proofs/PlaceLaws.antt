@@ -10,7 +10,7 @@ use borrow.Author.Tests.{leb-false, eqb-true, not-false}
 use lib.Dec.{leb, eqb}
 use lib.ListN.{length, getD, take, drop}
 use Rattle.model.specs.Lists.{lastOr}
-use Rattle.model.specs.Limits.{when, firstOf}
+use Rattle.model.specs.Limits.{name-limit, book-rows, state-limit, when, firstOf}
 use Rattle.model.specs.Fields.{File, nameOk, above, settingsOk, classOk, nameFault, classFault, rowFault, stateFault, withField}
 use Rattle.fields.specs.Offsets.{lengthAt, bodyAt, nextAt, offsetAt, fieldsAt}
 use Rattle.fields.specs.Judged.{NameJudged, RowJudged, StateJudged}
@@ -32,20 +32,21 @@ second-none zero b e = e
 second-none (suc a) b e = let z : ⊥ = omega (arith, e) in absurd z
 
 -- where nothing refuses one more name, row or state, there are fewer than the limit; a class has three bytes
-pub names-left : (f : File) (b : List ℕ) → nameFault f b ≡ 0 → length (f .names) < 64
+pub names-left : (f : File) (b : List ℕ) → nameFault f b ≡ 0 → length (f .names) < name-limit
 unfolding nameFault
 names-left f b e =
-    let last = when (leb 64 (length (f .names))) 7 in
+    let last = when (leb name-limit (length (f .names))) 7 in
     let later = second-none (when (not (nameOk b)) 5) (firstOf (when (not (above (f .names) b)) 6) last) e in
-    leb-false 64 (length (f .names)) (no-when (leb 64 (length (f .names))) 6 (second-none (when (not (above (f .names) b)) 6) last later))
+    leb-false name-limit (length (f .names))
+    (no-when (leb name-limit (length (f .names))) 6 (second-none (when (not (above (f .names) b)) 6) last later))
 
-pub rows-left : (f : File) (b : List ℕ) → rowFault f b ≡ 0 → length (f .items) < 256
+pub rows-left : (f : File) (b : List ℕ) → rowFault f b ≡ 0 → length (f .items) < book-rows
 unfolding rowFault
-rows-left f b e = leb-false 256 (length (f .items)) (no-when (leb 256 (length (f .items))) 6 (first-none _ _ e))
+rows-left f b e = leb-false book-rows (length (f .items)) (no-when (leb book-rows (length (f .items))) 6 (first-none _ _ e))
 
-pub states-left : (f : File) (b : List ℕ) → stateFault f b ≡ 0 → length (f .items) < 512
+pub states-left : (f : File) (b : List ℕ) → stateFault f b ≡ 0 → length (f .items) < state-limit
 unfolding stateFault
-states-left f b e = leb-false 512 (length (f .items)) (no-when (leb 512 (length (f .items))) 6 (first-none _ _ e))
+states-left f b e = leb-false state-limit (length (f .items)) (no-when (leb state-limit (length (f .items))) 6 (first-none _ _ e))
 
 pub class-bytes : (b : List ℕ) → classFault b ≡ 0 → length b ≡ 3
 unfolding classFault
@@ -112,7 +113,7 @@ module _ (s : List ℕ) (p : Place) (whole : Whole s p) where
       let q : nextAt s (p .at) - (p .at + 3) ≡ lengthAt s (p .at) = omega arith in
       rw q at (body-at s (p .at))
 
-  name-sound : p .stage ≤ 1 → p .names < 64 → Sound s (namePlace p (nextAt s (p .at)) (lengthAt s (p .at)))
+  name-sound : p .stage ≤ 1 → p .names < name-limit → Sound s (namePlace p (nextAt s (p .at)) (lengthAt s (p .at)))
   unfolding offsetAt
   name-sound h few =
       record {
@@ -170,7 +171,7 @@ module _ (s : List ℕ) (p : Place) (whole : Whole s p) where
   items-more : fieldsAt s (p .start) (p .items + 1) ≡ fieldsAt s (p .start) (p .items) ++ (bodyAt s (p .at) ∷ [])
   items-more = rw (add-one, fields-more, sound .items-end)
 
-  item-sound : p .items < 512 → Sound s (withItem p (nextAt s (p .at)))
+  item-sound : p .items < state-limit → Sound s (withItem p (nextAt s (p .at)))
   item-sound few =
       record {
         within = fits;
@@ -255,7 +256,7 @@ module _ (s : List ℕ) (p : Place) (whole : Whole s p) (row : List ℕ) (fault 
   pub row-refused : (fault ≡ 0 → ⊥) → Faulty (rowFault (fileOf s p) (bodyAt s (p .at))) fault
   row-refused n = faulty (rowFault (fileOf s p) (bodyAt s (p .at))) fault row-fault-is n
 
-  pub row-fewer : fault ≡ 0 → p .items < 512
+  pub row-fewer : fault ≡ 0 → p .items < state-limit
   row-fewer e =
       omega (arith, rows-left (fileOf s p) (bodyAt s (p .at)) (row-fault-is ∙ e), length-fields s (p .start) (p .items))
 
@@ -274,7 +275,7 @@ module _ (s : List ℕ) (p : Place) (whole : Whole s p) (state : List ℕ) (faul
   pub state-refused : (fault ≡ 0 → ⊥) → Faulty (stateFault (fileOf s p) (bodyAt s (p .at))) fault
   state-refused n = faulty (stateFault (fileOf s p) (bodyAt s (p .at))) fault state-fault-is n
 
-  pub state-fewer : fault ≡ 0 → p .items < 512
+  pub state-fewer : fault ≡ 0 → p .items < state-limit
   state-fewer e =
       omega (arith, states-left (fileOf s p) (bodyAt s (p .at)) (state-fault-is ∙ e), length-fields s (p .start) (p .items))
 

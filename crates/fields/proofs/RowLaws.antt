@@ -9,6 +9,7 @@ use lib.ListN.{length, getD, drop, drop-of-length-le}
 use lib.Seq.{drop-cons}
 use Rattle.model.specs.Fields.{File, allBelow, rowOk, rowFault}
 use Rattle.fields.specs.Judged.{RowJudged}
+use Rattle.model.specs.Limits.{book-rows, too-many, bad-row}
 
 pub below-stop : (n : ℕ) (s : List ℕ) (i : ℕ) → i < length s → n ≤ getD s i 0 → allBelow n (drop i s) ≡ false
 unfolding allBelow
@@ -22,17 +23,17 @@ pub below-end : (n : ℕ) (s : List ℕ) (i : ℕ) → length s ≤ i → allBel
 unfolding allBelow
 below-end n s i h = rw (drop-of-length-le s h)
 
-pub row-too-many : (names count : ℕ) (row : List ℕ) → 256 ≤ count → RowJudged names count row 7
+pub row-too-many : (names count : ℕ) (row : List ℕ) → book-rows ≤ count → RowJudged names count row too-many
 unfolding rowFault
 row-too-many names count row h =
-    record { is = λ (f : File) (e : length (f .names) ≡ names) (g : length (f .items) ≡ count). rw (g, le-leb 256 count h) }
+    record { is = λ (f : File) (e : length (f .names) ≡ names) (g : length (f .items) ≡ count). rw (g, le-leb book-rows count h) }
 
-pub row-bad : (names count : ℕ) (row : List ℕ) → count < 256 → rowOk names row ≡ false → RowJudged names count row 9
+pub row-bad : (names count : ℕ) (row : List ℕ) → count < book-rows → rowOk names row ≡ false → RowJudged names count row bad-row
 unfolding rowFault
 row-bad names count row h b =
-    record { is = λ (f : File) (e : length (f .names) ≡ names) (g : length (f .items) ≡ count). rw (g, e, lt-leb 256 count h, b) }
+    record { is = λ (f : File) (e : length (f .names) ≡ names) (g : length (f .items) ≡ count). rw (g, e, lt-leb book-rows count h, b) }
 
-pub row-good : (names count : ℕ) (row : List ℕ) → count < 256 → rowOk names row ≡ true → RowJudged names count row 0
+pub row-good : (names count : ℕ) (row : List ℕ) → count < book-rows → rowOk names row ≡ true → RowJudged names count row 0
 unfolding rowFault
 row-good names count row h b =
-    record { is = λ (f : File) (e : length (f .names) ≡ names) (g : length (f .items) ≡ count). rw (g, e, lt-leb 256 count h, b) }
+    record { is = λ (f : File) (e : length (f .names) ≡ names) (g : length (f .items) ≡ count). rw (g, e, lt-leb book-rows count h, b) }

@@ -19,6 +19,7 @@ use Rattle.fields.specs.declared.Place.{Place}
 use Rattle.fields.specs.declared.Step.{Step}
 use Rattle.fields.specs.declared.Step.the-variants.{Go, Refused}
 use Rattle.fields.specs.declared.Fields.the-variants as answer
+use Rattle.model.specs.Limits.{cut-off, unfinished}
 
 -- the definition, over the bytes that are left: at the end, past the end, refused, and going on
 read-end : (l : ℕ) (kind : FileKind) (f : File) → readFrom (suc l) kind f [] ≡ atEnd f
@@ -26,7 +27,7 @@ unfolding readFrom
 read-end l kind f = refl
 
 read-cut : (l : ℕ) (kind : FileKind) (f : File) (t : List ℕ) → eqb (length t) 0 ≡ false → runsPast t ≡ true
-    → readFrom (suc l) kind f t ≡ refused 2
+    → readFrom (suc l) kind f t ≡ refused cut-off
 unfolding readFrom
 read-cut l kind f t a b = rw (a, readFrom, b)
 
@@ -69,11 +70,11 @@ module _ (s : List ℕ) (p : Place) (before-end : p .at < length s) where
       let q : 3 + lengthAt s (p .at) ≤ length s - p .at = omega arith in
       rw (length-drop (p .at) s, le-ltb (length s - p .at) 3 g, le-ltb (length s - p .at) (3 + lengthAt s (p .at)) q)
 
-  pub turn-cut : (kind : FileKind) → length s - p .at < 3 → Refuses kind s p 2
+  pub turn-cut : (kind : FileKind) → length s - p .at < 3 → Refuses kind s p cut-off
   turn-cut kind h =
       record { some = omega arith; reads = λ (l : ℕ). read-cut l kind (fileOf s p) (drop (p .at) s) some-left (past h) }
 
-  pub turn-cut-body : (kind : FileKind) → 3 ≤ length s - p .at → length s - p .at - 3 < lengthAt s (p .at) → Refuses kind s p 2
+  pub turn-cut-body : (kind : FileKind) → 3 ≤ length s - p .at → length s - p .at - 3 < lengthAt s (p .at) → Refuses kind s p cut-off
   turn-cut-body kind g h =
       record { some = omega arith; reads = λ (l : ℕ). read-cut l kind (fileOf s p) (drop (p .at) s) some-left (past-body g h) }
 
@@ -189,5 +190,5 @@ module _ (class : Class) (kind : FileKind) (s : List ℕ) (p : Place) (reading :
   pub reading-accepted : length s ≤ p .at → p .stage ≡ 3 → ReadAs class kind s (answer.Accepted p)
   reading-accepted h e = record { is = rw (eq-eqb (p .stage) 3 e) at (at-end h); kept = finished h e }
 
-  pub reading-unfinished : length s ≤ p .at → (p .stage ≡ 3 → ⊥) → ReadAs class kind s (answer.Refused 4)
+  pub reading-unfinished : length s ≤ p .at → (p .stage ≡ 3 → ⊥) → ReadAs class kind s (answer.Refused unfinished)
   reading-unfinished h e = record { is = rw (ne-eqb (p .stage) 3 e) at (at-end h); kept = omega arith }
