@@ -1,24 +1,22 @@
 -- The tree so far, one turn at a time: a child found is the state of the longer word; where there is none that word is new; the
 -- arrays with one state more; a row marked; the tree of no rows; and what the whole comes to. Assumes nothing.
-use mathlib.Core.Path.{_≡_, refl, sym, ap, _∙_, subst}
-use mathlib.Core.Logic.{_⊎_, inl, inr, ⊎-elim, _↔_}
+use mathlib.Core.Path.{_≡_, refl, sym, ap, _∙_}
+use mathlib.Core.Logic.{⊎-elim, _↔_}
 use mathlib.Core.List.{List, [], _∷_, _++_, List·Memᴰ as In, List·Memᴰ·head as here, List·Memᴰ·not-nil}
 use mathlib.Core.List.{Memᴰ·cast, Memᴰ·append-left, Memᴰ·append-right, List·Memᴰ·append-cases, List·Memᴰ·eq-of-singleton}
 use Prim.Native.Nat.{ℕ, zero, suc, _+_, _<_, _≤_}
 use native.Mathlib.Omega.{arith}
-use lib.ListN.{length, getD, take, set}
+use lib.ListN.{length, getD, set}
 use lib.Seq.{getD-set-same, getD-set-other, getD-take, length-take-le}
-use Rattle.model.specs.Limits.{name-limit, state-limit, work-bytes}
+use Rattle.model.specs.Limits.{name-limit, state-limit}
 use Rattle.model.specs.Classes.{Word}
-use Rattle.model.specs.Joinings.{beginnings, withStates, treeOf}
+use Rattle.model.specs.Joinings.{treeOf}
 use Rattle.model.proofs.Tests.{eq-dec}
 use Rattle.cells.specs.Cells.{cellAt, withCell}
 use Rattle.cells.proofs.CellLaws.{cell-same, cell-other}
-use Rattle.indexed.specs.Trees.{TreeArrays, AcceptsArray}
-use Rattle.prefix_tree.specs.Growth.{Store, store, Sized, Grown, IsChild, NoChild, appended, longer, withState, TreeBuilt}
+use Rattle.prefix_tree.specs.Growth.{Store, store, Sized, Grown, IsChild, NoChild, appended, longer, TreeBuilt}
 use Rattle.prefix_tree.proofs.WordLaws.{at-in, in-at, snoc-not-nil, snoc-left, snoc-last, below-or-last, snoc-old, snoc-new}
 use Rattle.prefix_tree.proofs.WordLaws.{snoc-length}
-use Rattle.prefix_tree.proofs.TreeLaws.{withState-there, withState-new}
 
 -- ---- a child looked up
 

@@ -2,19 +2,20 @@
 -- there is no room. The walk along a row: begun, gone on, out of room, ended. The rows of a book: begun, gone on, out of room.
 -- Assumes nothing.
 use mathlib.Core.Path.{_≡_, refl, sym, ap, _∙_, subst}
-use mathlib.Core.List.{List, [], _∷_, _++_, List·Memᴰ as In, Memᴰ·cast}
-use Prim.Native.Nat.{ℕ, zero, suc, _+_, _<_, _≤_}
+use mathlib.Core.List.{List, [], _∷_, _++_, Memᴰ·cast}
+use Prim.Native.Nat.{ℕ, suc, _+_, _<_, _≤_}
 use native.Mathlib.Numerals.{add-one}
 use native.Mathlib.Omega.{arith}
 use lib.ListN.{length, getD, take, set, length-set}
 use lib.Seq.{take-suc, take-all}
-use Rattle.model.specs.Limits.{name-limit, state-limit, work-bytes}
+use Rattle.model.specs.Limits.{name-limit, state-limit}
 use Rattle.model.specs.Classes.{Word}
 use Rattle.model.specs.Joinings.{beginnings, withStates, withRows, treeOf}
 use Rattle.fields.specs.Offsets.{bodyAt, nextAt, offsetAt, fieldsAt}
 use Rattle.fields.proofs.OffsetLaws.{fields-more, offset-suc, field-within, field-at, length-fields}
 use Rattle.prefix_tree.specs.Growth.{Store, store, Sized, Grown, IsChild, NoChild, appended, longer, withState}
-use Rattle.prefix_tree.specs.Growth.{Stepped, StepTooMany, RowAdded, RowTooMany, RowBelow, RowsBelow, TreeBuilt, TreeTooLarge, BuiltOf, TreeOf}
+use Rattle.prefix_tree.specs.Growth.{Stepped, StepTooMany, RowAdded, RowTooMany, RowBelow, RowsBelow}
+use Rattle.prefix_tree.specs.Growth.{TreeBuilt, TreeTooLarge, BuiltOf, TreeOf}
 use Rattle.prefix_tree.specs.declared.Tree.{Tree}
 use Rattle.prefix_tree.proofs.WordLaws.{at-in, snoc-new, snoc-length}
 use Rattle.prefix_tree.proofs.TreeLaws.{withState-there, withState-new, walked, walked-none, walked-more, walked-longer}

@@ -1,6 +1,6 @@
 -- `add_row` meets its contract. The loop's invariant: the first i entries are walked; what is left of the row falls. Assumes nothing.
 use mathlib.Core.Path.{_≡_, sym, _∙_, subst}
-use Prim.Native.Nat.{_-_}
+use Prim.Native.Nat.{ℕ, _-_}
 use native.Mathlib.Omega.{arith}
 use borrow.Author.Needs.{needs}
 use lib.ListN.{length, getD, length-set}
@@ -18,48 +18,67 @@ abbrev μ-loop : tie.MeasureT-loop
 μ-loop row parents₀ names₀ accepts₀ work₀ count n₀ state₀ i₀ parents names accepts work n state i =
     length row - i
 
+-- places on the way: the entry, the loop's turn, and the two ends of the step's call
+abbrev start : tie.At-loop Inv-loop μ-loop → tie.Start Inv-loop μ-loop
+start c = c .before .before .before .before .before .before
+
+abbrev turn : tie.After-step Inv-loop μ-loop → tie.At-loop Inv-loop μ-loop
+turn c = c .before .before .before .before .before .before .before
+
+abbrev stopped : tie.After-enum-told Inv-loop μ-loop → tie.After-step Inv-loop μ-loop
+stopped c = c .before .before .before .before .before .before .before .before .before .before
+
+abbrev moved : tie.After-known-told Inv-loop μ-loop → tie.After-step Inv-loop μ-loop
+moved c = c .before .before .before .before .before .before .before .before .before .before .before
+
+-- the arrays as they came, at a turn, and as the step left them
+abbrev lent : tie.At-loop Inv-loop μ-loop → Store
+lent c =
+    let args = start c .args in
+    store (args .parents .now) (args .names .now) (args .accepts .now) (args .work .now)
+
+abbrev held : tie.At-loop Inv-loop μ-loop → Store
+held c = store (c .loop .parents) (c .loop .names) (c .loop .accepts) (c .loop .work)
+
+abbrev left : tie.After-step Inv-loop μ-loop → Store
+left c = store (c .step .last .0) (c .step .last .1 .0) (c .step .last .1 .1 .0) (c .step .last .1 .1 .1 .0)
+
+left-sized : (c : tie.After-step Inv-loop μ-loop) → Sized (left c .parents) (left c .names) (left c .accepts) (left c .work)
+left-sized c =
+    sized-kept (held (turn c)) (left c) (turn c .loop .inv .sizes)
+    (c .step .kept .0)
+    (c .step .kept .1 .0)
+    (c .step .kept .1 .1 .0)
+    (c .step .kept .1 .1 .1 .0)
+
+-- the entry that is walked
+abbrev entry : tie.At-loop Inv-loop μ-loop → ℕ
+entry c = getD (start c .args .row .now) (c .loop .i) 0
+
+-- what the step says of its answer
+stepped : (c : tie.After-step Inv-loop μ-loop) (r : Went) → c .step .result ≡ r
+    → StepOf (turn c .loop .n) (turn c .loop .state) (entry (turn c)) (held (turn c)) (left c) r
+stepped c r e =
+    subst (λ (r : Went). StepOf (turn c .loop .n) (turn c .loop .state) (entry (turn c)) (held (turn c)) (left c) r) e (c .step .ensures)
+
 loop-holds : tie.Need-loop-holds Inv-loop μ-loop
 loop-holds c =
     let at = c .before .before .before .before .before in
     walking-begins (at .args .row .now) (at .args .count)
     (store (at .args .parents .now) (at .args .names .now) (at .args .accepts .now) (at .args .work .now))
-    (at .pre .0 .0) (at .pre .0 .1) (at .pre .1)
+    (at .pre .0 .0)
+    (at .pre .0 .1)
+    (at .pre .1)
 
 shared-slice-read-step : tie.Need-shared-slice-read-step Inv-loop μ-loop
 shared-slice-read-step c = omega arith
 
 step-requires : tie.Need-step-requires Inv-loop μ-loop
 step-requires c κs =
-    let loop = c .before .before .before .before .before .before .loop in
-    (
-      (loop .inv .few, loop .inv .low, c .before .before .before .before .before .before .before .before .before .before .before .before .pre .0 .2 .entry (loop .i) (omega arith)),
-      loop .inv .sizes,
+    let at = c .before .before .before .before .before .before in (
+      (at .loop .inv .few, at .loop .inv .low, start at .pre .0 .2 .entry (at .loop .i) (omega arith)),
+      at .loop .inv .sizes,
     )
-
--- the arrays before a step and after it
-abbrev held : tie.After-step Inv-loop μ-loop → Store
-held c =
-    let loop = c .before .before .before .before .before .before .before .loop in
-    store (loop .parents) (loop .names) (loop .accepts) (loop .work)
-
-abbrev left : tie.After-step Inv-loop μ-loop → Store
-left c =
-    store (c .step .last .0) (c .step .last .1 .0) (c .step .last .1 .1 .0) (c .step .last .1 .1 .1 .0)
-
--- what the step says of its answer
-stepped : (c : tie.After-step Inv-loop μ-loop) (r : Went) → c .step .result ≡ r
-    → StepOf (c .before .before .before .before .before .before .before .loop .n) (c .before .before .before .before .before .before .before .loop .state) (getD (c .before .before .before .before .before .before .before .before .before .before .before .before .before .args .row .now) (c .before .before .before .before .before .before .before .loop .i) 0) (held c) (left c) r
-stepped c r e =
-    subst
-    (λ (r : Went).
-    StepOf (c .before .before .before .before .before .before .before .loop .n) (c .before .before .before .before .before .before .before .loop .state) (getD (c .before .before .before .before .before .before .before .before .before .before .before .before .before .args .row .now) (c .before .before .before .before .before .before .before .loop .i) 0) (held c) (left c) r)
-    e
-    (c .step .ensures)
-
-left-sized : (c : tie.After-step Inv-loop μ-loop) → Sized (left c .parents) (left c .names) (left c .accepts) (left c .work)
-left-sized c =
-    sized-kept (held c) (left c) (c .before .before .before .before .before .before .before .loop .inv .sizes)
-    (c .step .kept .0) (c .step .kept .1 .0) (c .step .kept .1 .1 .0) (c .step .kept .1 .1 .1 .0)
 
 enum-known-went : tie.Need-enum-known-went Inv-loop μ-loop
 enum-known-went c = search needs
@@ -68,32 +87,25 @@ enum-told : tie.Need-enum-told Inv-loop μ-loop
 enum-told c = search needs
 
 same-length : tie.Need-same-length Inv-loop μ-loop
-same-length c =
-    let after = c .before .before .before .before .before .before .before .before .before .before in
-    left-sized after .parents-size ∙ sym (after .before .before .before .before .before .before .before .before .before .before .before .before .before .pre .1 .parents-size)
+same-length c = left-sized (stopped c) .parents-size ∙ sym (start (turn (stopped c)) .pre .1 .parents-size)
 
 same-length-2 : tie.Need-same-length-2 Inv-loop μ-loop
-same-length-2 c =
-    let after = c .before .before .before .before .before .before .before .before .before .before in
-    left-sized after .names-size ∙ sym (after .before .before .before .before .before .before .before .before .before .before .before .before .before .pre .1 .names-size)
+same-length-2 c = left-sized (stopped c) .names-size ∙ sym (start (turn (stopped c)) .pre .1 .names-size)
 
 same-length-3 : tie.Need-same-length-3 Inv-loop μ-loop
-same-length-3 c =
-    let after = c .before .before .before .before .before .before .before .before .before .before in
-    left-sized after .accepts-size ∙ sym (after .before .before .before .before .before .before .before .before .before .before .before .before .before .pre .1 .accepts-size)
+same-length-3 c = left-sized (stopped c) .accepts-size ∙ sym (start (turn (stopped c)) .pre .1 .accepts-size)
 
 same-length-4 : tie.Need-same-length-4 Inv-loop μ-loop
-same-length-4 c =
-    let after = c .before .before .before .before .before .before .before .before .before .before in
-    after .step .kept .1 .1 .1 .0 ∙ after .before .before .before .before .before .before .before .loop .inv .work-kept
+same-length-4 c = stopped c .step .kept .1 .1 .1 .0 ∙ turn (stopped c) .loop .inv .work-kept
 
 returns : tie.Need-returns Inv-loop μ-loop
 returns c =
-    let after = c .before .before .before .before .before .before .before .before .before .before in
-    let loop = after .before .before .before .before .before .before .before .loop in
-    let at = after .before .before .before .before .before .before .before .before .before .before .before .before .before .args in
-    walking-full (at .row .now) (at .count) (store (at .parents .now) (at .names .now) (at .accepts .now) (at .work .now)) (held after)
-    (loop .n) (loop .state) (loop .i) (loop .inv) (omega arith) (stepped after _ (c .enum-told .given .1))
+    let after = stopped c in
+    let at = turn after in
+    walking-full (start at .args .row .now) (start at .args .count) (lent at) (held at) (at .loop .n) (at .loop .state) (at .loop .i)
+    (at .loop .inv)
+    (omega arith)
+    (stepped after _ (c .enum-told .given .1))
 
 add-i : tie.Need-add-i Inv-loop μ-loop
 add-i c = omega arith
@@ -103,34 +115,44 @@ loop-less c = omega arith
 
 loop-again : tie.Need-loop-again Inv-loop μ-loop
 loop-again c =
-    let after = c .before .before .before .before .before .before .before .before .before .before .before in
-    let loop = after .before .before .before .before .before .before .before .loop in
-    let at = after .before .before .before .before .before .before .before .before .before .before .before .before .before .args in
-    walking-goes (at .row .now) (at .count) (store (at .parents .now) (at .names .now) (at .accepts .now) (at .work .now)) (held after)
-    (loop .n) (loop .state) (loop .i) (loop .inv) (omega arith) (left after) (c .before .went .given .0 .0) (c .before .went .given .0 .1 .0)
-    (stepped after _ (c .before .went .given .1)) (left-sized after) (after .step .kept .1 .1 .1 .0)
+    let after = moved c in
+    let at = turn after in
+    let next = c .before .went .given in
+    walking-goes (start at .args .row .now) (start at .args .count) (lent at) (held at) (at .loop .n) (at .loop .state) (at .loop .i)
+    (at .loop .inv)
+    (omega arith)
+    (left after)
+    (next .0 .0)
+    (next .0 .1 .0)
+    (stepped after _ (next .1))
+    (left-sized after)
+    (after .step .kept .1 .1 .1 .0)
 
 slice-write-accepts : tie.Need-slice-write-accepts Inv-loop μ-loop
-slice-write-accepts c = omega (arith, c .before .loop .inv .low, c .before .loop .inv .few, c .before .loop .inv .sizes .accepts-size)
+slice-write-accepts c =
+    let inv = c .before .loop .inv in
+    omega (arith, inv .low, inv .few, inv .sizes .accepts-size)
 
 same-length-5 : tie.Need-same-length-5 Inv-loop μ-loop
-same-length-5 c = c .before .loop .inv .sizes .parents-size ∙ sym (c .before .before .before .before .before .before .before .pre .1 .parents-size)
+same-length-5 c = c .before .loop .inv .sizes .parents-size ∙ sym (start (c .before) .pre .1 .parents-size)
 
 same-length-6 : tie.Need-same-length-6 Inv-loop μ-loop
-same-length-6 c = c .before .loop .inv .sizes .names-size ∙ sym (c .before .before .before .before .before .before .before .pre .1 .names-size)
+same-length-6 c = c .before .loop .inv .sizes .names-size ∙ sym (start (c .before) .pre .1 .names-size)
 
 same-length-7 : tie.Need-same-length-7 Inv-loop μ-loop
-same-length-7 c = length-set (c .before .loop .accepts) (c .before .loop .state) 1 ∙ c .before .loop .inv .sizes .accepts-size ∙ sym (c .before .before .before .before .before .before .before .pre .1 .accepts-size)
+same-length-7 c =
+    length-set (c .before .loop .accepts) (c .before .loop .state) 1
+    ∙ c .before .loop .inv .sizes .accepts-size ∙ sym (start (c .before) .pre .1 .accepts-size)
 
 same-length-8 : tie.Need-same-length-8 Inv-loop μ-loop
 same-length-8 c = c .before .loop .inv .work-kept
 
 returns-2 : tie.Need-returns-2 Inv-loop μ-loop
 returns-2 c =
-    let loop = c .before .loop in
-    let at = c .before .before .before .before .before .before .before .args in
-    walking-ends (at .row .now) (at .count) (store (at .parents .now) (at .names .now) (at .accepts .now) (at .work .now))
-    (store (loop .parents) (loop .names) (loop .accepts) (loop .work)) (loop .n) (loop .state) (loop .i) (loop .inv) (omega arith)
+    let at = c .before in
+    walking-ends (start at .args .row .now) (start at .args .count) (lent at) (held at) (at .loop .n) (at .loop .state) (at .loop .i)
+    (at .loop .inv)
+    (omega arith)
 
 pub add-row-spec : {M : Type 1} → statement M
 add-row-spec =

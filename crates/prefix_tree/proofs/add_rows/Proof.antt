@@ -2,10 +2,11 @@
 -- Assumes nothing.
 use mathlib.Core.Path.{_≡_, sym, _∙_, subst}
 use mathlib.Core.List.{List}
-use Prim.Native.Nat.{ℕ, _-_}
+use Prim.Native.Nat.{ℕ, _-_, _<_, _≤_}
 use native.Mathlib.Omega.{arith}
 use borrow.Author.Needs.{needs}
-use Rattle.fields.specs.Offsets.{bodyAt, fieldsAt}
+use lib.ListN.{length}
+use Rattle.fields.specs.Offsets.{bodyAt, nextAt, fieldsAt}
 use Rattle.prefix_tree.specs.Growth.{Store, store, Sized, RowBelow, RowOf}
 use Rattle.prefix_tree.specs.declared.Added.{Added}
 use Rattle.prefix_tree.proofs.StepLaws.{Adding, sized-kept, adding-begins, adding-fits, adding-below, adding-goes, adding-full}
@@ -21,6 +22,67 @@ abbrev μ-loop : tie.MeasureT-loop
 μ-loop book start items parents₀ names₀ accepts₀ work₀ n₀ at₀ i₀ parents names accepts work n at i =
     items - i
 
+-- places on the way: the entry, the loop's turn, and the two ends of the call that adds a row
+abbrev start : tie.At-loop Inv-loop μ-loop → tie.Start Inv-loop μ-loop
+start c = c .before .before .before .before .before .before
+
+abbrev turn : tie.After-add-row Inv-loop μ-loop → tie.At-loop Inv-loop μ-loop
+turn c = c .before .before .before .before .before .before .before
+
+abbrev stopped : tie.After-enum-told Inv-loop μ-loop → tie.After-add-row Inv-loop μ-loop
+stopped c = c .before .before .before .before .before .before .before .before .before .before
+
+abbrev grown : tie.After-known-told Inv-loop μ-loop → tie.After-add-row Inv-loop μ-loop
+grown c = c .before .before .before .before .before .before .before .before .before .before .before
+
+-- the arrays as they came, at a turn, and as the row left them
+abbrev lent : tie.At-loop Inv-loop μ-loop → Store
+lent c =
+    let args = start c .args in
+    store (args .parents .now) (args .names .now) (args .accepts .now) (args .work .now)
+
+abbrev held : tie.At-loop Inv-loop μ-loop → Store
+held c = store (c .loop .parents) (c .loop .names) (c .loop .accepts) (c .loop .work)
+
+abbrev left : tie.After-add-row Inv-loop μ-loop → Store
+left c =
+    let last = c .add-row .last .1 in
+    store (last .0) (last .1 .0) (last .1 .1 .0) (last .1 .1 .1 .0)
+
+left-sized : (c : tie.After-add-row Inv-loop μ-loop) → Sized (left c .parents) (left c .names) (left c .accepts) (left c .work)
+left-sized c =
+    let kept = c .add-row .kept .1 in
+    sized-kept (held (turn c)) (left c) (turn c .loop .inv .sizes) (kept .0) (kept .1 .0) (kept .1 .1 .0) (kept .1 .1 .1 .0)
+
+work-kept : (c : tie.After-add-row Inv-loop μ-loop) → length (left c .work) ≡ length (lent (turn c) .work)
+work-kept c = c .add-row .kept .1 .1 .1 .1 .0 ∙ turn c .loop .inv .work-kept
+
+-- the book's rows, and the one at a turn
+abbrev rows : tie.At-loop Inv-loop μ-loop → List (List ℕ)
+rows c = fieldsAt (start c .args .book .now) (start c .args .start) (start c .args .items)
+
+abbrev row : tie.At-loop Inv-loop μ-loop → List ℕ
+row c = bodyAt (start c .args .book .now) (c .loop .at)
+
+-- what adding the row says of its answer
+rowed : (c : tie.After-add-row Inv-loop μ-loop) (r : Added) → c .add-row .result ≡ r
+    → RowOf (row (turn c)) (turn c .loop .n) (held (turn c)) (left c) r
+rowed c r e =
+    subst (λ (r : Added). RowOf (row (turn c)) (turn c .loop .n) (held (turn c)) (left c) r) e
+    (subst (λ (w : List ℕ). RowOf w (turn c .loop .n) (held (turn c)) (left c) (c .add-row .result))
+    (c .before .before .before .before .before .body .ensures)
+    (c .add-row .ensures))
+
+-- the next row lies within the book
+fits : (c : tie.At-loop Inv-loop μ-loop) → c .loop .i < start c .args .items
+    → nextAt (start c .args .book .now) (c .loop .at) ≤ length (start c .args .book .now)
+fits c more =
+    let args = start c .args in
+    adding-fits (args .book .now) (args .start) (args .items) (args .work .now) (held c) (c .loop .n) (c .loop .at) (c .loop .i)
+    (c .loop .inv)
+    more
+    (start c .pre .0)
+
 slice-write-parents : tie.Need-slice-write-parents Inv-loop μ-loop
 slice-write-parents c = omega (arith, c .before .before .before .before .before .pre .1 .1 .parents-size)
 
@@ -32,56 +94,29 @@ slice-write-accepts c = omega (arith, c .before .before .before .before .before 
 
 loop-holds : tie.Need-loop-holds Inv-loop μ-loop
 loop-holds c =
-    let at = c .before .before .before .before .before .args in
-    adding-begins (at .book .now) (at .start) (at .items) (at .parents .now) (at .names .now) (at .accepts .now) (at .work .now)
-    (c .before .before .before .before .before .pre .1 .1)
-
--- the arrays at a loop's turn, as they came, and as the row left them
-abbrev held : tie.At-loop Inv-loop μ-loop → Store
-held c = store (c .loop .parents) (c .loop .names) (c .loop .accepts) (c .loop .work)
-
-abbrev lent : tie.At-loop Inv-loop μ-loop → Store
-lent c =
-    let at = c .before .before .before .before .before .before .args in
-    store (at .parents .now) (at .names .now) (at .accepts .now) (at .work .now)
-
-abbrev left : tie.After-add-row Inv-loop μ-loop → Store
-left c =
-    store (c .add-row .last .1 .0) (c .add-row .last .1 .1 .0) (c .add-row .last .1 .1 .1 .0) (c .add-row .last .1 .1 .1 .1 .0)
-
-left-sized : (c : tie.After-add-row Inv-loop μ-loop) → Sized (left c .parents) (left c .names) (left c .accepts) (left c .work)
-left-sized c =
-    sized-kept (held (c .before .before .before .before .before .before .before)) (left c) (c .before .before .before .before .before .before .before .loop .inv .sizes)
-    (c .add-row .kept .1 .0) (c .add-row .kept .1 .1 .0) (c .add-row .kept .1 .1 .1 .0) (c .add-row .kept .1 .1 .1 .1 .0)
-
--- what adding the row says of its answer
-rowed : (c : tie.After-add-row Inv-loop μ-loop) (r : Added) → c .add-row .result ≡ r
-    → RowOf (bodyAt (c .before .before .before .before .before .before .before .before .before .before .before .before .before .args .book .now) (c .before .before .before .before .before .before .before .loop .at)) (c .before .before .before .before .before .before .before .loop .n) (held (c .before .before .before .before .before .before .before)) (left c) r
-rowed c r e =
-    subst
-    (λ (r : Added). RowOf (bodyAt (c .before .before .before .before .before .before .before .before .before .before .before .before .before .args .book .now) (c .before .before .before .before .before .before .before .loop .at)) (c .before .before .before .before .before .before .before .loop .n) (held (c .before .before .before .before .before .before .before)) (left c) r)
-    e
-    (subst (λ (row : List ℕ). RowOf row (c .before .before .before .before .before .before .before .loop .n) (held (c .before .before .before .before .before .before .before)) (left c) (c .add-row .result)) (c .before .before .before .before .before .body .ensures)
-    (c .add-row .ensures))
+    let at = c .before .before .before .before .before in
+    let args = at .args in
+    adding-begins (args .book .now) (args .start) (args .items) (args .parents .now) (args .names .now) (args .accepts .now) (args .work .now)
+    (at .pre .1 .1)
 
 body-requires : tie.Need-body-requires Inv-loop μ-loop
-body-requires c κs =
-    let turn = c .before in
-    let at = turn .before .before .before .before .before .before .args in
-    adding-fits (at .book .now) (at .start) (at .items) (at .work .now) (held turn) (turn .loop .n) (turn .loop .at) (turn .loop .i) (turn .loop .inv) (omega arith) (turn .before .before .before .before .before .before .pre .0)
+body-requires c κs = fits (c .before) (omega arith)
 
 add-row-requires : tie.Need-add-row-requires Inv-loop μ-loop
 add-row-requires c κs =
-    let turn = c .before .before .before .before .before .before in
-    let at = turn .before .before .before .before .before .before .args in
-    (
+    let at = c .before .before .before .before .before .before in
+    let args = start at .args in
+    let below : RowBelow (row at) =
+    adding-below (args .book .now) (args .start) (args .items) (args .work .now) (held at) (at .loop .n) (at .loop .at) (at .loop .i)
+    (at .loop .inv)
+    (omega arith)
+    (start at .pre .1 .0) in (
       (
-        turn .loop .inv .some,
-        turn .loop .inv .few,
-        subst (λ (row : List ℕ). RowBelow row) (sym (c .before .before .before .before .body .ensures))
-        (adding-below (at .book .now) (at .start) (at .items) (at .work .now) (held turn) (turn .loop .n) (turn .loop .at) (turn .loop .i) (turn .loop .inv) (omega arith) (turn .before .before .before .before .before .before .pre .1 .0)),
+        at .loop .inv .some,
+        at .loop .inv .few,
+        subst (λ (w : List ℕ). RowBelow w) (sym (c .before .before .before .before .body .ensures)) below,
       ),
-      turn .loop .inv .sizes,
+      at .loop .inv .sizes,
     )
 
 enum-known-added : tie.Need-enum-known-added Inv-loop μ-loop
@@ -91,39 +126,33 @@ enum-told : tie.Need-enum-told Inv-loop μ-loop
 enum-told c = search needs
 
 same-length : tie.Need-same-length Inv-loop μ-loop
-same-length c =
-    let after = c .before .before .before .before .before .before .before .before .before .before in
-    left-sized after .parents-size ∙ sym (after .before .before .before .before .before .before .before .before .before .before .before .before .before .pre .1 .1 .parents-size)
+same-length c = left-sized (stopped c) .parents-size ∙ sym (start (turn (stopped c)) .pre .1 .1 .parents-size)
 
 same-length-2 : tie.Need-same-length-2 Inv-loop μ-loop
-same-length-2 c =
-    let after = c .before .before .before .before .before .before .before .before .before .before in
-    left-sized after .names-size ∙ sym (after .before .before .before .before .before .before .before .before .before .before .before .before .before .pre .1 .1 .names-size)
+same-length-2 c = left-sized (stopped c) .names-size ∙ sym (start (turn (stopped c)) .pre .1 .1 .names-size)
 
 same-length-3 : tie.Need-same-length-3 Inv-loop μ-loop
-same-length-3 c =
-    let after = c .before .before .before .before .before .before .before .before .before .before in
-    left-sized after .accepts-size ∙ sym (after .before .before .before .before .before .before .before .before .before .before .before .before .before .pre .1 .1 .accepts-size)
+same-length-3 c = left-sized (stopped c) .accepts-size ∙ sym (start (turn (stopped c)) .pre .1 .1 .accepts-size)
 
 same-length-4 : tie.Need-same-length-4 Inv-loop μ-loop
-same-length-4 c =
-    let after = c .before .before .before .before .before .before .before .before .before .before in
-    after .add-row .kept .1 .1 .1 .1 .0 ∙ after .before .before .before .before .before .before .before .loop .inv .work-kept
+same-length-4 c = work-kept (stopped c)
 
 returns : tie.Need-returns Inv-loop μ-loop
 returns c =
-    let after = c .before .before .before .before .before .before .before .before .before .before in
-    let turn = after .before .before .before .before .before .before .before in
-    let at = turn .before .before .before .before .before .before .args in
-    tree-answer (fieldsAt (at .book .now) (at .start) (at .items)) (lent turn) (left after) _
-    (adding-full (at .book .now) (at .start) (at .items) (at .work .now) (held turn) (turn .loop .n) (turn .loop .at) (turn .loop .i) (turn .loop .inv) (omega arith) (rowed after _ (c .enum-told .given .1)))
-    (turn .before .before .before .before .before .before .pre .1 .1) (left-sized after) (after .add-row .kept .1 .1 .1 .1 .0 ∙ turn .loop .inv .work-kept)
+    let after = stopped c in
+    let at = turn after in
+    let args = start at .args in
+    tree-answer (rows at) (lent at) (left after) _
+    (adding-full (args .book .now) (args .start) (args .items) (args .work .now) (held at) (at .loop .n) (at .loop .at) (at .loop .i)
+    (at .loop .inv)
+    (omega arith)
+    (rowed after _ (c .enum-told .given .1)))
+    (start at .pre .1 .1)
+    (left-sized after)
+    (work-kept after)
 
 next-field-requires : tie.Need-next-field-requires Inv-loop μ-loop
-next-field-requires c κs =
-    let turn = c .before .before .before .before .before .before .before .before .before .before .before .before .before .before .before .before .before .before in
-    let at = turn .before .before .before .before .before .before .args in
-    adding-fits (at .book .now) (at .start) (at .items) (at .work .now) (held turn) (turn .loop .n) (turn .loop .at) (turn .loop .i) (turn .loop .inv) (omega arith) (turn .before .before .before .before .before .before .pre .0)
+next-field-requires c κs = fits (turn (grown c)) (omega arith)
 
 add-i : tie.Need-add-i Inv-loop μ-loop
 add-i c = omega arith
@@ -133,32 +162,44 @@ loop-less c = omega arith
 
 loop-again : tie.Need-loop-again Inv-loop μ-loop
 loop-again c =
-    let after = c .before .before .before .before .before .before .before .before .before .before .before .before in
-    let turn = after .before .before .before .before .before .before .before in
-    let at = turn .before .before .before .before .before .before .args in
-    adding-goes (at .book .now) (at .start) (at .items) (at .work .now) (held turn) (turn .loop .n) (turn .loop .at) (turn .loop .i) (turn .loop .inv) (omega arith)
-    (left after) (c .before .before .added .given .0 .0) (rowed after _ (c .before .before .added .given .1)) (left-sized after)
-    (after .add-row .kept .1 .1 .1 .1 .0) (c .next-field .result) (c .next-field .ensures)
+    let after = grown (c .before) in
+    let at = turn after in
+    let args = start at .args in
+    let next = c .before .before .added .given in
+    adding-goes (args .book .now) (args .start) (args .items) (args .work .now) (held at) (at .loop .n) (at .loop .at) (at .loop .i)
+    (at .loop .inv)
+    (omega arith)
+    (left after)
+    (next .0 .0)
+    (rowed after _ (next .1))
+    (left-sized after)
+    (after .add-row .kept .1 .1 .1 .1 .0)
+    (c .next-field .result)
+    (c .next-field .ensures)
 
 same-length-5 : tie.Need-same-length-5 Inv-loop μ-loop
-same-length-5 c = c .before .loop .inv .sizes .parents-size ∙ sym (c .before .before .before .before .before .before .before .pre .1 .1 .parents-size)
+same-length-5 c = c .before .loop .inv .sizes .parents-size ∙ sym (start (c .before) .pre .1 .1 .parents-size)
 
 same-length-6 : tie.Need-same-length-6 Inv-loop μ-loop
-same-length-6 c = c .before .loop .inv .sizes .names-size ∙ sym (c .before .before .before .before .before .before .before .pre .1 .1 .names-size)
+same-length-6 c = c .before .loop .inv .sizes .names-size ∙ sym (start (c .before) .pre .1 .1 .names-size)
 
 same-length-7 : tie.Need-same-length-7 Inv-loop μ-loop
-same-length-7 c = c .before .loop .inv .sizes .accepts-size ∙ sym (c .before .before .before .before .before .before .before .pre .1 .1 .accepts-size)
+same-length-7 c = c .before .loop .inv .sizes .accepts-size ∙ sym (start (c .before) .pre .1 .1 .accepts-size)
 
 same-length-8 : tie.Need-same-length-8 Inv-loop μ-loop
 same-length-8 c = c .before .loop .inv .work-kept
 
 returns-2 : tie.Need-returns-2 Inv-loop μ-loop
 returns-2 c =
-    let turn = c .before in
-    let at = turn .before .before .before .before .before .before .args in
-    tree-answer (fieldsAt (at .book .now) (at .start) (at .items)) (lent turn) (held turn) _
-    (adding-ends (at .book .now) (at .start) (at .items) (at .work .now) (held turn) (turn .loop .n) (turn .loop .at) (turn .loop .i) (turn .loop .inv) (omega arith))
-    (turn .before .before .before .before .before .before .pre .1 .1) (turn .loop .inv .sizes) (turn .loop .inv .work-kept)
+    let at = c .before in
+    let args = start at .args in
+    tree-answer (rows at) (lent at) (held at) _
+    (adding-ends (args .book .now) (args .start) (args .items) (args .work .now) (held at) (at .loop .n) (at .loop .at) (at .loop .i)
+    (at .loop .inv)
+    (omega arith))
+    (start at .pre .1 .1)
+    (at .loop .inv .sizes)
+    (at .loop .inv .work-kept)
 
 pub add-rows-spec : {M : Type 1} → statement M
 add-rows-spec =

@@ -3,26 +3,52 @@ use mathlib.Core.Path.{_≡_, subst}
 use native.Mathlib.Omega.{arith}
 use Rattle.prefix_tree.specs.Growth.{Store, store, ChildOf}
 use Rattle.prefix_tree.specs.declared.Found.{Found}
+use Rattle.prefix_tree.specs.declared.Found.the-variants as found
 use Rattle.prefix_tree.proofs.StepLaws.{step-found, step-appended, step-full}
 use borrow.Author.Needs.{needs}
 use Rattle.prefix_tree.proofs.step.Statement.{statement}
 use Rattle.prefix_tree.proofs.step.Tie as tie
 
+-- places on the way: the entry, the look for the child, and the end of the call that appends
+abbrev start : tie.After-child → tie.Start
+start c = c .before .before .before .before .before .before .before .before
+
+abbrev appending : tie.After-slice-known8 → tie.After-append
+appending c = c .before .before .before .before .before .before .before .before
+
+abbrev unfound : tie.After-append → tie.After-enum-told
+unfound c = c .before .before .before .before .before .before
+
 -- the arrays as they came
 abbrev lent : tie.After-child → Store
 lent c =
-    let at = c .before .before .before .before .before .before .before .before .args in
-    store (at .parents .now) (at .names .now) (at .accepts .now) (at .work .now)
+    let args = start c .args in
+    store (args .parents .now) (args .names .now) (args .accepts .now) (args .work .now)
+
+-- and as appending a state left them
+abbrev left : tie.After-append → Store
+left c = store (c .append .last .0) (c .append .last .1 .0) (c .append .last .1 .1 .0) (c .append .last .1 .1 .1 .0)
 
 -- what the look for the child says of its answer
 looked : (c : tie.After-child) (r : Found) → c .child .result ≡ r
-    → ChildOf (c .before .before .before .before .before .before .before .before .args .count) (c .before .before .before .before .before .before .before .before .args .state) (c .before .before .before .before .before .before .before .before .args .name) (lent c .parents) (lent c .names) (lent c .work) r
+    → ChildOf (start c .args .count) (start c .args .state) (start c .args .name) (lent c .parents) (lent c .names) (lent c .work) r
 looked c r e =
     subst
     (λ (r : Found).
-    ChildOf (c .before .before .before .before .before .before .before .before .args .count) (c .before .before .before .before .before .before .before .before .args .state) (c .before .before .before .before .before .before .before .before .args .name) (lent c .parents) (lent c .names) (lent c .work) r)
+    ChildOf (start c .args .count) (start c .args .state) (start c .args .name) (lent c .parents) (lent c .names) (lent c .work) r)
     e
     (c .child .ensures)
+
+no-child : (c : tie.After-enum-told)
+    → ChildOf
+    (start (c .before .before) .args .count)
+    (start (c .before .before) .args .state)
+    (start (c .before .before) .args .name)
+    (lent (c .before .before) .parents)
+    (lent (c .before .before) .names)
+    (lent (c .before .before) .work)
+    found.Nothing
+no-child c = looked (c .before .before) found.Nothing (c .enum-told .given .1)
 
 child-requires : tie.Need-child-requires
 child-requires c κs = search needs
@@ -45,9 +71,8 @@ same-length-3 c = search needs
 returns : tie.Need-returns
 returns c =
     let seen = c .before .before .before in
-    let at = seen .before .before .before .before .before .before .before .before .args in
-    step-full (at .count) (at .state) (at .name) (lent seen) (omega arith) (omega arith) (omega arith)
-    (looked seen _ (c .before .enum-told .given .1))
+    let args = start seen .args in
+    step-full (args .count) (args .state) (args .name) (lent seen) (omega arith) (omega arith) (omega arith) (no-child (c .before))
 
 append-requires : tie.Need-append-requires
 append-requires c κs = search needs
@@ -67,8 +92,8 @@ same-length-6 c = search needs
 returns-2 : tie.Need-returns-2
 returns-2 c =
     let seen = c .before .before .before in
-    let at = seen .before .before .before .before .before .before .before .before .args in
-    step-found (at .count) (at .state) (at .name) (lent seen) (omega arith) (omega arith) (c .before .found .given .0 .0) (omega arith)
+    let args = start seen .args in
+    step-found (args .count) (args .state) (args .name) (lent seen) (omega arith) (omega arith) (c .before .found .given .0 .0) (omega arith)
     (looked seen _ (c .before .found .given .1))
 
 same-length-7 : tie.Need-same-length-7
@@ -85,11 +110,16 @@ same-length-10 c = search needs
 
 returns-3 : tie.Need-returns-3
 returns-3 c =
-    let seen = c .before .before .before .before .before .before .before .before .before .before .before .before .before .before .before .before in
-    let at = seen .before .before .before .before .before .before .before .before .args in
-    step-appended (at .count) (at .state) (at .name) (lent seen) (omega arith) (omega arith) _ (omega arith) (seen .before .before .before .before .before .before .before .before .pre .1)
-    (looked seen _ (c .before .before .before .before .before .before .before .before .before .before .before .before .before .before .enum-told .given .1))
-    (c .before .before .before .before .before .before .before .before .append .ensures)
+    let call = appending c in
+    let told = unfound call in
+    let seen = told .before .before in
+    let args = start seen .args in
+    let pre = start seen .pre in
+    step-appended (args .count) (args .state) (args .name) (lent seen) (pre .0 .1) (pre .0 .2) (left call)
+    (call .before .before .before .before .before .if1 .left)
+    (pre .1)
+    (no-child told)
+    (call .append .ensures)
 
 pub step-spec : {M : Type 1} → statement M
 step-spec =
