@@ -1,0 +1,4 @@
+-- Laws that the functions of this crate rest on. Assumes nothing.
+pub mod JoinLaws
+pub mod StepLaws
+pub mod PassLaws

@@ -1,0 +1,139 @@
+// Partitions of states by number: two groups made one, and a pass that joins along arcs with keys. A partition is a slice that
+// gives each state the number of its group, the lowest label of it.
+use cells::numbers;
+ghost use mathlib.Core.Path.{_≡_};
+ghost use mathlib.Core.Bool.{cond};
+ghost use Prim.Native.Nat.{ℕ, _-_, _<_, _≤_};
+ghost use lib.Dec.{eqb};
+ghost use lib.ListN.{length, getD};
+ghost use Rattle.indexed.specs.Partitions.{Labelled};
+ghost use Rattle.indexed.specs.Passes.{relabelled, Passed};
+ghost use Rattle.cells.specs.Cells.{work-bytes};
+ghost use Rattle.partition.specs.Joins.{JoinedTwo};
+ghost use Rattle.partition.specs.Steps.{Ready, Judged, PassedAt, rowOf};
+
+// A key of this or more is none.
+const NAME_LIMIT: u8 = 64;
+
+// A label after y is joined to x.
+fn new_label(g: u16, x: u16, y: u16) -> u16
+    ensures { λ r. ⌜ r ≡ cond (eqb g y) x g ⌝ }
+{
+    if g == y { x } else { g }
+}
+
+// Puts every state of group y into group x.
+pub fn relabel(groups: &mut [u16], x: u16, y: u16)
+    ensures { λ _. ⌜ now (groups .exit) ≡ relabelled x y (now (groups .entry)) ⌝ }
+{
+    let mut i = 0;
+    while i < groups.len() {
+        groups[i] = new_label(groups[i], x, y);
+        i += 1;
+    }
+}
+
+// Makes the groups of states v and w one, under the lower label; true where they were two.
+pub fn join_states(groups: &mut [u16], v: usize, w: usize) -> bool
+    requires labelled { ⌜ Labelled (length (now groups)) (now groups) ⌝ }
+    requires v_inside { ⌜ v < length (now groups) ⌝ }
+    requires w_inside { ⌜ w < length (now groups) ⌝ }
+    ensures { λ r. ⌜ JoinedTwo (length (now (groups .entry))) v w (now (groups .entry)) (now (groups .exit)) r ⌝ }
+{
+    let x = groups[v];
+    let y = groups[w];
+    if x == y {
+        return false;
+    }
+    if x < y {
+        relabel(groups, x, y);
+        return true;
+    }
+    relabel(groups, y, x);
+    true
+}
+
+// Whether c is a state with this key that leads into the group of this row.
+fn is_believed(ins: &[u16], keys: &[u8], groups: &[u16], row: u16, key: u8, c: usize) -> bool
+    requires ins_size { ⌜ length (now ins) ≡ length (now groups) ⌝ }
+    requires keys_size { ⌜ length (now keys) ≡ length (now groups) ⌝ }
+    requires ins_below { ⌜ ((v : ℕ) → v < length (now groups) → getD (now ins) v 0 < length (now groups)) ⌝ }
+    ensures { λ r. ⌜ Judged (length (now (groups .entry))) (now (ins .entry)) (now (keys .entry)) (now (groups .entry)) row key c r ⌝ }
+{
+    if groups.len() <= c {
+        return false;
+    }
+    let from = numbers::wide16(ins[c]);
+    (keys[c] == key) & (groups[from] == row)
+}
+
+// One state's turn: its cell is that of the group that ins lead into and its key. Where the cell's state is believed, outs of
+// both are joined; else the cell is this state's.
+fn pass_at(
+    ins: &[u16],
+    outs: &[u16],
+    keys: &[u8],
+    groups: &mut [u16],
+    work: &mut [u8],
+    v: usize,
+) -> bool
+    requires ready { ⌜ Ready (length (now groups)) (now ins) (now outs) (now keys) (now groups) ⌝ }
+    requires room { ⌜ work-bytes ≤ length (now work) ⌝ }
+    requires inside { ⌜ v < length (now groups) ⌝ }
+    ensures { λ r.
+        ⌜ PassedAt (length (now (groups .entry))) (now (ins .entry)) (now (outs .entry)) (now (keys .entry)) (now (groups .entry))
+        (now (groups .exit)) (now (work .entry)) (now (work .exit)) v r ⌝ }
+{
+    let key = keys[v];
+    if NAME_LIMIT <= key {
+        return false;
+    }
+    let from = numbers::wide16(ins[v]);
+    let row = groups[from];
+    let at = numbers::wide16(row);
+    let column = numbers::wide8(key);
+    let c = cells::cell(work, at, column);
+    if is_believed(ins, keys, groups, row, key, c) {
+        let left = numbers::wide16(outs[c]);
+        let right = numbers::wide16(outs[v]);
+        return join_states(groups, left, right);
+    }
+    cells::set_cell(work, at, column, v);
+    false
+}
+
+// The i-th state of n from the last, or from the first.
+fn turn(n: usize, i: usize, descending: bool) -> usize
+    requires { ⌜ i < n ⌝ }
+    ensures { λ r. ⌜ r ≡ cond descending (n - 1 - i) i ⌝ }
+{
+    if descending { n - 1 - i } else { i }
+}
+
+// A pass over all states with keys, from the first to the last or from the last to the first: states that lead into one group
+// under one key have their outs joined. True where anything was joined. The working area may hold anything.
+pub fn pass(
+    ins: &[u16],
+    outs: &[u16],
+    keys: &[u8],
+    groups: &mut [u16],
+    work: &mut [u8],
+    descending: bool,
+) -> bool
+    requires ready { ⌜ Ready (length (now groups)) (now ins) (now outs) (now keys) (now groups) ⌝ }
+    requires room { ⌜ work-bytes ≤ length (now work) ⌝ }
+    ensures { λ r.
+        ⌜ Passed (length (now (groups .entry))) (now (ins .entry)) (now (outs .entry)) (now (keys .entry)) (now (groups .entry))
+        (now (groups .exit)) r ⌝ }
+{
+    let n = groups.len();
+    let mut joined = false;
+    let mut i = 0;
+    while i < n {
+        let v = turn(n, i, descending);
+        let joins = pass_at(ins, outs, keys, groups, work, v);
+        joined = joined | joins;
+        i += 1;
+    }
+    joined
+}
