@@ -87,7 +87,7 @@ fn next_classes(old: &[u16], parents: &[u16], names: &[u8], classes: &mut [u16],
 }
 
 // Copies the numbers of one slice into another of the same length.
-fn copy(from: &[u16], to: &mut [u16])
+pub fn copy(from: &[u16], to: &mut [u16])
     requires { ⌜ length (now to) ≡ length (now from) ⌝ }
     ensures { λ _. ⌜ now (to .exit) ≡ now (from .entry) ⌝ }
 {

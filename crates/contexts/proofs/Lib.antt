@@ -1,0 +1,2 @@
+-- Why climbing gives what the context rule asks for. Assumes nothing.
+pub mod ClimbLaws

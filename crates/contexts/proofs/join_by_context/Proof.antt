@@ -1,0 +1,84 @@
+-- `contexts::join_by_context` meets its contract. Assumes nothing.
+use mathlib.Core.Path.{_≡_, refl, sym, ap, _∙_, subst}
+use mathlib.Core.List.{List}
+use Prim.Native.Nat.{ℕ, suc, _+_, _-_, _<_, _≤_}
+use native.Mathlib.Numerals.{add-one}
+use native.Mathlib.Omega.{arith}
+use lib.ListN.{length, getD}
+use borrow.Author.Needs.{needs}
+use Rattle.indexed.specs.Partitions.{Labelled}
+use Rattle.contexts.specs.Climbs.{Above, ClimbedBelow}
+use Rattle.contexts.proofs.ClimbLaws.{tree-above, starts-closed, climbs-closed}
+use Rattle.contexts.proofs.join_by_context.Statement.{statement}
+use Rattle.contexts.proofs.join_by_context.Tie as tie
+
+by-suffix-requires : tie.Need-by-suffix-requires
+by-suffix-requires c κs = search needs
+
+sub-m : tie.Need-sub-m
+sub-m c = search needs
+
+same-length : tie.Need-same-length
+same-length c = c .before .before .before .before .before .by-suffix .kept .1 .1 .1 .0
+
+same-length-2 : tie.Need-same-length-2
+same-length-2 c = c .before .before .before .before .before .by-suffix .kept .1 .1 .1 .1 .0
+
+returns : tie.Need-returns
+returns c =
+    let start = c .before .before .before .before .before .before .before .before .before .before .before .before in
+    let by = c .before .before .before .before .before .by-suffix in
+    let same : start .args .h ≡ start .args .k = omega (arith, start .pre .1 .1 .0, c .if1 .taken) in
+    starts-closed (length (start .args .groups .now)) (start .args .h) (start .args .k) (start .args .parents .now)
+    (start .args .names .now) (by .last .1 .1 .1 .0) (start .pre .0) (start .pre .1 .0) same (by .ensures)
+
+climb-starts-requires : tie.Need-climb-starts-requires
+climb-starts-requires c κs =
+    let start = c .before .before .before .before .before .before .before .before .before .before .before .before .before in
+    let by = c .before .before .before .before .before .before .by-suffix in
+    let n = length (start .args .groups .now) in
+    let size = by .kept .1 .1 .1 .0 in (
+      subst (λ (k : ℕ). Above k (start .args .parents .now)) (sym size)
+          (tree-above n (start .args .h) (start .args .k - start .args .h) (start .args .k) (start .args .parents .now)
+          (start .args .names .now) (by .last .1 .1 .1 .0) (by .last .1 .1 .1 .0) (start .pre .0) (start .pre .1 .0) (omega arith)
+          (by .ensures)),
+      (
+        subst (λ (k : ℕ). Labelled k (by .last .1 .1 .1 .0)) (sym size) (by .ensures .labelled),
+        omega (arith, size, start .pre .0 .few-states),
+      ),
+    )
+
+same-length-3 : tie.Need-same-length-3
+same-length-3 c = c .before .before .climb-starts .kept .1 .1 .0 ∙ c .before .before .before .before .before .before .before .before .before .by-suffix .kept .1 .1 .1 .0
+
+same-length-4 : tie.Need-same-length-4
+same-length-4 c = c .before .before .before .before .before .before .before .before .before .by-suffix .kept .1 .1 .1 .1 .0
+
+returns-2 : tie.Need-returns-2
+returns-2 c =
+    let start = c .before .before .before .before .before .before .before .before .before .before .before .before .before .before .before .before in
+    let by = c .before .before .before .before .before .before .before .before .before .by-suffix in
+    let done = c .before .before .climb-starts in
+    let n = length (start .args .groups .now) in
+    let starts = by .last .1 .1 .1 .0 in
+    let one : start .args .k - start .args .h ≡ 1 = omega arith in
+    let sum-is : start .args .h + 1 ≡ start .args .k = omega arith in
+    climbs-closed n (start .args .h) (start .args .k) (start .args .parents .now) (start .args .names .now) starts
+    (done .last .1 .1 .0) (start .pre .0) (start .pre .1 .0) sum-is (by .ensures)
+    (subst (λ (m : ℕ). ClimbedBelow n n m (start .args .parents .now) starts starts (done .last .1 .1 .0)) one
+    (subst (λ (k : ℕ). ClimbedBelow k k (start .args .k - start .args .h) (start .args .parents .now) starts starts
+    (done .last .1 .1 .0)) (by .kept .1 .1 .1 .0) (done .ensures)))
+
+pub join-by-context-spec : {M : Type 1} → statement M
+join-by-context-spec =
+    tie.close
+    (tie.spec
+    by-suffix-requires
+    sub-m
+    same-length
+    same-length-2
+    returns
+    climb-starts-requires
+    same-length-3
+    same-length-4
+    returns-2)

@@ -1,0 +1,2 @@
+-- What climbing from states with the same last names promises. Assumes nothing.
+pub mod Climbs

@@ -1,0 +1,104 @@
+// The joining of a book's prefix tree by the context rule: states with the same last h names out of whose groups k - h names lead
+// in common are in one group, and no group has arcs of one name to two groups.
+use cells::numbers::wide16;
+ghost use mathlib.Core.Path.{_≡_};
+ghost use Prim.Native.Nat.{_+_, _<_, _≤_};
+ghost use lib.ListN.{length, getD};
+ghost use Rattle.cells.specs.Cells.{work-bytes};
+ghost use Rattle.model.specs.Limits.{setting-limit, state-limit};
+ghost use Rattle.indexed.specs.Trees.{Arrays};
+ghost use Rattle.indexed.specs.Partitions.{Labelled};
+ghost use Rattle.indexed.specs.Passes.{ContextJoined};
+ghost use Rattle.contexts.specs.Climbs.{Above, Climbed, ClimbedBelow};
+
+// Joins the groups of the ancestors of v and w, the first of each, the second, and so on up to the m-th.
+fn climb(m: usize, parents: &[u16], groups: &mut [u16], v: usize, w: usize)
+    requires above { ⌜ Above (length (now groups)) (now parents) ⌝ }
+    requires labelled { ⌜ Labelled (length (now groups)) (now groups) ⌝ }
+    requires v_inside { ⌜ v < length (now groups) ⌝ }
+    requires w_inside { ⌜ w < length (now groups) ⌝ }
+    ensures { λ _. ⌜ Climbed (length (now (groups .entry))) m (now (parents .entry)) v w (now (groups .entry)) (now (groups .exit)) ⌝ }
+{
+    let mut a = v;
+    let mut b = w;
+    let mut i = 0;
+    while i < m {
+        a = wide16(parents[a]);
+        b = wide16(parents[b]);
+        partition::join_states(groups, a, b);
+        i += 1;
+    }
+}
+
+// The climb of v and its start, where they are two.
+fn climb_at(m: usize, parents: &[u16], starts: &[u16], groups: &mut [u16], v: usize)
+    requires above { ⌜ Above (length (now groups)) (now parents) ⌝ }
+    requires starts_labelled { ⌜ Labelled (length (now groups)) (now starts) ⌝ }
+    requires labelled { ⌜ Labelled (length (now groups)) (now groups) ⌝ }
+    requires v_inside { ⌜ v < length (now groups) ⌝ }
+    ensures { λ _.
+        ⌜ Climbed (length (now (groups .entry))) m (now (parents .entry)) v (getD (now (starts .entry)) v 0) (now (groups .entry))
+        (now (groups .exit)) ⌝ }
+{
+    let start = wide16(starts[v]);
+    if start == v {
+        return;
+    }
+    climb(m, parents, groups, v, start);
+}
+
+// The climbs of all states, each with its start.
+fn climb_all(m: usize, parents: &[u16], starts: &[u16], groups: &mut [u16])
+    requires above { ⌜ Above (length (now groups)) (now parents) ⌝ }
+    requires starts_labelled { ⌜ Labelled (length (now groups)) (now starts) ⌝ }
+    requires labelled { ⌜ Labelled (length (now groups)) (now groups) ⌝ }
+    ensures { λ _.
+        ⌜ ClimbedBelow (length (now (groups .entry))) (length (now (groups .entry))) m (now (parents .entry)) (now (starts .entry))
+        (now (groups .entry)) (now (groups .exit)) ⌝ }
+{
+    let mut v = 0;
+    while v < groups.len() {
+        climb_at(m, parents, starts, groups, v);
+        v += 1;
+    }
+}
+
+// The climbs of all states, each with the label of its group as it was at first.
+fn climb_starts(m: usize, parents: &[u16], groups: &mut [u16])
+    requires above { ⌜ Above (length (now groups)) (now parents) ⌝ }
+    requires labelled { ⌜ Labelled (length (now groups)) (now groups) ⌝ }
+    requires few { ⌜ length (now groups) ≤ state-limit ⌝ }
+    ensures { λ _.
+        ⌜ ClimbedBelow (length (now (groups .entry))) (length (now (groups .entry))) m (now (parents .entry)) (now (groups .entry))
+        (now (groups .entry)) (now (groups .exit)) ⌝ }
+{
+    let n = groups.len();
+    let mut starts = [0u16; 512];
+    suffixes::copy(groups, &mut starts[..n]);
+    climb_all(m, parents, &starts[..n], groups);
+}
+
+// Joins by the context rule until it applies no more. What the lent area holds at first is all the same.
+pub fn join_by_context(
+    k: usize,
+    h: usize,
+    parents: &[u16],
+    names: &[u8],
+    groups: &mut [u16],
+    work: &mut [u8],
+)
+    requires arrays { ⌜ Arrays (length (now groups)) (now parents) (now names) ⌝ }
+    requires some { ⌜ 0 < h ⌝ }
+    requires within { ⌜ h ≤ k ⌝ }
+    requires limit { ⌜ k ≤ setting-limit ⌝ }
+    requires step { ⌜ k ≤ h + 1 ⌝ }
+    requires room { ⌜ work-bytes ≤ length (now work) ⌝ }
+    ensures { λ _. ⌜ ContextJoined (length (now (groups .entry))) k h (now (parents .entry)) (now (names .entry)) (now (groups .exit)) ⌝ }
+{
+    suffixes::by_suffix(k, parents, names, groups, work);
+    let m = k - h;
+    if m == 0 {
+        return;
+    }
+    climb_starts(m, parents, groups);
+}
