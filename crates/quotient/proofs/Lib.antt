@@ -4,5 +4,8 @@ pub mod NameSets
 pub mod Fills
 pub mod ArcSets
 pub mod TreeArcs
-pub mod Gathering
-pub mod Marking
+pub mod ArcPass
+pub mod AcceptPass
+pub mod MetLaws
+pub mod BytesLeft
+pub mod StatePieces

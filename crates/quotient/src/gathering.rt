@@ -1,8 +1,8 @@
 // The arcs of the joined automaton, and which groups accept, gathered in one pass each over the tree's states.
-use cells::numbers::wide16;
-use cells::numbers::wide8;
-use cells::set_cell;
 use crate::sets;
+use cells::numbers::wide8;
+use cells::numbers::wide16;
+use cells::set_cell;
 ghost use mathlib.Core.Path.{_≡_};
 ghost use mathlib.Core.Bool.{cond};
 ghost use mathlib.Core.List.{List};
@@ -22,7 +22,7 @@ pub fn gather(parents: &[u16], names: &[u8], groups: &[u16], work: &mut [u8], ne
     requires { ⌜ work-bytes ≤ length (now work) ⌝ }
     requires { ⌜ length (now groups) ≤ length (now next) ⌝ }
     ensures { λ _. ⌜ ((rows : List Word) → Joined rows (now (parents .entry)) (now (names .entry)) (now (groups .entry)) →
-      Gathered rows (now (groups .entry)) (now (work .exit)) (now (next .exit))) ⌝ }
+        Gathered rows (now (groups .entry)) (now (work .exit)) (now (next .exit))) ⌝ }
 {
     sets::clear(next);
     let mut v = 1;
@@ -50,7 +50,7 @@ pub fn mark_accepting(accepts: &[u8], groups: &[u16], accepting: &mut [u8])
     requires { ⌜ ((rows : List Word) × AcceptsArray rows (now accepts) × Labelled (length (treeOf rows)) (now groups)) ⌝ }
     requires { ⌜ length (now groups) ≤ length (now accepting) ⌝ }
     ensures { λ _. ⌜ ((rows : List Word) → AcceptsArray rows (now (accepts .entry)) →
-      Labelled (length (treeOf rows)) (now (groups .entry)) → Accepting rows (now (groups .entry)) (now (accepting .exit))) ⌝ }
+        Labelled (length (treeOf rows)) (now (groups .entry)) → Accepting rows (now (groups .entry)) (now (accepting .exit))) ⌝ }
 {
     cells::clear(accepting);
     let mut v = 0;

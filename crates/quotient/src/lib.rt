@@ -38,13 +38,16 @@ pub fn prepare(
     requires { ⌜ (length (now groups) ≤ length (now next)) × (length (now groups) ≤ length (now accepting)) ⌝ }
     requires { ⌜ (length (now groups) ≤ length (now met)) × (length (now groups) ≤ length (now numbers)) ⌝ }
     ensures { λ r. ⌜ ((rows : List Word) → Joined rows (now (parents .entry)) (now (names .entry)) (now (groups .entry)) →
-      AcceptsArray rows (now (accepts .entry)) →
-      Prepared rows (now (groups .entry)) (now (work .exit)) (now (next .exit)) (now (accepting .exit)) (now (met .exit))
-      (now (numbers .exit)) (r .states) (r .bytes)) ⌝ }
+        AcceptsArray rows (now (accepts .entry)) →
+        Prepared rows (now (groups .entry)) (now (work .exit)) (now (next .exit)) (now (accepting .exit)) (now (met .exit))
+        (now (numbers .exit)) (r .states) (r .bytes)) ⌝ }
 {
     gathering::gather(parents, names, groups, work, next);
     gathering::mark_accepting(accepts, groups, accepting);
     let states = numbering::number(groups, work, next, met, numbers);
     let bytes = states::bytes_of(next, met, states);
-    Quotient { states: states, bytes: bytes }
+    Quotient {
+        states: states,
+        bytes: bytes,
+    }
 }

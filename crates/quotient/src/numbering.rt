@@ -1,9 +1,9 @@
 // First-met numbers of groups: the root's group is 0; groups are taken in ascending number and their arcs in ascending name, and each
 // new target has the next number.
+use crate::sets;
 use cells::cell;
 use cells::numbers::narrow16;
 use cells::numbers::wide16;
-use crate::sets;
 ghost use mathlib.Core.Path.{_≡_};
 ghost use mathlib.Core.List.{List};
 ghost use Prim.Native.Nat.{ℕ, _<_, _≤_};
@@ -33,8 +33,8 @@ fn none_met(numbers: &mut [u16])
 fn meet_one(met: &mut [u16], numbers: &mut [u16], count: usize, target: usize) -> usize
     requires { ⌜ ((n : ℕ) × (after : List ℕ) × MeetingOne n (now met) (now numbers) count target after) ⌝ }
     ensures { λ r. ⌜ ((n : ℕ) → (after : List ℕ) →
-      MeetingOne n (now (met .entry)) (now (numbers .entry)) count target after →
-      MetAs n (now (met .exit)) (now (numbers .exit)) r after) ⌝ }
+        MeetingOne n (now (met .entry)) (now (numbers .entry)) count target after →
+        MetAs n (now (met .exit)) (now (numbers .exit)) r after) ⌝ }
 {
     let number = numbers[target];
     if number != NOT_MET {
@@ -46,12 +46,19 @@ fn meet_one(met: &mut [u16], numbers: &mut [u16], count: usize, target: usize) -
 }
 
 // Meets the targets of a group's arcs, in ascending name.
-fn meet(work: &[u8], row: usize, names: u64, met: &mut [u16], numbers: &mut [u16], count: usize) -> usize
+fn meet(
+    work: &[u8],
+    row: usize,
+    names: u64,
+    met: &mut [u16],
+    numbers: &mut [u16],
+    count: usize,
+) -> usize
     requires { ⌜ (work-bytes ≤ length (now work)) × (row < state-limit) ⌝ }
     requires { ⌜ ((n : ℕ) × (after : List ℕ) × Meeting n (now work) row names (now met) (now numbers) count after) ⌝ }
     ensures { λ r. ⌜ ((n : ℕ) → (after : List ℕ) →
-      Meeting n (now (work .entry)) row names (now (met .entry)) (now (numbers .entry)) count after →
-      MetAs n (now (met .exit)) (now (numbers .exit)) r after) ⌝ }
+        Meeting n (now (work .entry)) row names (now (met .entry)) (now (numbers .entry)) count after →
+        MetAs n (now (met .exit)) (now (numbers .exit)) r after) ⌝ }
 {
     let mut left = names;
     let mut reached = count;
@@ -64,11 +71,17 @@ fn meet(work: &[u8], row: usize, names: u64, met: &mut [u16], numbers: &mut [u16
 }
 
 // Meets every group, from the root's on. Returns how many there are.
-pub fn number(groups: &[u16], work: &[u8], next: &[u64], met: &mut [u16], numbers: &mut [u16]) -> usize
+pub fn number(
+    groups: &[u16],
+    work: &[u8],
+    next: &[u64],
+    met: &mut [u16],
+    numbers: &mut [u16],
+) -> usize
     requires { ⌜ ((rows : List Word) × Gathered rows (now groups) (now work) (now next)) ⌝ }
     requires { ⌜ (length (now groups) ≤ length (now met)) × (length (now groups) ≤ length (now numbers)) ⌝ }
     ensures { λ r. ⌜ ((rows : List Word) → Gathered rows (now (groups .entry)) (now (work .entry)) (now (next .entry)) →
-      MetAs (length (treeOf rows)) (now (met .exit)) (now (numbers .exit)) r (metGroups (treeOf rows) (now (groups .entry)))) ⌝ }
+        MetAs (length (treeOf rows)) (now (met .exit)) (now (numbers .exit)) r (metGroups (treeOf rows) (now (groups .entry)))) ⌝ }
 {
     none_met(numbers);
     let mut count = meet_one(met, numbers, 0, wide16(groups[0]));

@@ -1,8 +1,8 @@
 // The states' fields, from the arcs gathered and the numbers given: how many bytes they take, and the bytes, front to back.
+use crate::sets;
 use cells::cell;
 use cells::numbers::narrow8;
 use cells::numbers::wide16;
-use crate::sets;
 use writing::put_arc;
 use writing::put_state;
 ghost use mathlib.Core.Path.{_≡_};
@@ -21,8 +21,8 @@ ghost use Rattle.quotient.specs.Ready.{Ready, Sized, ArcsToWrite, StateT
 pub fn bytes_of(next: &[u64], met: &[u16], count: usize) -> usize
     requires { ⌜ ((rows : List Word) × (groups : List ℕ) × Sized rows groups (now next) (now met) count) ⌝ }
     ensures { λ r. ⌜ ((rows : List Word) → (groups : List ℕ) →
-      Sized rows groups (now (next .entry)) (now (met .entry)) count →
-      r ≡ length (stateFields (statesOf rows (treeOf rows) groups))) ⌝ }
+        Sized rows groups (now (next .entry)) (now (met .entry)) count →
+        r ≡ length (stateFields (statesOf rows (treeOf rows) groups))) ⌝ }
 {
     let mut total = 0;
     let mut i = 0;
@@ -35,11 +35,18 @@ pub fn bytes_of(next: &[u64], met: &[u16], count: usize) -> usize
 }
 
 // Writes the arcs out of a group, in ascending name. Returns the offset after them.
-fn write_arcs(work: &[u8], row: usize, names: u64, numbers: &[u16], out: &mut [u8], at: usize) -> usize
+fn write_arcs(
+    work: &[u8],
+    row: usize,
+    names: u64,
+    numbers: &[u16],
+    out: &mut [u8],
+    at: usize,
+) -> usize
     requires { ⌜ (work-bytes ≤ length (now work)) × (row < state-limit) ⌝ }
     requires { ⌜ ((bytes : List ℕ) × ArcsToWrite (now work) row names (now numbers) bytes × (at + length bytes ≤ length (now out))) ⌝ }
     ensures { λ r. ⌜ ((bytes : List ℕ) → ArcsToWrite (now (work .entry)) row names (now (numbers .entry)) bytes →
-      Put (now (out .entry)) (now (out .exit)) at bytes (length bytes) r) ⌝ }
+        Put (now (out .entry)) (now (out .exit)) at bytes (length bytes) r) ⌝ }
 {
     let mut left = names;
     let mut end = at;
@@ -53,12 +60,20 @@ fn write_arcs(work: &[u8], row: usize, names: u64, numbers: &[u16], out: &mut [u
 }
 
 // Writes a group's state field. Returns the offset after it.
-fn write_state(work: &[u8], row: usize, names: u64, accepts: u8, numbers: &[u16], out: &mut [u8], at: usize) -> usize
+fn write_state(
+    work: &[u8],
+    row: usize,
+    names: u64,
+    accepts: u8,
+    numbers: &[u16],
+    out: &mut [u8],
+    at: usize,
+) -> usize
     requires { ⌜ (work-bytes ≤ length (now work)) × (row < state-limit) ⌝ }
     requires { ⌜ ((bytes : List ℕ) × StateToWrite (now work) row names accepts (now numbers) bytes
-      × (at + length bytes ≤ length (now out))) ⌝ }
+        × (at + length bytes ≤ length (now out))) ⌝ }
     ensures { λ r. ⌜ ((bytes : List ℕ) → StateToWrite (now (work .entry)) row names accepts (now (numbers .entry)) bytes →
-      Put (now (out .entry)) (now (out .exit)) at bytes (length bytes) r) ⌝ }
+        Put (now (out .entry)) (now (out .exit)) at bytes (length bytes) r) ⌝ }
 {
     let start = put_state(out, at, accepts == 1, sets::how_many(names));
     write_arcs(work, row, names, numbers, out, start)
@@ -77,12 +92,12 @@ pub fn write_states(
     at: usize,
 ) -> usize
     requires { ⌜ ((rows : List Word) × (groups : List ℕ)
-      × Ready rows groups (now work) (now next) (now accepting) (now met) (now numbers) count
-      × (at + length (stateFields (statesOf rows (treeOf rows) groups)) ≤ length (now out))) ⌝ }
+        × Ready rows groups (now work) (now next) (now accepting) (now met) (now numbers) count
+        × (at + length (stateFields (statesOf rows (treeOf rows) groups)) ≤ length (now out))) ⌝ }
     ensures { λ r. ⌜ ((rows : List Word) → (groups : List ℕ) →
-      Ready rows groups (now (work .entry)) (now (next .entry)) (now (accepting .entry)) (now (met .entry)) (now (numbers .entry)) count →
-      Put (now (out .entry)) (now (out .exit)) at (stateFields (statesOf rows (treeOf rows) groups))
-      (length (stateFields (statesOf rows (treeOf rows) groups))) r) ⌝ }
+        Ready rows groups (now (work .entry)) (now (next .entry)) (now (accepting .entry)) (now (met .entry)) (now (numbers .entry)) count →
+        Put (now (out .entry)) (now (out .exit)) at (stateFields (statesOf rows (treeOf rows) groups))
+        (length (stateFields (statesOf rows (treeOf rows) groups))) r) ⌝ }
 {
     let mut end = at;
     let mut i = 0;

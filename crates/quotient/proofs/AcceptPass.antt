@@ -34,7 +34,7 @@ pub mark-start :
     accepting ≡ replicate (length accepting₀) 0 → MarkedUpTo 0 accepts groups accepting
 mark-start accepts groups accepting₀ accepting fits e =
     record {
-      size = omega (arith, ap length e, length-replicate (length accepting₀) 0);
+      size = omega (arith, ap length e, length-replicate {A = ℕ} (length accepting₀) 0);
       small = λ g h. omega (arith, off g h);
       each = λ g h. (
         λ b. let z : ⊥ = omega (arith, off g h) in absurd z,
@@ -102,9 +102,9 @@ module _ (v : ℕ) (accepts groups accepting : List ℕ) (inside : v < length gr
   mark-more g b accepting′ e f k = rw (k, e, f) (one-more (eqb (getD accepts v 0) 1) refl)
 
 -- a number below 2 that is 1 exactly if the test holds
-told-byte : {b : Bool} {P : Type 0} → Tells b P → (x : ℕ) → x < 2 → (x ≡ 1) ↔ P → x ≡ when b 1
-told-byte {true} t x small e = e .1 (t .fact refl)
-told-byte {false} t x small e =
+told-byte : (b : Bool) {P : Type 0} → Tells b P → (x : ℕ) → x < 2 → (x ≡ 1) ↔ P → x ≡ when b 1
+told-byte true t x small e = e .1 (t .fact refl)
+told-byte false t x small e =
     let other : x ≡ 1 → ⊥ = λ h. not-told t refl (e .0 h) in
     omega arith
 
@@ -118,7 +118,8 @@ mark-end rows accepts groups accepting v told labels end r =
       each = λ g h.
           let size : length groups ≡ length (treeOf rows) = labels .size in
           let low : g < length groups = omega arith in
-          told-byte (tells-accepting rows accepts groups told labels g) (getD accepting g 0) (r .small g low)
-          (λ b. let s = r .each g low .0 b in (s .0, omega (arith, s .1), s .2, s .3),
-          λ s. r .each g low .1 (s .0, omega (arith, s .1), s .2, s .3));
+          told-byte (groupAccepts rows (treeOf rows) groups g) (tells-accepting rows accepts groups told labels g) (getD accepting g 0) (r .small g low) (
+            λ b. let s = r .each g low .0 b in (s .0, omega (arith, s .1), s .2, s .3),
+            λ s. r .each g low .1 (s .0, omega (arith, s .1), s .2, s .3),
+          );
     }

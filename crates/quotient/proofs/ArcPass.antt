@@ -47,7 +47,7 @@ pub gather-start :
 gather-start parents names groups work next₀ next room fits e =
     record {
       work-size = room;
-      next-size = omega (arith, ap length e, length-replicate (length next₀) 0);
+      next-size = omega (arith, ap length e, length-replicate {A = ℕ} (length next₀) 0);
       in-cells = λ w pos low h. let z : ⊥ = omega arith in absurd z;
       in-sets = λ g a h. (
         λ b. let z : ⊥ = omega (arith, off g a h) in absurd z,
@@ -142,8 +142,7 @@ module _ (rows : List Word) (parents names groups : List ℕ) (joined : Joined r
             (r : Leaves (v + 1) parents names groups g a) → (r .by ≡ v) ⊎ (r .by ≡ v → ⊥) →
             ((g ≡ from) × (a ≡ name)) ⊎ Leaves v parents names groups g a
         earlier r (inl e) =
-            inl
-            (
+            inl (
               sym (r .from-is) ∙ ap (λ (k : ℕ). getD groups (getD parents k 0) 0) e,
               sym (r .name-is) ∙ ap (λ (k : ℕ). getD names k 0) e,
             )
@@ -158,6 +157,7 @@ module _ (rows : List Word) (parents names groups : List ℕ) (joined : Joined r
               name-is = r .name-is;
             })
 
+        told : (bit a (getD next g 0) ≡ 1) ↔ Leaves v parents names groups g a
         told = before .in-sets g a low
 
         go : (g ≡ from) ⊎ (g ≡ from → ⊥) → (bit a (getD now g 0) ≡ 1) ↔ Leaves (v + 1) parents names groups g a
@@ -245,8 +245,7 @@ module _ (rows : List Word) (parents names groups : List ℕ) (joined : Joined r
                 bits-told (getD next g 0) (nameSet arcs) (λ a. (
                   λ h.
                       let s = r .in-sets g a (omega arith) .0 h in
-                      bit-nameSet 0 arcs ascends a .1
-                      (
+                      bit-nameSet 0 arcs ascends a .1 (
                         getD groups (s .by) 0,
                         in-arcsOutOf g a (getD groups (s .by) 0) ts (one-target rows parents names groups joined)
                             (there-is g a s),
