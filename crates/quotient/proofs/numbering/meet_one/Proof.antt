@@ -1,0 +1,63 @@
+use borrow.Author.Needs.{needs}
+use Rattle.quotient.proofs.numbering.meet_one.Statement.{statement}
+use Rattle.quotient.proofs.numbering.meet_one.Tie as tie
+use Rattle.quotient.proofs.numbering.meet_one.Reads as reads
+use Rattle.quotient.proofs.numbering.meet_one.Lts as lts
+use Rattle.cells.proofs.numbers.narrow16.Reads as narrow16-reads
+
+mul-number : tie.Need-mul-number
+mul-number c = search needs
+
+slice-read-number : tie.Need-slice-read-number
+slice-read-number c = search needs
+
+returns : tie.Need-returns
+returns c = ?
+
+narrow16-requires : tie.Need-narrow16-requires
+narrow16-requires c κs = search needs
+
+mul-met : tie.Need-mul-met
+mul-met c = ?
+
+slice-write-met : tie.Need-slice-write-met
+slice-write-met c = ?
+
+narrow16-requires-2 : tie.Need-narrow16-requires-2
+narrow16-requires-2 c κs = ?
+
+mul-numbers : tie.Need-mul-numbers
+mul-numbers c = search needs
+
+slice-write-numbers : tie.Need-slice-write-numbers
+slice-write-numbers c = search needs
+
+add-result : tie.Need-add-result
+add-result c = search needs
+
+same-length : tie.Need-same-length
+same-length c = search needs
+
+same-length-2 : tie.Need-same-length-2
+same-length-2 c = search needs
+
+returns-2 : tie.Need-returns-2
+returns-2 c = ?
+
+pub meet-one-spec : {M : Type 1} → statement M
+meet-one-spec =
+    tie.close
+    (tie.spec
+    mul-number
+    slice-read-number
+    returns
+    narrow16-requires
+    mul-met
+    slice-write-met
+    narrow16-requires-2
+    mul-numbers
+    slice-write-numbers
+    add-result
+    same-length
+    same-length-2
+    returns-2)

@@ -1,0 +1,46 @@
+-- `sets::put` meets its contract. Assumes nothing.
+use mathlib.Core.Path.{ap}
+use Prim.Native.Nat.{ℕ}
+use lib.Bits.{bitOr}
+use lib.ListN.{getD, set}
+use borrow.Author.Needs.{needs}
+use Rattle.quotient.proofs.sets.put.Statement.{statement}
+use Rattle.quotient.proofs.sets.put.Tie as tie
+use Rattle.quotient.proofs.sets.put.Reads as reads
+use Rattle.quotient.proofs.sets.put.Lts as lts
+use Rattle.quotient.proofs.sets.only.Reads as only-reads
+
+mul-sets : tie.Need-mul-sets
+mul-sets c = search needs
+
+slice-read-sets : tie.Need-slice-read-sets
+slice-read-sets c = search needs
+
+only-requires : tie.Need-only-requires
+only-requires c κs = search needs
+
+mul-sets-2 : tie.Need-mul-sets-2
+mul-sets-2 c = search needs
+
+slice-write-sets : tie.Need-slice-write-sets
+slice-write-sets c = search needs
+
+same-length : tie.Need-same-length
+same-length c = search needs
+
+returns : tie.Need-returns
+returns c =
+    let args = c .before .before .before .args in
+    ap (λ (names : ℕ). set (args .sets .now) (args .at) (bitOr (getD (args .sets .now) (args .at) 0) names)) (c .only .ensures)
+
+pub put-spec : {M : Type 1} → statement M
+put-spec =
+    tie.close
+    (tie.spec
+    mul-sets
+    slice-read-sets
+    only-requires
+    mul-sets-2
+    slice-write-sets
+    same-length
+    returns)

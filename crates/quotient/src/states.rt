@@ -1,0 +1,110 @@
+// The states' fields, from the arcs gathered and the numbers given: how many bytes they take, and the bytes, front to back.
+use crate::sets;
+use cells::cell;
+use cells::numbers::narrow8;
+use cells::numbers::wide16;
+use writing::put_arc;
+use writing::put_state;
+ghost use mathlib.Core.Path.{_≡_};
+ghost use mathlib.Core.List.{List};
+ghost use Prim.Native.Nat.{ℕ, _+_, _<_, _≤_};
+ghost use lib.ListN.{length};
+ghost use Rattle.model.specs.Classes.{Word};
+ghost use Rattle.model.specs.Joinings.{treeOf};
+ghost use Rattle.model.specs.Limits.{state-limit, work-bytes};
+ghost use Rattle.model.specs.Quotients.{statesOf};
+ghost use Rattle.model.specs.Tables.{stateFields};
+ghost use Rattle.writing.specs.Writing.{Put};
+ghost use Rattle.quotient.specs.Ready.{Ready, Sized, ArcsToWrite, StateToWrite};
+
+// How many bytes the states' fields take: four for each state and three for each arc.
+pub fn bytes_of(next: &[u64], met: &[u16], count: usize) -> usize
+    requires { ⌜ ((rows : List Word) × (groups : List ℕ) × Sized rows groups (now next) (now met) count) ⌝ }
+    ensures { λ r. ⌜ ((rows : List Word) → (groups : List ℕ) →
+        Sized rows groups (now (next .entry)) (now (met .entry)) count →
+        r ≡ length (stateFields (statesOf rows (treeOf rows) groups))) ⌝ }
+{
+    let mut total = 0;
+    let mut i = 0;
+    while i < count {
+        let g = wide16(met[i]);
+        total += 4 + 3 * sets::how_many(next[g]);
+        i += 1;
+    }
+    total
+}
+
+// Writes the arcs out of a group, in ascending name. Returns the offset after them.
+fn write_arcs(
+    work: &[u8],
+    row: usize,
+    names: u64,
+    numbers: &[u16],
+    out: &mut [u8],
+    at: usize,
+) -> usize
+    requires { ⌜ (work-bytes ≤ length (now work)) × (row < state-limit) ⌝ }
+    requires { ⌜ ((bytes : List ℕ) × ArcsToWrite (now work) row names (now numbers) bytes × (at + length bytes ≤ length (now out))) ⌝ }
+    ensures { λ r. ⌜ ((bytes : List ℕ) → ArcsToWrite (now (work .entry)) row names (now (numbers .entry)) bytes →
+        Put (now (out .entry)) (now (out .exit)) at bytes (length bytes) r) ⌝ }
+{
+    let mut left = names;
+    let mut end = at;
+    while 0 < left {
+        let name = sets::lowest(left);
+        let target = cell(work, row, name);
+        end = put_arc(out, end, narrow8(name), wide16(numbers[target]));
+        left -= sets::only(name);
+    }
+    end
+}
+
+// Writes a group's state field. Returns the offset after it.
+fn write_state(
+    work: &[u8],
+    row: usize,
+    names: u64,
+    accepts: u8,
+    numbers: &[u16],
+    out: &mut [u8],
+    at: usize,
+) -> usize
+    requires { ⌜ (work-bytes ≤ length (now work)) × (row < state-limit) ⌝ }
+    requires { ⌜ ((bytes : List ℕ) × StateToWrite (now work) row names accepts (now numbers) bytes
+        × (at + length bytes ≤ length (now out))) ⌝ }
+    ensures { λ r. ⌜ ((bytes : List ℕ) → StateToWrite (now (work .entry)) row names accepts (now (numbers .entry)) bytes →
+        Put (now (out .entry)) (now (out .exit)) at bytes (length bytes) r) ⌝ }
+{
+    let start = put_state(out, at, accepts == 1, sets::how_many(names));
+    write_arcs(work, row, names, numbers, out, start)
+}
+
+// Writes the states' fields from offset `at` on, each byte once, and leaves the rest of the output as it was. Returns the offset
+// after them.
+pub fn write_states(
+    work: &[u8],
+    next: &[u64],
+    accepting: &[u8],
+    met: &[u16],
+    numbers: &[u16],
+    count: usize,
+    out: &mut [u8],
+    at: usize,
+) -> usize
+    requires { ⌜ ((rows : List Word) × (groups : List ℕ)
+        × Ready rows groups (now work) (now next) (now accepting) (now met) (now numbers) count
+        × (at + length (stateFields (statesOf rows (treeOf rows) groups)) ≤ length (now out))) ⌝ }
+    ensures { λ r. ⌜ ((rows : List Word) → (groups : List ℕ) →
+        Ready rows groups (now (work .entry)) (now (next .entry)) (now (accepting .entry)) (now (met .entry)) (now (numbers .entry)) count →
+        Put (now (out .entry)) (now (out .exit)) at (stateFields (statesOf rows (treeOf rows) groups))
+        (length (stateFields (statesOf rows (treeOf rows) groups))) r) ⌝ }
+{
+    let mut end = at;
+    let mut i = 0;
+    while i < count {
+        let g = wide16(met[i]);
+        end = write_state(work, g, next[g], accepting[g], numbers, out, end);
+        i += 1;
+    }
+    end
+}
