@@ -93,7 +93,8 @@ returns-2 : tie.Need-returns-2
 returns-2 c =
     let seen = c .before .before .before in
     let args = start seen .args in
-    step-found (args .count) (args .state) (args .name) (lent seen) (omega arith) (omega arith) (c .before .found .given .0 .0) (omega arith)
+    step-found (args .count) (args .state) (args .name) (lent seen) (omega arith) (omega arith) (c .before .found .given .0 .0)
+    (omega arith)
     (looked seen _ (c .before .found .given .1))
 
 same-length-7 : tie.Need-same-length-7
