@@ -117,7 +117,7 @@ returns-3 c =
     let args = start seen .args in
     let pre = start seen .pre in
     step-appended (args .count) (args .state) (args .name) (lent seen) (pre .0 .1) (pre .0 .2) (left call)
-    (call .before .before .before .before .before .if1 .left)
+    (omega (arith, call .before .before .before .before .before .if1 .left))
     (pre .1)
     (no-child told)
     (call .append .ensures)
