@@ -201,10 +201,10 @@ module _ {nodes rows : List Word} {count : ℕ} {s : Store} (g : Grown nodes row
       rw (getD-set-other (s .accepts) state v 1 0 d) (
         λ z. Memᴰ·append-left (row ∷ []) (g .accepting v h .0 z),
         λ m.
-        g .accepting v h .1
-        (⊎-elim (λ k. k)
-        (λ k. absurd (d (g .single v state h low (List·Memᴰ·eq-of-singleton k ∙ sym is-row))))
-        (List·Memᴰ·append-cases rows m)),
+            g .accepting v h .1
+            (⊎-elim (λ k. k)
+            (λ k. absurd (d (g .single v state h low (List·Memᴰ·eq-of-singleton k ∙ sym is-row))))
+            (List·Memᴰ·append-cases rows m)),
       ))
       (eq-dec v state)
 

@@ -130,13 +130,12 @@ module _ (row : Word) (count : ℕ) (s₀ s : Store) (n state i : ℕ) (w : Walk
         work-kept = kept ∙ w .work-kept;
         grown =
             λ nodes rows g.
-            let next = is .grown (walked nodes row i) rows (w .grown nodes rows g .0) in
-            (
+            let next = is .grown (walked nodes row i) rows (w .grown nodes rows g .0) in (
               subst (λ (l : List Word). Grown l rows m s′) (next-walked nodes rows g) (next .0),
               ap (λ (l : List Word). getD l v []) (sym (next-walked nodes rows g))
-              ∙ next .1
-              ∙ next-word nodes rows g
-              ∙ sym (take-suc row i 0 more),
+                  ∙ next .1
+                  ∙ next-word nodes rows g
+                  ∙ sym (take-suc row i 0 more),
             );
       }
 

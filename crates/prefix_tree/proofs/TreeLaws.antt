@@ -61,8 +61,7 @@ beginnings-append [] [] = ([], refl)
 beginnings-append [] (x ∷ v) = (map (λ (w : Word). x ∷ w) (beginnings v), refl)
 beginnings-append (x ∷ u) v =
     let r = beginnings-append u v in
-    let f : Word → Word = λ (w : Word). x ∷ w in
-    (
+    let f : Word → Word = λ (w : Word). x ∷ w in (
       map f (r .0),
       ap (λ (l : List Word). [] ∷ l) (ap (map f) (r .1) ∙ map-append f (beginnings u) (r .0)),
     )
@@ -116,9 +115,11 @@ treeOf-more s a n =
 
 treeOf-step : (s : List ℕ) (a n : ℕ) → length (treeOf (fieldsAt s a n)) ≤ length (treeOf (fieldsAt s a (suc n)))
 treeOf-step s a n =
-    omega (arith,
-    withStates-longer (treeOf (fieldsAt s a n)) (beginnings (bodyAt s (offsetAt s a n))),
-    ap length (treeOf-more s a n))
+    omega (
+      arith,
+      withStates-longer (treeOf (fieldsAt s a n)) (beginnings (bodyAt s (offsetAt s a n))),
+      ap length (treeOf-more s a n),
+    )
 
 -- more rows, no fewer states
 pub treeOf-longer : (s : List ℕ) (a i n : ℕ) → i ≤ n → length (treeOf (fieldsAt s a i)) ≤ length (treeOf (fieldsAt s a n))

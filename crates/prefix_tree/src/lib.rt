@@ -3,8 +3,8 @@
 // that it names has that parent and that name, so the area may hold anything at the start.
 use cells::cell;
 use cells::numbers::narrow16;
-use cells::numbers::wide16;
 use cells::numbers::wide8;
+use cells::numbers::wide16;
 use cells::set_cell;
 use fields::limits::NAME_LIMIT;
 use fields::limits::STATE_LIMIT;
@@ -42,7 +42,14 @@ pub enum Tree {
 }
 
 // The child of a state by a name, in one look.
-pub fn child(parents: &[u16], names: &[u8], work: &[u8], count: usize, state: usize, name: u8) -> Found
+pub fn child(
+    parents: &[u16],
+    names: &[u8],
+    work: &[u8],
+    count: usize,
+    state: usize,
+    name: u8,
+) -> Found
     requires { ⌜ (state < state-limit) × (name < name-limit) ⌝ }
     requires { ⌜ Roomy count (now parents) (now names) (now work) ⌝ }
     ensures { λ r. ⌜ ChildOf count state name (now (parents .entry)) (now (names .entry)) (now (work .entry)) r ⌝ }
@@ -73,7 +80,7 @@ fn append(
     requires { ⌜ (count < state-limit) × (state < count) × (name < name-limit) ⌝ }
     requires { ⌜ Sized (now parents) (now names) (now accepts) (now work) ⌝ }
     ensures { λ _. ⌜ store (now (parents .exit)) (now (names .exit)) (now (accepts .exit)) (now (work .exit))
-      ≡ appended count state name (store (now (parents .entry)) (now (names .entry)) (now (accepts .entry)) (now (work .entry))) ⌝ }
+        ≡ appended count state name (store (now (parents .entry)) (now (names .entry)) (now (accepts .entry)) (now (work .entry))) ⌝ }
 {
     parents[count] = narrow16(state);
     names[count] = name;
@@ -94,8 +101,8 @@ fn step(
     requires { ⌜ (count ≤ state-limit) × (state < count) × (name < name-limit) ⌝ }
     requires { ⌜ Sized (now parents) (now names) (now accepts) (now work) ⌝ }
     ensures { λ r. ⌜ StepOf count state name
-      (store (now (parents .entry)) (now (names .entry)) (now (accepts .entry)) (now (work .entry)))
-      (store (now (parents .exit)) (now (names .exit)) (now (accepts .exit)) (now (work .exit))) r ⌝ }
+        (store (now (parents .entry)) (now (names .entry)) (now (accepts .entry)) (now (work .entry)))
+        (store (now (parents .exit)) (now (names .exit)) (now (accepts .exit)) (now (work .exit))) r ⌝ }
 {
     let found = child(parents, names, work, count, state, name);
     match found {
@@ -122,8 +129,8 @@ pub fn add_row(
     requires { ⌜ (0 < count) × (count ≤ state-limit) × RowBelow (now row) ⌝ }
     requires { ⌜ Sized (now parents) (now names) (now accepts) (now work) ⌝ }
     ensures { λ r. ⌜ RowOf (now (row .entry)) count
-      (store (now (parents .entry)) (now (names .entry)) (now (accepts .entry)) (now (work .entry)))
-      (store (now (parents .exit)) (now (names .exit)) (now (accepts .exit)) (now (work .exit))) r ⌝ }
+        (store (now (parents .entry)) (now (names .entry)) (now (accepts .entry)) (now (work .entry)))
+        (store (now (parents .exit)) (now (names .exit)) (now (accepts .exit)) (now (work .exit))) r ⌝ }
 {
     let mut n = count;
     let mut state = 0;
@@ -160,8 +167,8 @@ pub fn add_rows(
     requires { ⌜ RowsBelow (fieldsAt (now book) start items) ⌝ }
     requires { ⌜ Sized (now parents) (now names) (now accepts) (now work) ⌝ }
     ensures { λ r. ⌜ TreeOf (fieldsAt (now (book .entry)) start items)
-      (store (now (parents .entry)) (now (names .entry)) (now (accepts .entry)) (now (work .entry)))
-      (store (now (parents .exit)) (now (names .exit)) (now (accepts .exit)) (now (work .exit))) r ⌝ }
+        (store (now (parents .entry)) (now (names .entry)) (now (accepts .entry)) (now (work .entry)))
+        (store (now (parents .exit)) (now (names .exit)) (now (accepts .exit)) (now (work .exit))) r ⌝ }
 {
     parents[0] = 0;
     names[0] = NAME_LIMIT;

@@ -140,9 +140,7 @@ same-length-6 : tie.Need-same-length-6 Inv-loop μ-loop
 same-length-6 c = c .before .loop .inv .sizes .names-size ∙ sym (start (c .before) .pre .1 .names-size)
 
 same-length-7 : tie.Need-same-length-7 Inv-loop μ-loop
-same-length-7 c =
-    length-set (c .before .loop .accepts) (c .before .loop .state) 1
-    ∙ c .before .loop .inv .sizes .accepts-size ∙ sym (start (c .before) .pre .1 .accepts-size)
+same-length-7 c = simp length-set (c .before .loop .inv .sizes .accepts-size ∙ sym (start (c .before) .pre .1 .accepts-size))
 
 same-length-8 : tie.Need-same-length-8 Inv-loop μ-loop
 same-length-8 c = c .before .loop .inv .work-kept

@@ -96,7 +96,8 @@ loop-holds : tie.Need-loop-holds Inv-loop μ-loop
 loop-holds c =
     let at = c .before .before .before .before .before in
     let args = at .args in
-    adding-begins (args .book .now) (args .start) (args .items) (args .parents .now) (args .names .now) (args .accepts .now) (args .work .now)
+    adding-begins (args .book .now) (args .start) (args .items) (args .parents .now) (args .names .now) (args .accepts .now)
+    (args .work .now)
     (at .pre .1 .1)
 
 body-requires : tie.Need-body-requires Inv-loop μ-loop

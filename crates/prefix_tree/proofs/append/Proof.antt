@@ -2,11 +2,6 @@
 use borrow.Author.Needs.{needs}
 use Rattle.prefix_tree.proofs.append.Statement.{statement}
 use Rattle.prefix_tree.proofs.append.Tie as tie
-use Rattle.prefix_tree.proofs.append.Reads as reads
-use Rattle.prefix_tree.proofs.append.Lts as lts
-use Rattle.cells.proofs.numbers.narrow16.Reads as narrow16-reads
-use Rattle.cells.proofs.numbers.wide8.Reads as wide8-reads
-use Rattle.cells.proofs.set_cell.Reads as set-cell-reads
 
 narrow16-requires : tie.Need-narrow16-requires
 narrow16-requires c κs = search needs

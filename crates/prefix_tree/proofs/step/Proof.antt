@@ -93,7 +93,8 @@ returns-2 : tie.Need-returns-2
 returns-2 c =
     let seen = c .before .before .before in
     let args = start seen .args in
-    step-found (args .count) (args .state) (args .name) (lent seen) (omega arith) (omega arith) (c .before .found .given .0 .0) (omega arith)
+    step-found (args .count) (args .state) (args .name) (lent seen) (omega arith) (omega arith) (c .before .found .given .0 .0)
+    (omega arith)
     (looked seen _ (c .before .found .given .1))
 
 same-length-7 : tie.Need-same-length-7
@@ -116,7 +117,7 @@ returns-3 c =
     let args = start seen .args in
     let pre = start seen .pre in
     step-appended (args .count) (args .state) (args .name) (lent seen) (pre .0 .1) (pre .0 .2) (left call)
-    (call .before .before .before .before .before .if1 .left)
+    (omega (arith, call .before .before .before .before .before .if1 .left))
     (pre .1)
     (no-child told)
     (call .append .ensures)
