@@ -1,0 +1,3 @@
+-- What the public entries promise of their result and of each lent byte. The definitions that they cite are those of the crate
+-- `model`. Assumes nothing.
+pub mod Says
