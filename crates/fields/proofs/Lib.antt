@@ -1,5 +1,5 @@
 -- Laws that the functions' proofs share: of the tests of names, rows and state fields over what is left to read; of fields by their
--- offsets; of places, marks and turns of the reader. OffsetLaws serves later crates that go through the fields of a file. Assumes nothing.
+-- offsets; of places, marks and turns of the reader. Later crates use OffsetLaws and Parts. Assumes nothing.
 pub mod NameLaws
 pub mod RowLaws
 pub mod StateLaws
@@ -7,3 +7,4 @@ pub mod OffsetLaws
 pub mod PlaceLaws
 pub mod MarkLaws
 pub mod TurnLaws
+pub mod Parts

@@ -121,10 +121,11 @@ module _ (s : List ℕ) (p : Place) (whole : Whole s p) where
         few-items = omega arith;
         names-within = omega (arith, names-next h);
         names-end = λ _. names-next h;
-        last-within = omega arith;
+        last-end = omega (arith, names-next h);
         last-is = rw (names-more h, last-more) last-body;
         items-end = refl;
         no-items = λ _. refl;
+        some-items = λ (g : 3 ≤ 1). let z : ⊥ = omega arith in absurd z;
       }
 
   name-grows : p .stage ≤ 1 → nameFault (fileOf s p) (bodyAt s (p .at)) ≡ 0
@@ -153,10 +154,11 @@ module _ (s : List ℕ) (p : Place) (whole : Whole s p) where
               few-items = omega arith;
               names-within = omega (arith, sound .names-within);
               names-end = λ (g : 2 ≤ 1). let z : ⊥ = omega arith in absurd z;
-              last-within = sound .last-within;
+              last-end = sound .last-end;
               last-is = sound .last-is;
               items-end = refl;
               no-items = λ _. refl;
+              some-items = λ (g : 3 ≤ 2). let z : ⊥ = omega arith in absurd z;
             };
         file-is = rw (no-items-yet h);
         after = refl;
@@ -176,10 +178,11 @@ module _ (s : List ℕ) (p : Place) (whole : Whole s p) where
         few-items = omega arith;
         names-within = omega (arith, sound .names-within);
         names-end = λ (g : 3 ≤ 1). let z : ⊥ = omega arith in absurd z;
-        last-within = sound .last-within;
+        last-end = sound .last-end;
         last-is = sound .last-is;
         items-end = items-next;
         no-items = λ (g : 3 ≤ 2). let z : ⊥ = omega arith in absurd z;
+        some-items = λ _. omega arith;
       }
 
   row-grows : rowFault (fileOf s p) (bodyAt s (p .at)) ≡ 0

@@ -14,7 +14,7 @@ use Rattle.model.specs.Fields.{FileKind, File, refused, atEnd, fieldFault, with
 use Rattle.model.specs.Fields.{Class, readFrom, readWith}
 use Rattle.model.specs.Lists.{lastOr}
 use Rattle.fields.specs.Offsets.{lengthAt, bodyAt, nextAt, offsetAt, fieldsAt}
-use Rattle.fields.specs.Places.{fileOf, Sound, FieldStep, Turned, Goes, Refuses, ReadAs}
+use Rattle.fields.specs.Places.{fileOf, Sound, FieldStep, Turned, Goes, Refuses, Finished, ReadAs}
 use Rattle.fields.specs.declared.Place.{Place}
 use Rattle.fields.specs.declared.Step.{Step}
 use Rattle.fields.specs.declared.Step.the-variants.{Go, Refused}
@@ -142,10 +142,11 @@ begin-sound class s =
       few-items = omega arith;
       names-within = omega arith;
       names-end = λ _. refl;
-      last-within = omega arith;
+      last-end = refl;
       last-is = refl;
       items-end = refl;
       no-items = λ _. refl;
+      some-items = λ (g : 3 ≤ 0). let z : ⊥ = omega arith in absurd z;
     }
 
 pub reading-begins : (class : Class) (kind : FileKind) (s : List ℕ) → Reading class kind s (begin class)
@@ -182,8 +183,11 @@ module _ (class : Class) (kind : FileKind) (s : List ℕ) (p : Place) (reading :
       let t = one-turn in
       sym (read-end (t .0) kind (fileOf s p)) ∙ rw (drop-of-length-le s h) at (t .2)
 
+  finished : length s ≤ p .at → p .stage ≡ 3 → Finished s p
+  finished h e = record { sound = reading .sound; at-end = omega (arith, reading .sound .within); met = e }
+
   pub reading-accepted : length s ≤ p .at → p .stage ≡ 3 → ReadAs class kind s (answer.Accepted p)
-  reading-accepted h e = record { is = rw (eq-eqb (p .stage) 3 e) at (at-end h); kept = reading .sound }
+  reading-accepted h e = record { is = rw (eq-eqb (p .stage) 3 e) at (at-end h); kept = finished h e }
 
   pub reading-unfinished : length s ≤ p .at → (p .stage ≡ 3 → ⊥) → ReadAs class kind s (answer.Refused 4)
   reading-unfinished h e = record { is = rw (ne-eqb (p .stage) 3 e) at (at-end h); kept = omega arith }

@@ -36,17 +36,19 @@ withItem p next =
       items = p .items + 1;
     }
 
--- every offset lies within the input, and the names, and the rows or states, end where the next field begins
+-- every offset lies within the input; the last name's bytes end where the names do; the names, before other fields come, and the
+-- rows or states end where the next field begins
 pub record Sound (s : List ℕ) (p : Place) : Type 0 where
   pub within : p .at ≤ length s
   pub few-names : p .names ≤ name-limit
   pub few-items : p .items ≤ state-limit
   pub names-within : offsetAt s 0 (p .names) ≤ p .at
   pub names-end : p .stage ≤ 1 → offsetAt s 0 (p .names) ≡ p .at
-  pub last-within : p .last + p .width ≤ length s
+  pub last-end : p .last + p .width ≡ offsetAt s 0 (p .names)
   pub last-is : lastOr [] (fieldsAt s 0 (p .names)) ≡ take (p .width) (drop (p .last) s)
   pub items-end : offsetAt s (p .start) (p .items) ≡ p .at
   pub no-items : p .stage ≤ 2 → p .items ≡ 0
+  pub some-items : 3 ≤ p .stage → 1 ≤ p .items
 
 -- a sound place whose next field does not run past the end
 pub record Whole (s : List ℕ) (p : Place) : Type 0 where
@@ -110,9 +112,15 @@ abbrev pub answerOf : List ℕ → Fields → Read
 answerOf s (fields.Accepted p) = accepted-file (fileOf s p)
 answerOf s (fields.Refused k) = refused k
 
--- a place of an accepted file is sound, and a refusal is not 0
+-- the place of an accepted file: every byte is read, and rows or states were met
+pub record Finished (s : List ℕ) (p : Place) : Type 0 where
+  pub sound : Sound s p
+  pub at-end : p .at ≡ length s
+  pub met : p .stage ≡ 3
+
+-- the place of an accepted file is finished, and a refusal is not 0
 abbrev pub Kept : List ℕ → Fields → Type 0
-Kept s (fields.Accepted p) = Sound s p
+Kept s (fields.Accepted p) = Finished s p
 Kept s (fields.Refused k) = 0 < k
 
 -- a file read: the answer is what the definition gives, for a book that names no class with this one; at default-class the

@@ -1,0 +1,47 @@
+-- What a later crate uses of an accepted file's place: its names and its rows or states, how many they are, the bytes of each, where each
+-- begins, and that each lies within the input; and the definition's answer. Assumes nothing.
+use mathlib.Core.Path.{_≡_, refl, sym, ap}
+use mathlib.Core.List.{List, []}
+use Prim.Native.Nat.{ℕ, _≤_, _<_}
+use native.Mathlib.Omega.{arith}
+use lib.ListN.{length, getD}
+use Rattle.model.specs.Fields.{Class, FileKind, Read, readWith}
+use Rattle.fields.specs.Offsets.{lengthAt, bodyAt, nextAt, offsetAt}
+use Rattle.fields.specs.Places.{fileOf, Sound, ReadAs}
+use Rattle.fields.specs.declared.Place.{Place}
+use Rattle.fields.specs.declared.Fields.the-variants.{Accepted, Refused}
+use Rattle.fields.proofs.OffsetLaws.{field-within, field-at, length-fields}
+
+module _ (s : List ℕ) (p : Place) (sound : Sound s p) where
+  pub length-names : length (fileOf s p .names) ≡ p .names
+  length-names = length-fields s 0 (p .names)
+
+  pub length-items : length (fileOf s p .items) ≡ p .items
+  length-items = length-fields s (p .start) (p .items)
+
+  -- the i-th name, and the i-th row or state, is the body at its offset
+  pub name-at : (i : ℕ) → i < p .names → getD (fileOf s p .names) i [] ≡ bodyAt s (offsetAt s 0 i)
+  name-at i h = field-at s 0 (p .names) i h
+
+  pub item-at : (i : ℕ) → i < p .items → getD (fileOf s p .items) i [] ≡ bodyAt s (offsetAt s (p .start) i)
+  item-at i h = field-at s (p .start) (p .items) i h
+
+  -- and lies within the input, as offsets::body, body_len and next_field require
+  pub name-within : (i : ℕ) → i < p .names → nextAt s (offsetAt s 0 i) ≤ length s
+  name-within i h = omega (arith, field-within s 0 (p .names) i h, sound .names-within, sound .within)
+
+  pub item-within : (i : ℕ) → i < p .items → nextAt s (offsetAt s (p .start) i) ≤ length s
+  item-within i h = omega (arith, field-within s (p .start) (p .items) i h, sound .items-end, sound .within)
+
+-- the definition's answer, by the code's
+pub accepted-number : (class : Class) (kind : FileKind) (s : List ℕ) (p : Place) → ReadAs class kind s (Accepted p)
+    → readWith class kind s .number ≡ 0
+accepted-number class kind s p r = sym (ap (λ (x : Read). x .number) (r .is))
+
+pub accepted-file-is : (class : Class) (kind : FileKind) (s : List ℕ) (p : Place) → ReadAs class kind s (Accepted p)
+    → readWith class kind s .file-is ≡ fileOf s p
+accepted-file-is class kind s p r = sym (ap (λ (x : Read). x .file-is) (r .is))
+
+pub refused-number : (class : Class) (kind : FileKind) (s : List ℕ) (k : ℕ) → ReadAs class kind s (Refused k)
+    → readWith class kind s .number ≡ k
+refused-number class kind s k r = sym (ap (λ (x : Read). x .number) (r .is))

@@ -1,0 +1,179 @@
+-- Laws of writings: nothing written, bytes stored one by one, what stands before and after, two writings one after the other, a writing
+-- from 0, the length kept, a byte in front, a copy's next byte; then of what the functions give back. Assumes nothing.
+use mathlib.Core.Path.{_≡_, refl, sym, ap, _∙_}
+use mathlib.Core.List.{List, [], _∷_, _++_, append-assoc}
+use Prim.Native.Nat.{ℕ, suc, _+_, _≤_, _<_}
+use native.Mathlib.Nat.{add-zero, zero-add, add-suc}
+use native.Mathlib.Numerals.{add-one}
+use native.Mathlib.Omega.{arith}
+use lib.ListN.{length, getD, set, take, drop, length-append, length-drop, take-append-drop}
+use lib.Seq.{sets, sets-eq, take-at, drop-at, set-at, drop-drop, length-take-le, take-suc}
+use Rattle.writing.specs.Writing.{Written, Put}
+
+-- nothing written: the output as it was
+pub none-written : (out : List ℕ) (at : ℕ) → Written out out at []
+none-written out at = record { becomes = rw (add-zero, take-append-drop) }
+
+-- bytes that fit, stored one by one from `at` on
+pub stores-written : (bytes out : List ℕ) (at : ℕ) → at + length bytes ≤ length out → Written out (sets out at bytes) at bytes
+stores-written bytes out at fits =
+    record { becomes = sets-eq bytes out at fits ∙ append-assoc (take at out) bytes (drop (at + length bytes) out) }
+
+-- one byte
+pub byte-written : (out : List ℕ) (at b : ℕ) → at < length out → Written out (set out at b) at (b ∷ [])
+byte-written out at b fits = stores-written (b ∷ []) out at (omega arith)
+
+-- the bytes written, with all that stands before them, are so many
+head-length : (out bytes : List ℕ) (at : ℕ) → at ≤ length out → length (take at out ++ bytes) ≡ at + length bytes
+head-length out bytes at fits = omega (arith, length-append (take at out) bytes, length-take-le at out fits)
+
+-- the output in two: up to the end of the bytes, and after them
+in-two :
+    {out out′ : List ℕ} {at : ℕ} {bytes : List ℕ} → Written out out′ at bytes →
+    out′ ≡ (take at out ++ bytes) ++ drop (at + length bytes) out
+in-two {out} {out′} {at} {bytes} w = w .becomes ∙ sym (append-assoc (take at out) bytes (drop (at + length bytes) out))
+
+-- up to the end of the bytes the output has what it had before them, and the bytes
+pub written-take :
+    {out out′ : List ℕ} {at : ℕ} {bytes : List ℕ} → Written out out′ at bytes → at ≤ length out →
+    take (at + length bytes) out′ ≡ take at out ++ bytes
+written-take {out} {out′} {at} {bytes} w fits =
+    ap (λ (l : List ℕ). take (at + length bytes) l) (in-two w)
+    ∙ take-at (take at out ++ bytes) (drop (at + length bytes) out) (at + length bytes) (head-length out bytes at fits)
+
+-- after the bytes it has what it had there
+pub written-drop :
+    {out out′ : List ℕ} {at : ℕ} {bytes : List ℕ} → Written out out′ at bytes → at ≤ length out →
+    drop (at + length bytes) out′ ≡ drop (at + length bytes) out
+written-drop {out} {out′} {at} {bytes} w fits =
+    ap (λ (l : List ℕ). drop (at + length bytes) l) (in-two w)
+    ∙ drop-at (take at out ++ bytes) (drop (at + length bytes) out) (at + length bytes) (head-length out bytes at fits)
+
+-- and further on
+pub written-drop-more :
+    {out out′ : List ℕ} {at : ℕ} {bytes : List ℕ} (n : ℕ) → Written out out′ at bytes → at ≤ length out →
+    drop (at + length bytes + n) out′ ≡ drop (at + length bytes + n) out
+written-drop-more {out} {out′} {at} {bytes} n w fits =
+    sym (drop-drop n (at + length bytes) out′)
+    ∙ ap (λ (l : List ℕ). drop n l) (written-drop w fits)
+    ∙ drop-drop n (at + length bytes) out
+
+-- two writings one after the other are one writing of the appended bytes
+pub written-append :
+    {out mid out′ : List ℕ} {at next : ℕ} {xs ys : List ℕ} →
+    Written out mid at xs → Written mid out′ next ys → next ≡ at + length xs → at ≤ length out → Written out out′ at (xs ++ ys)
+written-append {out} {mid} {out′} {at} {next} {xs} {ys} v w e fits =
+    let far : at + length xs + length ys ≡ at + length (xs ++ ys) = omega (arith, length-append xs ys) in
+    let rest = drop (at + length xs + length ys) out in
+    record {
+      becomes =
+          w .becomes
+          ∙ ap (λ (n : ℕ). take n mid ++ (ys ++ drop (n + length ys) mid)) e
+          ∙ ap (λ (l : List ℕ). l ++ (ys ++ drop (at + length xs + length ys) mid)) (written-take v fits)
+          ∙ ap (λ (l : List ℕ). (take at out ++ xs) ++ (ys ++ l)) (written-drop-more (length ys) v fits)
+          ∙ append-assoc (take at out) xs (ys ++ rest)
+          ∙ ap (λ (l : List ℕ). take at out ++ l) (sym (append-assoc xs ys rest))
+          ∙ ap (λ (n : ℕ). take at out ++ ((xs ++ ys) ++ drop n out)) far;
+    }
+
+-- a writing from 0 is the bytes and what stood after them
+pub written-from-zero : {out out′ bytes : List ℕ} → Written out out′ 0 bytes → out′ ≡ bytes ++ drop (length bytes) out
+written-from-zero {out} {out′} {bytes} w = w .becomes ∙ ap (λ (n : ℕ). bytes ++ drop n out) (zero-add (length bytes))
+
+-- a writing that fits keeps the length
+pub written-length :
+    {out out′ : List ℕ} {at : ℕ} {bytes : List ℕ} → Written out out′ at bytes → at + length bytes ≤ length out →
+    length out′ ≡ length out
+written-length {out} {out′} {at} {bytes} w fits =
+    let rest = drop (at + length bytes) out in
+    omega (
+      arith,
+      ap length (w .becomes),
+      length-append (take at out) (bytes ++ rest),
+      length-append bytes rest,
+      length-take-le at out (omega arith),
+      length-drop (at + length bytes) out,
+    )
+
+-- the output in front of a writing, apart at the byte before it
+before-apart :
+    {out mid : List ℕ} {at : ℕ} {bytes : List ℕ} → Written out mid (suc at) bytes → at < length out →
+    mid ≡ take at out ++ (getD out at 0 ∷ (bytes ++ drop (suc at + length bytes) out))
+before-apart {out} {mid} {at} {bytes} w fits =
+    let rest = bytes ++ drop (suc at + length bytes) out in
+    w .becomes
+    ∙ ap (λ (l : List ℕ). l ++ rest) (take-suc out at 0 fits)
+    ∙ append-assoc (take at out) (getD out at 0 ∷ []) rest
+
+-- a byte in front of what was written
+pub byte-before :
+    {out mid : List ℕ} {at : ℕ} {bytes : List ℕ} (b : ℕ) → Written out mid (suc at) bytes → at < length out →
+    Written out (set mid at b) at (b ∷ bytes)
+byte-before {out} {mid} {at} {bytes} b w fits =
+    let rest = bytes ++ drop (suc at + length bytes) out in
+    let far : suc at + length bytes ≡ at + suc (length bytes) = omega arith in
+    record {
+      becomes =
+          ap (λ (l : List ℕ). set l at b) (before-apart w fits)
+          ∙ set-at (take at out) (getD out at 0) rest b at (length-take-le at out (omega arith))
+          ∙ ap (λ (n : ℕ). take at out ++ (b ∷ (bytes ++ drop n out))) far;
+    }
+
+-- one byte more of a list that is copied in
+pub copy-more :
+    {out mid : List ℕ} {at : ℕ} (src : List ℕ) (i : ℕ) → Written out mid at (take i src) → length mid ≡ length out →
+    i < length src → at + length src ≤ length out → Written out (set mid (at + i) (getD src i 0)) at (take (i + 1) src)
+copy-more {out} {mid} {at} src i w same more fits =
+    let size : length (take i src) ≡ i = length-take-le i src (omega arith) in
+    rw (add-one, take-suc src i 0 more)
+    (written-append w (byte-written mid (at + i) (getD src i 0) (omega arith)) (omega arith) (omega arith))
+
+-- ---- of what the functions give back
+
+-- nothing put
+pub put-none : (out : List ℕ) (at : ℕ) → Put out out at [] 0 at
+put-none out at = record { written = none-written out at; counted = refl; ends = sym (add-zero at) }
+
+-- two functions one after the other give what one would give for the appended bytes
+pub put-append :
+    {out mid out′ : List ℕ} {at next after : ℕ} {xs ys : List ℕ} {m n : ℕ} →
+    Put out mid at xs m next → Put mid out′ next ys n after → at ≤ length out → Put out out′ at (xs ++ ys) (m + n) after
+put-append {out} {mid} {out′} {at} {next} {after} {xs} {ys} {m} {n} p q fits =
+    let k : length xs ≡ m = p .counted in
+    let l : length ys ≡ n = q .counted in
+    let e : next ≡ at + m = p .ends in
+    let f : after ≡ next + n = q .ends in
+    record {
+      written = written-append (p .written) (q .written) (omega arith) fits;
+      counted = omega (arith, length-append xs ys);
+      ends = omega arith;
+    }
+
+-- what fits keeps the length
+pub put-length :
+    {out out′ : List ℕ} {at : ℕ} {bytes : List ℕ} {count after : ℕ} →
+    Put out out′ at bytes count after → at + count ≤ length out → length out′ ≡ length out
+put-length p fits = let k = p .counted in written-length (p .written) (omega arith)
+
+-- bytes stored one by one at `at + k` and on, as straight-line code does
+abbrev pub storesFrom : List ℕ → ℕ → ℕ → List ℕ → List ℕ
+storesFrom out at k [] = out
+storesFrom out at k (b ∷ bytes) = storesFrom (set out (at + k) b) at (suc k) bytes
+
+stores-from : (out : List ℕ) (at k : ℕ) (bytes : List ℕ) → storesFrom out at k bytes ≡ sets out (at + k) bytes
+stores-from out at k [] = refl
+stores-from out at k (b ∷ bytes) =
+    stores-from (set out (at + k) b) at (suc k) bytes ∙ ap (λ (n : ℕ). sets (set out (at + k) b) n bytes) (add-suc at k)
+
+-- a first byte at `at`, and more at `at + 1` and on
+pub stores-put :
+    (b : ℕ) (bytes out : List ℕ) (at : ℕ) → at + length (b ∷ bytes) ≤ length out →
+    Put out (storesFrom (set out at b) at 1 bytes) at (b ∷ bytes) (length (b ∷ bytes)) (at + length (b ∷ bytes))
+stores-put b bytes out at fits =
+    record {
+      written =
+          rw (stores-from (set out at b) at 1 bytes, add-one)
+          (stores-written (b ∷ bytes) out at fits);
+      counted = refl;
+      ends = refl;
+    }
