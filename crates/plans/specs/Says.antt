@@ -23,32 +23,51 @@ zeroed work = replicate (length work) 0
 abbrev pub unless : {A : Type 0} → ℕ → A → A → A
 unless fault none value = cond (eqb fault 0) value none
 
--- a call that writes a table: its refusal, the table's bytes, its states and joins; the working area and the output before
--- and after; the result
-pub record Wrote (fault : ℕ) (bytes : List ℕ) (states joins : ℕ) (work work′ out out′ : List ℕ) (r : Built) : Type 0 where
+-- ---- calls that write a table
+
+-- what is given back: the refusal, and where there is none the table's bytes in the output, their number, the states and the joins
+pub record Gives (fault : ℕ) (bytes : List ℕ) (states joins : ℕ) (out out′ : List ℕ) (r : Built) : Type 0 where
   pub number-is : r .number ≡ fault
   pub length-is : r .length ≡ unless fault 0 (length bytes)
   pub states-are : r .states ≡ unless fault 0 states
   pub joins-are : r .joins ≡ unless fault 0 joins
-  pub work-zero : work′ ≡ zeroed work
   pub output-is : out′ ≡ unless fault out (over bytes out)
 
--- a table read and written again
+-- the same with the working area before and after
+pub record Wrote (fault : ℕ) (bytes : List ℕ) (states joins : ℕ) (work work′ out out′ : List ℕ) (r : Built) : Type 0 where
+  pub gives : Gives fault bytes states joins out out′ r
+  pub work-zero : work′ ≡ zeroed work
+
+-- a table read and written again: the lent slices before and after, and the result
+abbrev pub RewriteGives : List ℕ → List ℕ → List ℕ → List ℕ → Built → Type 0
+RewriteGives table work out out′ r =
+    Gives (rewriteFault table work out) (rewritten table) (length (tableStates table)) 0 out out′ r
+
 abbrev pub RewriteSays : List ℕ → List ℕ → List ℕ → List ℕ → List ℕ → Built → Type 0
 RewriteSays table work work′ out out′ r =
     Wrote (rewriteFault table work out) (rewritten table) (length (tableStates table)) 0 work work′ out out′ r
 
--- a row walked: its refusal and the walk's outcome, the beginning that can be walked, the next names and how many they are
-pub record WalkSays (table row work work′ beginning : List ℕ) (number result names count : ℕ) : Type 0 where
+-- ---- a row walked
+
+-- the beginning that can be walked
+abbrev pub walkedPart : List ℕ → List ℕ → List ℕ → List ℕ
+walkedPart table row work = unless (walkFault table row work) [] (longestBeginning (tableStates table) row)
+
+-- the refusal and the walk's outcome, the next names and how many they are
+pub record WalkGives (table row work : List ℕ) (number result names count : ℕ) : Type 0 where
   pub number-is : number ≡ walkFault table row work
-  pub beginning-is : beginning ≡ unless (walkFault table row work) [] (longestBeginning (tableStates table) row)
   pub outcome-is : result ≡ unless (walkFault table row work) 0 (outcome (tableStates table) row)
   pub names-are : names ≡ unless (walkFault table row work) 0 (nextNames (tableStates table) row)
   pub count-is : count ≡ unless (walkFault table row work) 0 (nextCount (tableStates table) row)
+
+-- the same with the beginning, and the working area before and after
+pub record WalkSays (table row work work′ beginning : List ℕ) (number result names count : ℕ) : Type 0 where
+  pub gives : WalkGives table row work number result names count
+  pub beginning-is : beginning ≡ walkedPart table row work
   pub work-zero : work′ ≡ zeroed work
 
 -- the same for C, where the beginning is told by its length
-abbrev pub WalkedSays : List ℕ → List ℕ → List ℕ → List ℕ → Walked → Type 0
-WalkedSays table row work work′ r =
-    (beginning : List ℕ) × WalkSays table row work work′ beginning (r .number) (r .outcome) (r .names) (r .count)
-    × (r .length ≡ length beginning)
+pub record WalkedSays (table row work work′ : List ℕ) (r : Walked) : Type 0 where
+  pub gives : WalkGives table row work (r .number) (r .outcome) (r .names) (r .count)
+  pub length-is : r .length ≡ length (walkedPart table row work)
+  pub work-zero : work′ ≡ zeroed work

@@ -1,5 +1,6 @@
 // The public entries: a table rewritten, a row walked over a table. Any bytes may be lent; each call ends with a result or one
 // numbered refusal, leaves every byte of the working area zero, and leaves the output as it was where it refuses.
+mod limits;
 mod rewriting;
 mod walking;
 
@@ -48,14 +49,42 @@ pub fn walk_row<'a>(
     names: &mut u64,
     count: &mut u8,
 ) -> &'a [u8]
-    ensures { λ r. ⌜ WalkSays (now (table .entry)) (now (row .entry)) (now (work .entry)) (now (work .exit)) (now r) (now (number .exit)) (now (outcome .exit)) (now (names .exit)) (now (count .exit)) ⌝ }
+    ensures { λ r. ⌜ WalkSays (now (table .entry)) (now (row .entry)) (now (work .entry)) (now (work .exit)) (now r)
+                     (now (number .exit)) (now (outcome .exit)) (now (names .exit)) (now (count .exit)) ⌝ }
 {
-    let walked = walking::walk(table, row, work);
+    let ended = walking::walk(table, row, work);
     clear(work);
-    *number = walked.number;
-    *outcome = walked.outcome;
-    *names = walked.names;
-    *count = walked.count;
-    let end = walked.taken;
-    &row[..end]
+    *number = ended.number;
+    *outcome = ended.outcome;
+    *names = ended.names;
+    *count = ended.count;
+    let taken = ended.taken;
+    &row[..taken]
+}
+
+// rewrite_table for C.
+#[no_mangle]
+pub extern "C" fn plans_rewrite(table: &[u8], work: &mut [u8], out: &mut [u8]) -> Built
+    ensures { λ r. ⌜ RewriteSays (now (table .entry)) (now (work .entry)) (now (work .exit)) (now (out .entry)) (now (out .exit)) r ⌝ }
+{
+    rewrite_table(table, work, out)
+}
+
+// walk_row for C: the beginning is told by its length.
+#[no_mangle]
+pub extern "C" fn plans_walk(table: &[u8], row: &[u8], work: &mut [u8]) -> Walked
+    ensures { λ r. ⌜ WalkedSays (now (table .entry)) (now (row .entry)) (now (work .entry)) (now (work .exit)) r ⌝ }
+{
+    let mut number: u8 = 0;
+    let mut outcome: u8 = 0;
+    let mut names: u64 = 0;
+    let mut count: u8 = 0;
+    let beginning = walk_row(table, row, work, &mut number, &mut outcome, &mut names, &mut count);
+    Walked {
+        number: number,
+        outcome: outcome,
+        count: count,
+        length: beginning.len() as u32,
+        names: names,
+    }
 }
