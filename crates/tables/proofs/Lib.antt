@@ -1,0 +1,7 @@
+-- Laws that the functions' proofs share: of a state's arcs from an offset on; of the numbers met; of sets of names, which later
+-- crates cite; of tables as read, and of walks. Assumes nothing.
+pub mod ArcLaws
+pub mod NameSets
+pub mod MetLaws
+pub mod TableLaws
+pub mod WalkLaws

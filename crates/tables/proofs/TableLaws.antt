@@ -1,0 +1,272 @@
+-- Tables as read: every state's field passed the reader's test; where each state's field stands; and the pass over the states,
+-- from its begin over its turns to its answers. Assumes nothing.
+use mathlib.Core.Path.{_≡_, refl, sym, ap, _∙_, subst}
+use mathlib.Core.Logic.{⊎-elim}
+use mathlib.Core.Bool.{Bool, true, false, not, _&&_, true≢false, false≢true}
+use mathlib.Core.List.{List, [], _∷_, _++_, map, List·Memᴰ as In, List·Memᴰ·head as here, List·Memᴰ·tail as there}
+use mathlib.Core.List.{List·Memᴰ·not-nil, List·Memᴰ·append-cases, List·Memᴰ·eq-of-singleton}
+use Prim.Native.Nat.{ℕ, zero, suc, _+_, _-_, _*_, _≤_, _<_}
+use native.Mathlib.Numerals.{add-one}
+use native.Mathlib.Omega.{arith}
+use borrow.Author.Tests.{ltb-true, ltb-false, lt-ltb, eq-eqb, ne-eqb}
+use lib.Dec.{eqb, ltb, leb}
+use lib.ListN.{length, getD, drop, length-map, length-append, List·getD-map}
+use Rattle.model.specs.Limits.{when, firstOf, state-limit, input-limit, work-bytes}
+use Rattle.model.specs.Fields.{File, Read, unread, default-class, table, withField, arcsOk, stateOk, readFields, readWith}
+use Rattle.model.specs.Tables.{State, no-state, stateIn, statesIn, metByArcs, metByStates, isFirstMet}
+use Rattle.model.specs.Calls.{tableOf, tableStates}
+use Rattle.model.proofs.FieldLaws.{Fitting, a-name, a-class, a-row, a-state, fitting, both}
+use Rattle.model.proofs.Turns.{read-keeps}
+use Rattle.fields.specs.Offsets.{bodyAt, nextAt, offsetAt, fieldsAt}
+use Rattle.fields.specs.Places.{fileOf, Sound, ReadAs}
+use Rattle.fields.specs.declared.Place.{Place}
+use Rattle.fields.specs.declared.Fields.{Fields}
+use Rattle.fields.specs.declared.Fields.the-variants as read
+use Rattle.fields.proofs.OffsetLaws.{offset-suc, field-within, length-fields, field-at}
+use Rattle.cells.specs.Cells.{cellAt, withCell}
+use Rattle.cells.proofs.CellLaws.{length-withCell, cell-same, cell-other-row}
+use Rattle.tables.specs.Arcs.{StateOk}
+use Rattle.tables.specs.Accepting.{readFault, TableRead, StateField, Ready, TableAt, AcceptedAs}
+use Rattle.tables.specs.declared.Accepted.the-variants.{Table, Refused}
+use Rattle.tables.proofs.MetLaws.{states-stop, states-go, states-end, first-met-some}
+
+-- ---- every state's field passed the test
+
+arcs-more : (f n m next : ℕ) (t : List ℕ) → n ≤ m → arcsOk f n next t ≡ true → arcsOk f m next t ≡ true
+unfolding arcsOk
+arcs-more zero n m next t h ok = refl
+arcs-more (suc f) n m next [] h ok = refl
+arcs-more (suc f) n m next (a ∷ t) h ok =
+    let p = both (leb 2 (length t)) ((ltb a n && leb next a) && arcsOk f n (suc a) (drop 2 t)) ok in
+    let q = both (ltb a n && leb next a) (arcsOk f n (suc a) (drop 2 t)) (p .1) in
+    let r = both (ltb a n) (leb next a) (q .0) in
+    let low : a < m = omega (arith, ltb-true a n (r .0)) in
+    rw (p .0, lt-ltb a m low, r .1, arcs-more f n m (suc a) (drop 2 t) h (q .1))
+
+-- a state over n names is one over more names
+state-more : (n m : ℕ) (s : List ℕ) → n ≤ m → stateOk n s ≡ true → stateOk m s ≡ true
+unfolding stateOk
+state-more n m [] h ok = ok
+state-more n m (b ∷ s) h ok =
+    let p = both (leb b 1) (arcsOk (length s) n 0 s) ok in
+    rw (p .0, arcs-more (length s) n m 0 s h (p .1))
+
+-- a table as read so far
+record Good (f : File) (rest : List ℕ) : Type 0 where
+  few : length (f .names) ≤ 64
+  bodies : (r : List ℕ) → In r (f .items) → StateOk r
+
+good-grows : (f : File) (mark : ℕ) (body more rest : List ℕ) → Fitting table f mark body → Good f more → Good (withField f mark body) rest
+unfolding withField
+good-grows f mark body more rest (a-name e low fits) g =
+    subst (λ (z : ℕ). Good (withField f z body) rest) (sym e)
+    (record { few = simp length-append (omega (arith, fits .few)); bodies = g .bodies })
+good-grows f mark body more rest (a-class e at fits) g =
+    subst (λ (z : ℕ). Good (withField f z body) rest) (sym e) (record { few = g .few; bodies = g .bodies })
+good-grows f mark body more rest (a-row k e high fits) g = absurd (true≢false k)
+good-grows f mark body more rest (a-state k e high fits) g =
+    subst (λ (z : ℕ). Good (withField f z body) rest) (sym e)
+    (record {
+      few = g .few;
+      bodies = λ r m.
+          ⊎-elim (λ n. g .bodies r n)
+          (λ n. subst StateOk (sym (List·Memᴰ·eq-of-singleton n)) (state-more (length (f .names)) 64 body (g .few) (fits .state-ok)))
+          (List·Memᴰ·append-cases (f .items) m);
+    })
+
+pub bodies-ok : (s : List ℕ) → readFields table s .number ≡ 0 → (r : List ℕ) → In r (tableOf s .items) → StateOk r
+unfolding tableOf readWith
+bodies-ok s ok =
+    read-keeps table Good
+    (λ f mark a b body rest size fit g. good-grows f mark body (mark ∷ (a ∷ (b ∷ (body ++ rest)))) rest (fitting table f mark body fit) g)
+    (suc (length s)) (unread default-class) s (record { few = omega arith; bodies = λ r m. absurd (List·Memᴰ·not-nil m) }) ok .1 .bodies
+
+-- ---- where each state's field stands
+
+nth-in : (xs : List (List ℕ)) (i : ℕ) → i < length xs → In (getD xs i []) xs
+nth-in [] i h = let z : ⊥ = omega arith in absurd z
+nth-in (x ∷ xs) zero h = here refl
+nth-in (x ∷ xs) (suc i) h = there (nth-in xs i (omega arith))
+
+module _ (s : List ℕ) (p : Place) (t : TableRead s p) where
+  items-are : fieldsAt s (p .start) (p .items) ≡ tableOf s .items
+  items-are = ap (λ (f : File). f .items) (t .file-is)
+
+  pub states-are : tableStates s ≡ map stateIn (fieldsAt s (p .start) (p .items))
+  unfolding tableStates statesIn
+  states-are = ap (map stateIn) (sym items-are)
+
+  pub states-count : length (tableStates s) ≡ p .items
+  states-count =
+      ap length states-are ∙ length-map (fieldsAt s (p .start) (p .items)) stateIn ∙ length-fields s (p .start) (p .items)
+
+  -- the i-th field lies within the input and is a state's
+  pub field-is : (i : ℕ) → i < p .items → StateField s (offsetAt s (p .start) i)
+  field-is i h =
+      let within = field-within s (p .start) (p .items) i h in
+      let place : i < length (fieldsAt s (p .start) (p .items)) = omega (arith, length-fields s (p .start) (p .items)) in
+      record {
+        fits = omega (arith, within, t .sound .items-end, t .sound .within);
+        ok =
+            subst StateOk (field-at s (p .start) (p .items) i h)
+            (bodies-ok s (t .no-refusal) (getD (fieldsAt s (p .start) (p .items)) i [])
+            (subst (λ (l : List (List ℕ)). In (getD (fieldsAt s (p .start) (p .items)) i []) l) items-are
+            (nth-in (fieldsAt s (p .start) (p .items)) i place)));
+      }
+
+  -- and means the i-th state
+  pub field-means : (i : ℕ) → i < p .items → stateIn (bodyAt s (offsetAt s (p .start) i)) ≡ getD (tableStates s) i no-state
+  unfolding stateIn
+  field-means i h =
+      ap stateIn (sym (field-at s (p .start) (p .items) i h))
+      ∙ sym (List·getD-map stateIn (fieldsAt s (p .start) (p .items)) i [])
+      ∙ ap (λ (l : List State). getD l i no-state) (sym states-are)
+
+-- ---- the pass over the states
+
+-- before state i: the offset is its field's, the offsets of those before are kept, and the numbers met decide
+pub record Passing (s : List ℕ) (p : Place) (lent work : List ℕ) (at met i : ℕ) : Type 0 where
+  pub same-length : length work ≡ length lent
+  pub within : i ≤ p .items
+  pub at-is : at ≡ offsetAt s (p .start) i
+  pub kept : (j : ℕ) → j < i → cellAt work j 0 ≡ offsetAt s (p .start) j
+  pub decides : metByStates i met (drop i (tableStates s)) ≡ metByStates 0 1 (tableStates s)
+
+pub passing-begins : (s : List ℕ) (p : Place) (lent : List ℕ) → Passing s p lent lent (p .start) 1 0
+unfolding offsetAt
+passing-begins s p lent =
+    record {
+      same-length = refl;
+      within = omega arith;
+      at-is = refl;
+      kept = λ (j : ℕ) (h : j < 0). let z : ⊥ = omega arith in absurd z;
+      decides = refl;
+    }
+
+fault-none : (s : List ℕ) → readFields table s .number ≡ 0 → isFirstMet (tableStates s) ≡ true → readFault s ≡ 0
+unfolding readFault
+fault-none s e f = rw (e, f)
+
+fault-12 : (s : List ℕ) → readFields table s .number ≡ 0 → isFirstMet (tableStates s) ≡ false → readFault s ≡ 12
+unfolding readFault
+fault-12 s e f = rw (e, f)
+
+first-of-some : (a b : ℕ) → 0 < a → firstOf a b ≡ a
+first-of-some zero b h = let z : ⊥ = omega arith in absurd z
+first-of-some (suc a) b h = refl
+
+pub fault-fields : (s : List ℕ) (k : ℕ) → readFields table s .number ≡ k → 0 < k → readFault s ≡ k
+unfolding readFault
+fault-fields s k e h = rw e (first-of-some k (when (not (isFirstMet (tableStates s))) 12) h)
+
+module _ (s : List ℕ) (p : Place) (t : TableRead s p) (lent work : List ℕ) (at met i : ℕ) (now : Passing s p lent work at met i) where
+  -- the place of state i's field
+  pub field-here : i < p .items → StateField s at
+  field-here h = subst (StateField s) (sym (now .at-is)) (field-is s p t i h)
+
+  pub passing-goes : (next : ℕ) → work-bytes ≤ length lent → i < p .items → i < met
+      → next ≡ metByArcs met (stateIn (bodyAt s at) .arcs)
+      → Passing s p lent (withCell work i 0 at) (nextAt s at) next (i + 1)
+  passing-goes next room h low e =
+      let few : i < 512 = omega (arith, t .sound .few-items) in
+      let big : work-bytes ≤ length work = omega (arith, now .same-length) in
+      let state-is : stateIn (bodyAt s at) ≡ getD (tableStates s) i no-state =
+      ap (λ (a : ℕ). stateIn (bodyAt s a)) (now .at-is) ∙ field-means s p t i h in
+      let there-is : i < length (tableStates s) = omega (arith, states-count s p t) in
+      record {
+        same-length = length-withCell work i 0 at ∙ now .same-length;
+        within = omega arith;
+        at-is = ap (nextAt s) (now .at-is) ∙ sym (offset-suc s (p .start) i) ∙ ap (offsetAt s (p .start)) (sym (add-one i));
+        kept = λ (j : ℕ) (l : j < i + 1). keep few big j l (ltb j i) refl;
+        decides =
+            ap (λ (m : ℕ). metByStates (i + 1) m (drop (i + 1) (tableStates s)))
+            (e ∙ ap (λ (st : State). metByArcs met (st .arcs)) state-is)
+            ∙ sym (states-go (tableStates s) i met there-is low)
+            ∙ now .decides;
+      }
+    where
+      keep : i < 512 → work-bytes ≤ length work → (j : ℕ) → j < i + 1 → (b : Bool) → ltb j i ≡ b
+          → cellAt (withCell work i 0 at) j 0 ≡ offsetAt s (p .start) j
+      keep few big j l true q =
+          let less : j < i = ltb-true j i q in
+          cell-other-row work i 0 at j 0 (omega arith) (omega arith) (λ (z : j ≡ i). omega arith) ∙ now .kept j less
+      keep few big j l false q =
+          let same : j ≡ i = omega (arith, ltb-false j i q) in
+          subst (λ (k : ℕ). cellAt (withCell work i 0 at) k 0 ≡ offsetAt s (p .start) k) (sym same)
+          (cell-same work i 0 at few (omega arith) big ∙ now .at-is)
+
+  refuse : (metByStates 0 1 (tableStates s) ≡ length (tableStates s) → ⊥) → AcceptedAs s lent work (Refused 12)
+  unfolding isFirstMet
+  refuse n =
+      record {
+        number = sym (fault-12 s (t .no-refusal) (ne-eqb (metByStates 0 1 (tableStates s)) (length (tableStates s)) n));
+        kept = omega arith;
+        same-length = now .same-length;
+      }
+
+  -- a state never met when its turn comes
+  pub passing-stops : i < p .items → met ≤ i → AcceptedAs s lent work (Refused 12)
+  passing-stops h low =
+      let there-is : i < length (tableStates s) = omega (arith, states-count s p t) in
+      let none = states-stop (tableStates s) i met there-is low in
+      refuse (λ (e : metByStates 0 1 (tableStates s) ≡ length (tableStates s)). omega (arith, none, now .decides))
+
+  all-met : p .items ≤ i → metByStates 0 1 (tableStates s) ≡ met
+  all-met h =
+      let past : length (tableStates s) ≤ i = omega (arith, states-count s p t) in
+      sym (now .decides) ∙ states-end (tableStates s) i met past
+
+  -- at the end more or fewer states are met than there are
+  pub passing-refused : p .items ≤ i → (met ≡ p .items → ⊥) → AcceptedAs s lent work (Refused 12)
+  passing-refused h n =
+      refuse (λ (e : metByStates 0 1 (tableStates s) ≡ length (tableStates s)). n (omega (arith, all-met h, states-count s p t)))
+
+  pub passing-accepted : work-bytes ≤ length lent → p .items ≤ i → met ≡ p .items → AcceptedAs s lent work (Table p)
+  unfolding isFirstMet
+  passing-accepted room h e =
+      let count = states-count s p t in
+      let first-met : isFirstMet (tableStates s) ≡ true =
+      eq-eqb (metByStates 0 1 (tableStates s)) (length (tableStates s)) (omega (arith, all-met h, count)) in
+      record {
+        number = sym (fault-none s (t .no-refusal) first-met);
+        kept =
+            record {
+              read = t;
+              items-are = sym count;
+              first-met = first-met;
+              kept-offsets = λ (j : ℕ) (l : j < p .items). now .kept j (omega arith);
+              ready =
+                  record {
+                    room = omega (arith, now .same-length);
+                    some-state = first-met-some (tableStates s) first-met;
+                    few-states = omega (arith, t .sound .few-items);
+                    first-met = first-met;
+                    field = λ (j : ℕ) (l : j < length (tableStates s)).
+                        let less : j < p .items = omega arith in
+                        subst (StateField s) (sym (now .kept j (omega arith))) (field-is s p t j less);
+                    means = λ (j : ℕ) (l : j < length (tableStates s)).
+                        let less : j < p .items = omega arith in
+                        ap (λ (a : ℕ). stateIn (bodyAt s a)) (now .kept j (omega arith)) ∙ field-means s p t j less;
+                  };
+            };
+        same-length = now .same-length;
+      }
+
+-- ---- the reader's answer
+
+pub table-read : (s : List ℕ) (p : Place) → ReadAs default-class table s (read.Accepted p) → TableRead s p
+unfolding tableOf
+table-read s p r =
+    record {
+      no-refusal = sym (ap (λ (a : Read). a .number) (r .is));
+      sound = r .kept;
+      file-is = ap (λ (a : Read). a .file-is) (r .is);
+    }
+
+pub table-refused : (s lent : List ℕ) (k : ℕ) → ReadAs default-class table s (read.Refused k) → AcceptedAs s lent lent (Refused k)
+table-refused s lent k r =
+    record {
+      number = sym (fault-fields s k (sym (ap (λ (a : Read). a .number) (r .is))) (r .kept));
+      kept = r .kept;
+      same-length = refl;
+    }

@@ -1,0 +1,26 @@
+-- One state's field by its bytes: that it passed the reader's test, the target of the arc at an offset, and how many states are met
+-- after an arc. Assumes nothing.
+use mathlib.Core.Path.{_≡_}
+use mathlib.Core.Bool.{Bool, true, cond}
+use mathlib.Core.List.{List}
+use Prim.Native.Nat.{ℕ, suc, _+_, _*_, _<_}
+use lib.Dec.{eqb}
+use lib.ListN.{getD}
+use Rattle.model.specs.Limits.{name-limit}
+use Rattle.model.specs.Fields.{stateOk}
+
+-- the bytes are a state field over at most 64 names: its arcs are whole, and their names ascend
+abbrev pub StateOk : List ℕ → Type 0
+StateOk body = stateOk name-limit body ≡ true
+
+-- the target of the arc at offset i
+abbrev pub targetAt : List ℕ → ℕ → ℕ
+targetAt body i = 256 * getD body (i + 1) 0 + getD body (i + 2) 0
+
+pub record IsTarget (body : List ℕ) (i answer : ℕ) : Type 0 where
+  pub is : answer ≡ targetAt body i
+  pub small : answer < 65536
+
+-- how many states are met after an arc to a state met already, or to the next new one
+abbrev pub metWith : ℕ → ℕ → ℕ
+metWith met to = cond (eqb to met) (met + 1) met

@@ -1,0 +1,80 @@
+// One state's field, over its bytes after mark and length: whether it accepts, the names of its arcs as a set, the target of an
+// arc, and the check of first-met numbering. Every function here requires that the field passed the reader's test.
+use cells::numbers::wide8;
+ghost use mathlib.Core.Path.{_≡_};
+ghost use mathlib.Core.Bool.{true};
+ghost use Prim.Native.Nat.{_+_, _≤_};
+ghost use lib.ListN.{length};
+ghost use Rattle.model.specs.Tables.{stateIn, metByArcs, targetIn, nameSet};
+ghost use Rattle.tables.specs.Arcs.{StateOk, IsTarget, metWith};
+
+// The target of the arc at an offset, high byte first.
+fn target_at(state: &[u8], i: usize) -> usize
+    requires { ⌜ i + 3 ≤ length (now state) ⌝ }
+    ensures { λ r. ⌜ IsTarget (now (state .entry)) i r ⌝ }
+{
+    256 * wide8(state[i + 1]) + wide8(state[i + 2])
+}
+
+// How many states are met after an arc to a state met already, or to the next new one.
+fn met_with(met: usize, to: usize) -> usize
+    requires { ⌜ (to ≤ met) × (to ≤ 65535) ⌝ }
+    ensures { λ r. ⌜ r ≡ metWith met to ⌝ }
+{
+    if to == met {
+        return met + 1;
+    }
+    met
+}
+
+// How many states are met after a state's arcs, `met` being met before; 0 where an arc leads past the next new one.
+pub fn met_by_arcs(state: &[u8], met: usize) -> usize
+    requires { ⌜ StateOk (now state) ⌝ }
+    ensures { λ r. ⌜ r ≡ metByArcs met (stateIn (now (state .entry)) .arcs) ⌝ }
+{
+    let mut count = met;
+    let mut i = 1;
+    while i < state.len() {
+        let to = target_at(state, i);
+        if count < to {
+            return 0;
+        }
+        count = met_with(count, to);
+        i += 3;
+    }
+    count
+}
+
+// The target of the arc with this name plus 1, or 0 where there is no such arc. Names ascend, so that the search stops early.
+pub fn target(state: &[u8], name: u8) -> usize
+    requires { ⌜ StateOk (now state) ⌝ }
+    ensures { λ r. ⌜ r ≡ targetIn name (stateIn (now (state .entry)) .arcs) ⌝ }
+{
+    let mut i = 1;
+    while i < state.len() {
+        let found = state[i];
+        if found == name {
+            return target_at(state, i) + 1;
+        }
+        if name < found {
+            return 0;
+        }
+        i += 3;
+    }
+    0
+}
+
+// The names of a state's arcs as a set of 64 bits, bit n for name n.
+pub fn name_set(state: &[u8]) -> u64
+    requires { ⌜ StateOk (now state) ⌝ }
+    ensures { λ r. ⌜ r ≡ nameSet (stateIn (now (state .entry)) .arcs) ⌝ }
+{
+    let mut names: u64 = 0;
+    let mut i = 1;
+    while i < state.len() {
+        let name = state[i];
+        names = names | (1u64 << name);
+        i += 3;
+    }
+    names
+}
