@@ -1,22 +1,25 @@
 -- Which refusal a call comes to, in the order in which they are judged; and what a call gives back that is refused, that copies an
 -- accepted table, or that walked a row over one. Assumes nothing.
 use mathlib.Core.Path.{_≡_, refl, sym, ap, _∙_, subst}
-use mathlib.Core.Bool.{Bool, true, false, not, cond, _||_}
+use mathlib.Core.Bool.{Bool, true, false, not, cond, _||_, and-eq-true-iff}
 use mathlib.Core.List.{List, [], _∷_, _++_}
 use Prim.Native.Nat.{ℕ, zero, suc, _+_, _≤_, _<_}
 use native.Mathlib.Nat.{zero-add}
 use native.Mathlib.Omega.{arith}
-use borrow.Author.Tests.{ltb-true, ltb-false, lt-ltb, le-ltb, eq-eqb, ne-eqb}
-use lib.Dec.{eqb, ltb}
-use lib.ListN.{length, take, drop}
-use Rattle.model.specs.Limits.{when, firstOf, bad-sizes, input-limit, work-bytes}
-use Rattle.model.specs.Fields.{File, rowOk}
+use borrow.Author.Tests.{ltb-false, lt-ltb, le-ltb, leb-true, eq-eqb, ne-eqb, eqb-true}
+use lib.Dec.{eqb, ltb, leb}
+use lib.ListN.{length, take, drop, length-take}
+use Rattle.model.specs.Limits.{when, firstOf, bad-sizes, input-limit, work-bytes, row-limit}
+use Rattle.model.specs.Fields.{File, allBelow, rowOk}
 use Rattle.model.specs.Tables.{State, longestBeginning, walk, outcome, nextNames, nextCount}
 use Rattle.model.specs.Claims.{AllBytes}
 use Rattle.model.specs.Calls.{sizesFault, outputFault, tableOf, tableStates, tableFault, rewritten, rewriteFault, walkFault}
+use Rattle.model.proofs.FieldLaws.{first-of}
 use Rattle.model.proofs.Reading.{rewrites-same}
+use Rattle.fields.specs.declared.Place.{Place}
+use Rattle.fields.proofs.Parts.{length-names}
 use Rattle.writing.specs.Writing.{Written}
-use Rattle.tables.specs.Accepting.{readFault}
+use Rattle.tables.specs.Accepting.{readFault, TableRead}
 use Rattle.plans.specs.declared.Built.{Built}
 use Rattle.plans.specs.declared.walking.Ended.{Ended}
 use Rattle.plans.specs.Says.{over, unless, Gives, RewriteGives, walkedPart, WalkGives}
@@ -137,6 +140,14 @@ module _ (table work out : List ℕ) where
 
 -- ---- a row walked
 
+-- how many names an accepted table has
+pub names-count : (s : List ℕ) (p : Place) → TableRead s p → length (tableOf s .names) ≡ p .names
+names-count s p read = ap (λ (f : File). length (f .names)) (sym (read .file-is)) ∙ length-names s p (read .sound)
+
+-- an accepted row has at most 64 entries
+pub row-short : (n : ℕ) (row : List ℕ) → rowOk n row ≡ true → length row ≤ row-limit
+row-short n row ok = leb-true (length row) row-limit (and-eq-true-iff (leb (length row) row-limit) (allBelow n row) .0 ok .0)
+
 module _ (table row work : List ℕ) where
   walk-refused : 0 < tableFault table work → walkFault table row work ≡ tableFault table work
   unfolding walkFault
@@ -211,7 +222,7 @@ module _ (table row work : List ℕ) where
         within = ends .within;
       }
 
-  -- the part of the row that was walked
+  -- the part of the row that was walked, at most 64 names
   pub part-walked : (r : Ended) → EndsAs table row work r → take (r .taken) row ≡ walkedPart table row work
   unfolding longestBeginning
   part-walked r ends = ap (λ (n : ℕ). take n row) (ends .taken-is) ∙ go (eqb (walkFault table row work) 0)
@@ -219,3 +230,24 @@ module _ (table row work : List ℕ) where
       go : (b : Bool) → take (cond b (walk (tableStates table) row .taken) 0) row ≡ cond b (take (walk (tableStates table) row .taken) row) []
       go true = refl
       go false = refl
+
+  row-judged : (b : Bool) → rowOk (length (tableOf table .names)) row ≡ b → walkFault table row work ≡ 0 → length row ≤ row-limit
+  unfolding walkFault
+  row-judged true ok e = row-short (length (tableOf table .names)) row ok
+  row-judged false ok e =
+      let last = first-of (tableFault table work) (when (not (rowOk (length (tableOf table .names)) row)) 9) e .1 in
+      let nine : _≡_ {A = ℕ} 9 0 = ap (λ (b : Bool). when (not b) 9) (sym ok) ∙ last in
+      let z : ⊥ = omega arith in
+      absurd z
+
+  pub part-short : length (walkedPart table row work) ≤ row-limit
+  unfolding longestBeginning
+  part-short = go (eqb (walkFault table row work) 0) refl
+    where
+      go :
+          (b : Bool) → eqb (walkFault table row work) 0 ≡ b →
+          length (cond b (take (walk (tableStates table) row .taken) row) []) ≤ row-limit
+      go true e =
+          let few = row-judged (rowOk (length (tableOf table .names)) row) refl (eqb-true (walkFault table row work) 0 e) in
+          simp length-take (omega arith)
+      go false e = omega arith

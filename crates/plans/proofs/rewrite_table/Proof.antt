@@ -1,30 +1,33 @@
+-- `rewrite_table` meets its contract: what `rewrite` gives, and `clear` leaves zeros, as many as the area was long. Assumes nothing.
 use borrow.Author.Needs.{needs}
+use mathlib.Core.Path.{_≡_, ap, _∙_}
+use Prim.Native.Nat.{ℕ}
+use native.Mathlib.Omega.{arith}
+use lib.ListN.{length, replicate}
 use Rattle.plans.proofs.rewrite_table.Statement.{statement}
 use Rattle.plans.proofs.rewrite_table.Tie as tie
-use Rattle.plans.proofs.rewrite_table.Reads as reads
-use Rattle.plans.proofs.rewrite_table.Lts as lts
-use Rattle.cells.proofs.clear.Reads as clear-reads
-use Rattle.plans.proofs.rewriting.rewrite.Reads as rewrite-reads
 
--- src/lib.rt:36:9
 rewrite-requires : tie.Need-rewrite-requires
 rewrite-requires c κs = search needs
 
--- src/lib.rt:37:5
 clear-requires : tie.Need-clear-requires
 clear-requires c κs = search needs
 
--- src/lib.rt:33:1
 same-length : tie.Need-same-length
 same-length c = search needs
 
--- src/lib.rt:33:1
 same-length-2 : tie.Need-same-length-2
 same-length-2 c = search needs
 
--- src/lib.rt:33:1
 returns : tie.Need-returns
-returns c = ?
+returns c =
+    let at = c .before .before .before .before .before .before .before .before .before .before .before .before .before .before .args in
+    let rewritten = c .before .before .before .before .before .before .before .before .rewrite in
+    let same : length (rewritten .last .1 .0) ≡ length (at .work .now) = omega arith in
+    record {
+      gives = rewritten .ensures;
+      work-zero = c .before .before .clear .ensures ∙ ap (λ (n : ℕ). replicate n 0) same;
+    }
 
 pub rewrite-table-spec : {M : Type 1} → statement M
 rewrite-table-spec =

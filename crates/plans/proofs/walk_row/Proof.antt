@@ -1,30 +1,39 @@
+-- `walk_row` meets its contract: what `walk` gives, the part of the row that was walked, and the zeros that `clear` leaves. Assumes nothing.
+use mathlib.Core.Path.{_≡_, sym, ap, _∙_}
+use Prim.Native.Nat.{ℕ}
+use native.Mathlib.Omega.{arith}
+use lib.ListN.{length, replicate}
+use lib.Seq.{length-take-le}
+use Rattle.plans.proofs.CallLaws.{part-walked}
 use borrow.Author.Needs.{needs}
 use Rattle.plans.proofs.walk_row.Statement.{statement}
 use Rattle.plans.proofs.walk_row.Tie as tie
-use Rattle.plans.proofs.walk_row.Reads as reads
-use Rattle.plans.proofs.walk_row.Lts as lts
-use Rattle.cells.proofs.clear.Reads as clear-reads
-use Rattle.plans.proofs.walking.walk.Reads as walk-reads
 
--- src/lib.rt:55:9
 walk-requires : tie.Need-walk-requires
 walk-requires c κs = search needs
 
--- src/lib.rt:56:5
 clear-requires : tie.Need-clear-requires
 clear-requires c κs = search needs
 
--- src/lib.rt:62:5
 slice-aggregate-result : tie.Need-slice-aggregate-result
-slice-aggregate-result c = ?
+slice-aggregate-result c =
+    let at = c .before .before .before .before .before .before .before .before .before .before .before .before .args in
+    let ended = c .before .before .before .before .before .before .before .walk in
+    sym (length-take-le (ended .result .taken) (at .row .now) (ended .ensures .within))
 
--- src/lib.rt:43:1
 same-length : tie.Need-same-length
 same-length c = search needs
 
--- src/lib.rt:43:1
 returns : tie.Need-returns
-returns c = ?
+returns c =
+    let at = c .before .before .before .before .before .before .before .before .before .before .before .before .args in
+    let ended = c .before .before .before .before .before .before .before .walk in
+    let same : length (ended .last .1 .1 .0) ≡ length (at .work .now) = omega arith in
+    record {
+      gives = ended .ensures .gives;
+      beginning-is = part-walked (at .table .now) (at .row .now) (at .work .now) (ended .result) (ended .ensures);
+      work-zero = c .before .before .before .clear .ensures ∙ ap (λ (n : ℕ). replicate n 0) same;
+    }
 
 pub walk-row-spec : {M : Type 1} → statement M
 walk-row-spec =

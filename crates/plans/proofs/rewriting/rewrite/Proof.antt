@@ -1,84 +1,108 @@
+-- `rewrite` meets its contract: one law of CallLaws for each answer. Assumes nothing.
+use mathlib.Core.Path.{_≡_, refl, sym, _∙_, subst}
+use mathlib.Core.Bool.{false}
+use Prim.Native.Nat.{ℕ, _<_}
+use native.Mathlib.Omega.{arith}
+use lib.ListN.{length}
+use Rattle.tables.specs.Accepting.{AcceptedAs}
+use Rattle.tables.specs.declared.Accepted.{Accepted}
+use Rattle.plans.proofs.CallLaws.{SizesBad, sizes-fit, gives-sizes, gives-refusal, gives-short, gives-copy}
 use borrow.Author.Needs.{needs}
 use Rattle.plans.proofs.rewriting.rewrite.Statement.{statement}
 use Rattle.plans.proofs.rewriting.rewrite.Tie as tie
-use Rattle.plans.proofs.rewriting.rewrite.Reads as reads
-use Rattle.plans.proofs.rewriting.rewrite.Lts as lts
-use Rattle.plans.proofs.limits.sizes_bad.Reads as sizes-bad-reads
-use Rattle.plans.proofs.rewriting.refused.Reads as refused-reads
-use Rattle.tables.proofs.accept_table.Reads as accept-table-reads
-use Rattle.writing.proofs.copy_in.Reads as copy-in-reads
 
--- src/rewriting.rt:24:8
 sizes-bad-requires : tie.Need-sizes-bad-requires
 sizes-bad-requires c κs = search needs
 
--- src/rewriting.rt:25:9
 refused-requires : tie.Need-refused-requires
 refused-requires c κs = search needs
 
--- src/rewriting.rt:25:9
 returns : tie.Need-returns
-returns c = ?
+returns c =
+    let at = c .before .before .before .before .before .before .args in
+    gives-sizes (at .table .now) (at .work .now) (at .out .now) (c .refused .result)
+    (sym (c .before .before .sizes-bad .ensures) ∙ c .before .if1 .taken) (c .refused .ensures)
 
--- src/rewriting.rt:27:9
 accept-table-requires : tie.Need-accept-table-requires
-accept-table-requires c κs = ?
+accept-table-requires c κs =
+    let at = c .before .before .before .before .before .before .args in
+    let fit = sizes-fit (at .table .now) (at .work .now) (sym (c .before .before .sizes-bad .ensures) ∙ c .before .if1 .left) in
+    (fit .input-fits, fit .work-fits)
 
--- src/rewriting.rt:29:25
 enum-known-accepted : tie.Need-enum-known-accepted
 enum-known-accepted c = search needs
 
--- src/rewriting.rt:31:17
 refused-requires-2 : tie.Need-refused-requires-2
 refused-requires-2 c κs = search needs
 
--- src/rewriting.rt:31:17
 same-length : tie.Need-same-length
 same-length c = search needs
 
--- src/rewriting.rt:31:17
 returns-2 : tie.Need-returns-2
-returns-2 c = ?
+returns-2 c =
+    let at = c .before .before .before .before .before .before .before .before .before .before .before .before .before .before .args in
+    let fit : SizesBad (at .table .now) (at .work .now) ≡ false = sym (c .before .before .before .before .before .before .before .before .before .before .sizes-bad .ensures) ∙ c .before .before .before .before .before .before .before .before .before .if1 .left in
+    let answer = c .before .before .before .accepted .given in
+    let judged =
+    subst (λ (r : Accepted). AcceptedAs (at .table .now) (at .work .now) (c .before .before .before .before .before .before .before .accept-table .last .1 .0) r) (answer .1)
+    (c .before .before .before .before .before .before .before .accept-table .ensures) in
+    gives-short (at .table .now) (at .work .now) (at .out .now) (c .refused2 .result) fit (judged .number)
+    (λ (i : ℕ) (h : i < length (at .table .now)). omega (arith, c .before .before .before .before .before .before .before .before .before .before .before .before .before .shared-slice-known .given i)) (omega arith) (c .refused2 .ensures)
 
--- src/rewriting.rt:33:13
 copy-in-requires : tie.Need-copy-in-requires
 copy-in-requires c κs = search needs
 
--- src/rewriting.rt:34:40
 cast-t18 : tie.Need-cast-t18
-cast-t18 c = ?
+cast-t18 c =
+    let at = c .before .before .before .before .before .before .before .before .before .before .before .before .before .before .before .before .before .args in
+    omega (arith, sizes-fit (at .table .now) (at .work .now) (sym (c .before .before .before .before .before .before .before .before .before .before .before .before .before .sizes-bad .ensures) ∙ c .before .before .before .before .before .before .before .before .before .before .before .before .if1 .left) .input-fits)
 
--- src/rewriting.rt:34:68
 cast-t19 : tie.Need-cast-t19
-cast-t19 c = ?
+cast-t19 c =
+    let at = c .before .before .before .before .before .before .before .before .before .before .before .before .before .before .before .before .before .before .args in
+    let answer = c .before .before .before .before .before .before .before .accepted .given in
+    let judged =
+    subst (λ (r : Accepted). AcceptedAs (at .table .now) (at .work .now) (c .before .before .before .before .before .before .before .before .before .before .before .accept-table .last .1 .0) r) (answer .1)
+    (c .before .before .before .before .before .before .before .before .before .before .before .accept-table .ensures) in
+    omega (arith, judged .kept .items-are, judged .kept .ready .few-states)
 
--- src/rewriting.rt:36:27
 enum-known-accepted-2 : tie.Need-enum-known-accepted-2
 enum-known-accepted-2 c = search needs
 
--- src/rewriting.rt:36:33
 refused-requires-3 : tie.Need-refused-requires-3
 refused-requires-3 c κs = search needs
 
--- src/rewriting.rt:21:1
 same-length-2 : tie.Need-same-length-2
 same-length-2 c = search needs
 
--- src/rewriting.rt:21:1
 same-length-3 : tie.Need-same-length-3
 same-length-3 c = search needs
 
--- src/rewriting.rt:21:1
 returns-3 : tie.Need-returns-3
-returns-3 c = ?
+returns-3 c =
+    let at = c .before .before .before .before .before .before .before .before .before .before .before .before .before .before .before .before .before .before .args in
+    let fit : SizesBad (at .table .now) (at .work .now) ≡ false = sym (c .before .before .before .before .before .before .before .before .before .before .before .before .before .before .sizes-bad .ensures) ∙ c .before .before .before .before .before .before .before .before .before .before .before .before .before .if1 .left in
+    let answer = c .before .before .before .before .before .before .before .accepted .given in
+    let judged =
+    subst (λ (r : Accepted). AcceptedAs (at .table .now) (at .work .now) (c .before .before .before .before .before .before .before .before .before .before .before .accept-table .last .1 .0) r) (answer .1)
+    (c .before .before .before .before .before .before .before .before .before .before .before .accept-table .ensures) in
+    gives-copy (at .table .now) (at .work .now) (at .out .now) (c .before .before .before .copy-in .last .0) _ fit (judged .number)
+    (λ (i : ℕ) (h : i < length (at .table .now)). omega (arith, c .before .before .before .before .before .before .before .before .before .before .before .before .before .before .before .before .before .shared-slice-known .given i)) (omega arith)
+    (c .before .before .before .copy-in .ensures .written) refl refl (judged .kept .items-are) refl
 
--- src/rewriting.rt:21:1
 same-length-4 : tie.Need-same-length-4
 same-length-4 c = search needs
 
--- src/rewriting.rt:21:1
 returns-4 : tie.Need-returns-4
-returns-4 c = ?
+returns-4 c =
+    let at = c .before .before .before .before .before .before .before .before .before .before .before .before .before .args in
+    let fit : SizesBad (at .table .now) (at .work .now) ≡ false = sym (c .before .before .before .before .before .before .before .before .before .sizes-bad .ensures) ∙ c .before .before .before .before .before .before .before .before .if1 .left in
+    let answer = c .before .before .accepted2 .given in
+    let judged =
+    subst (λ (r : Accepted). AcceptedAs (at .table .now) (at .work .now) (c .before .before .before .before .before .before .accept-table .last .1 .0) r) (answer .1)
+    (c .before .before .before .before .before .before .accept-table .ensures) in
+    gives-refusal (at .table .now) (at .work .now) (at .out .now) (answer .0 .0) (c .refused3 .result) fit (judged .number) (judged .kept)
+    (c .refused3 .ensures)
 
 pub rewrite-spec : {M : Type 1} → statement M
 rewrite-spec =

@@ -1,77 +1,106 @@
+-- `walk` meets its contract: one law of CallLaws for each answer. Assumes nothing.
+use mathlib.Core.Path.{_≡_, sym, _∙_, subst}
+use mathlib.Core.Bool.{false, true, and-eq-true-iff}
+use native.Mathlib.Omega.{arith}
+use borrow.Author.Tests.{leb-true, not-true, not-false}
+use lib.Dec.{leb}
+use lib.ListN.{length}
+use Rattle.model.specs.Fields.{allBelow, rowOk}
+use Rattle.tables.specs.Accepting.{AcceptedAs}
+use Rattle.tables.specs.declared.Accepted.{Accepted}
+use Rattle.plans.proofs.CallLaws.{SizesBad, sizes-fit, names-count, row-short, ends-sizes, ends-refusal, ends-row, ends-walked}
 use borrow.Author.Needs.{needs}
 use Rattle.plans.proofs.walking.walk.Statement.{statement}
 use Rattle.plans.proofs.walking.walk.Tie as tie
-use Rattle.plans.proofs.walking.walk.Reads as reads
-use Rattle.plans.proofs.walking.walk.Lts as lts
-use Rattle.fields.proofs.rows.row_ok.Reads as row-ok-reads
-use Rattle.plans.proofs.limits.sizes_bad.Reads as sizes-bad-reads
-use Rattle.plans.proofs.walking.refused.Reads as refused-reads
-use Rattle.plans.proofs.walking.walk_over.Reads as walk-over-reads
-use Rattle.tables.proofs.accept_table.Reads as accept-table-reads
 
--- src/walking.rt:75:8
 sizes-bad-requires : tie.Need-sizes-bad-requires
 sizes-bad-requires c κs = search needs
 
--- src/walking.rt:76:9
 refused-requires : tie.Need-refused-requires
 refused-requires c κs = search needs
 
--- src/walking.rt:76:9
 returns : tie.Need-returns
-returns c = ?
+returns c =
+    let at = c .before .before .before .before .before .before .args in
+    ends-sizes (at .table .now) (at .row .now) (at .work .now) (c .refused .result)
+    (sym (c .before .before .sizes-bad .ensures) ∙ c .before .if1 .taken) (c .refused .ensures)
 
--- src/walking.rt:78:9
 accept-table-requires : tie.Need-accept-table-requires
-accept-table-requires c κs = ?
+accept-table-requires c κs =
+    let at = c .before .before .before .before .before .before .args in
+    let fit = sizes-fit (at .table .now) (at .work .now) (sym (c .before .before .sizes-bad .ensures) ∙ c .before .if1 .left) in
+    (fit .input-fits, fit .work-fits)
 
--- src/walking.rt:80:25
 enum-known-accepted : tie.Need-enum-known-accepted
 enum-known-accepted c = search needs
 
--- src/walking.rt:81:17
 row-ok-requires : tie.Need-row-ok-requires
 row-ok-requires c κs = search needs
 
--- src/walking.rt:82:17
 refused-requires-2 : tie.Need-refused-requires-2
 refused-requires-2 c κs = search needs
 
--- src/walking.rt:82:17
 same-length : tie.Need-same-length
 same-length c = search needs
 
--- src/walking.rt:82:17
 returns-2 : tie.Need-returns-2
-returns-2 c = ?
+returns-2 c =
+    let at = c .before .before .before .before .before .before .before .before .before .before .before .before .before .before .before .args in
+    let fit : SizesBad (at .table .now) (at .work .now) ≡ false = sym (c .before .before .before .before .before .before .before .before .before .before .before .sizes-bad .ensures) ∙ c .before .before .before .before .before .before .before .before .before .before .if1 .left in
+    let answer = c .before .before .before .before .accepted .given in
+    let judged =
+    subst (λ (r : Accepted). AcceptedAs (at .table .now) (at .work .now) (c .before .before .before .before .before .before .before .before .accept-table .last .1 .0) r) (answer .1)
+    (c .before .before .before .before .before .before .before .before .accept-table .ensures) in
+    let tested = c .before .before .row-ok in
+    ends-row (at .table .now) (at .row .now) (at .work .now) (answer .0 .0 .names) (c .refused2 .result) fit (judged .number)
+    (names-count (at .table .now) (answer .0 .0) (judged .kept .read))
+    (sym (tested .ensures) ∙ not-true (tested .result) (c .before .if2 .taken)) (c .refused2 .ensures)
 
--- src/walking.rt:84:13
 walk-over-requires : tie.Need-walk-over-requires
-walk-over-requires c κs = ?
+walk-over-requires c κs =
+    let at = c .before .before .before .before .before .before .before .before .before .before .before .before .before .before .before .args in
+    let answer = c .before .before .before .before .accepted .given in
+    let judged =
+    subst (λ (r : Accepted). AcceptedAs (at .table .now) (at .work .now) (c .before .before .before .before .before .before .before .before .accept-table .last .1 .0) r) (answer .1)
+    (c .before .before .before .before .before .before .before .before .accept-table .ensures) in
+    let tested = c .before .before .row-ok in
+    (judged .kept .ready, row-short (answer .0 .0 .names) (at .row .now) (sym (tested .ensures) ∙ not-false (tested .result) (c .before .if2 .left)))
 
--- src/walking.rt:86:27
 enum-known-accepted-2 : tie.Need-enum-known-accepted-2
 enum-known-accepted-2 c = search needs
 
--- src/walking.rt:86:33
 refused-requires-3 : tie.Need-refused-requires-3
 refused-requires-3 c κs = search needs
 
--- src/walking.rt:72:1
 same-length-2 : tie.Need-same-length-2
 same-length-2 c = search needs
 
--- src/walking.rt:72:1
 returns-3 : tie.Need-returns-3
-returns-3 c = ?
+returns-3 c =
+    let at = c .before .before .before .before .before .before .before .before .before .before .before .before .before .before .before .before .args in
+    let fit : SizesBad (at .table .now) (at .work .now) ≡ false = sym (c .before .before .before .before .before .before .before .before .before .before .before .before .sizes-bad .ensures) ∙ c .before .before .before .before .before .before .before .before .before .before .before .if1 .left in
+    let answer = c .before .before .before .before .before .accepted .given in
+    let judged =
+    subst (λ (r : Accepted). AcceptedAs (at .table .now) (at .work .now) (c .before .before .before .before .before .before .before .before .before .accept-table .last .1 .0) r) (answer .1)
+    (c .before .before .before .before .before .before .before .before .before .accept-table .ensures) in
+    let tested = c .before .before .before .row-ok in
+    ends-walked (at .table .now) (at .row .now) (at .work .now) (answer .0 .0 .names) (c .walk-over .result) fit (judged .number)
+    (names-count (at .table .now) (answer .0 .0) (judged .kept .read))
+    (sym (tested .ensures) ∙ not-false (tested .result) (c .before .before .if2 .left)) (c .walk-over .ensures)
 
--- src/walking.rt:72:1
 same-length-3 : tie.Need-same-length-3
 same-length-3 c = search needs
 
--- src/walking.rt:72:1
 returns-4 : tie.Need-returns-4
-returns-4 c = ?
+returns-4 c =
+    let at = c .before .before .before .before .before .before .before .before .before .before .before .before .before .args in
+    let fit : SizesBad (at .table .now) (at .work .now) ≡ false = sym (c .before .before .before .before .before .before .before .before .before .sizes-bad .ensures) ∙ c .before .before .before .before .before .before .before .before .if1 .left in
+    let answer = c .before .before .accepted2 .given in
+    let judged =
+    subst (λ (r : Accepted). AcceptedAs (at .table .now) (at .work .now) (c .before .before .before .before .before .before .accept-table .last .1 .0) r) (answer .1)
+    (c .before .before .before .before .before .before .accept-table .ensures) in
+    ends-refusal (at .table .now) (at .row .now) (at .work .now) (answer .0 .0) (c .refused3 .result) fit (judged .number) (judged .kept)
+    (c .refused3 .ensures)
 
 pub walk-spec : {M : Type 1} → statement M
 walk-spec =
