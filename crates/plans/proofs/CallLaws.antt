@@ -9,7 +9,7 @@ use native.Mathlib.Omega.{arith}
 use borrow.Author.Tests.{ltb-false, lt-ltb, le-ltb, leb-true, eq-eqb, ne-eqb, eqb-true}
 use lib.Dec.{eqb, ltb, leb}
 use lib.ListN.{length, take, drop, length-take}
-use Rattle.model.specs.Limits.{when, firstOf, bad-sizes, input-limit, work-bytes, row-limit}
+use Rattle.model.specs.Limits.{when, firstOf, input-limit, work-bytes, row-limit, bad-sizes, bad-row, output-too-short}
 use Rattle.model.specs.Fields.{File, allBelow, rowOk}
 use Rattle.model.specs.Tables.{State, longestBeginning, walk, outcome, nextNames, nextCount}
 use Rattle.model.specs.Claims.{AllBytes}
@@ -76,7 +76,7 @@ module _ (table work out : List ℕ) where
   rewrite-refused h = first-refuses (tableFault table work) (outputFault (rewritten table) out) h
 
   rewrite-accepted :
-      AllBytes table → tableFault table work ≡ 0 → rewriteFault table work out ≡ when (ltb (length out) (length table)) 13
+      AllBytes table → tableFault table work ≡ 0 → rewriteFault table work out ≡ when (ltb (length out) (length table)) output-too-short
   unfolding rewriteFault outputFault
   rewrite-accepted bytes e = rw (e, rewrites-same table work bytes e)
 
@@ -106,12 +106,13 @@ module _ (table work out : List ℕ) where
       no-table number r none some (rewrite-refused (omega arith) ∙ e)
 
   pub gives-short :
-      (r : Built) → SizesBad table work ≡ false → 0 ≡ readFault table → AllBytes table → length out < length table → NoTable 13 r →
-      RewriteGives table work out out r
+      (r : Built) → SizesBad table work ≡ false → 0 ≡ readFault table → AllBytes table → length out < length table →
+      NoTable output-too-short r → RewriteGives table work out out r
   gives-short r fit is bytes short none =
       let e = rewrite-accepted bytes (table-read table work fit ∙ sym is) in
-      let f : rewriteFault table work out ≡ 13 = e ∙ ap (λ (b : Bool). when b 13) (lt-ltb (length out) (length table) short) in
-      no-table 13 r none (omega arith) f
+      let f : rewriteFault table work out ≡ output-too-short =
+      e ∙ ap (λ (b : Bool). when b output-too-short) (lt-ltb (length out) (length table) short) in
+      no-table output-too-short r none (omega arith) f
 
   -- an accepted table copied
   pub gives-copy :
@@ -122,7 +123,7 @@ module _ (table work out : List ℕ) where
       let accepted : tableFault table work ≡ 0 = table-read table work fit ∙ sym is in
       let same = rewrites-same table work bytes accepted in
       let e = rewrite-accepted bytes accepted in
-      let f : rewriteFault table work out ≡ 0 = e ∙ ap (λ (b : Bool). when b 13) (le-ltb (length out) (length table) room) in
+      let f : rewriteFault table work out ≡ 0 = e ∙ ap (λ (b : Bool). when b output-too-short) (le-ltb (length out) (length table) room) in
       let whole : length (rewritten table) ≡ length table = ap length same in
       let copied : out′ ≡ over table out =
       written .becomes ∙ ap (λ (n : ℕ). table ++ drop n out) (zero-add (length table)) in
@@ -152,11 +153,11 @@ module _ (table row work : List ℕ) where
   walk-refused : 0 < tableFault table work → walkFault table row work ≡ tableFault table work
   unfolding walkFault
   walk-refused h =
-      first-refuses (tableFault table work) (when (not (rowOk (length (tableOf table .names)) row)) 9) h
+      first-refuses (tableFault table work) (when (not (rowOk (length (tableOf table .names)) row)) bad-row) h
 
   walk-accepted :
       tableFault table work ≡ 0 →
-      walkFault table row work ≡ when (not (rowOk (length (tableOf table .names)) row)) 9
+      walkFault table row work ≡ when (not (rowOk (length (tableOf table .names)) row)) bad-row
   unfolding walkFault
   walk-accepted e = rw e
 
@@ -193,12 +194,12 @@ module _ (table row work : List ℕ) where
 
   pub ends-row :
       (names : ℕ) (r : Ended) → SizesBad table work ≡ false → 0 ≡ readFault table → length (tableOf table .names) ≡ names →
-      rowOk names row ≡ false → NoWalk 9 r → EndsAs table row work r
+      rowOk names row ≡ false → NoWalk bad-row r → EndsAs table row work r
   ends-row names r fit is count bad none =
       let e = walk-accepted (table-read table work fit ∙ sym is) in
-      let f : walkFault table row work ≡ 9 =
-      e ∙ ap (λ (n : ℕ). when (not (rowOk n row)) 9) count ∙ ap (λ (b : Bool). when (not b) 9) bad in
-      no-walk 9 r none (omega arith) f
+      let f : walkFault table row work ≡ bad-row =
+      e ∙ ap (λ (n : ℕ). when (not (rowOk n row)) bad-row) count ∙ ap (λ (b : Bool). when (not b) bad-row) bad in
+      no-walk bad-row r none (omega arith) f
 
   -- an accepted table and row
   pub ends-walked :
@@ -209,7 +210,7 @@ module _ (table row work : List ℕ) where
       let fault = walkFault table row work in
       let states = tableStates table in
       let f : walkFault table row work ≡ 0 =
-      e ∙ ap (λ (n : ℕ). when (not (rowOk n row)) 9) count ∙ ap (λ (b : Bool). when (not b) 9) good in
+      e ∙ ap (λ (n : ℕ). when (not (rowOk n row)) bad-row) count ∙ ap (λ (b : Bool). when (not b) bad-row) good in
       record {
         gives =
             record {
@@ -227,7 +228,9 @@ module _ (table row work : List ℕ) where
   unfolding longestBeginning
   part-walked r ends = ap (λ (n : ℕ). take n row) (ends .taken-is) ∙ go (eqb (walkFault table row work) 0)
     where
-      go : (b : Bool) → take (cond b (walk (tableStates table) row .taken) 0) row ≡ cond b (take (walk (tableStates table) row .taken) row) []
+      go :
+          (b : Bool) →
+          take (cond b (walk (tableStates table) row .taken) 0) row ≡ cond b (take (walk (tableStates table) row .taken) row) []
       go true = refl
       go false = refl
 
@@ -235,8 +238,8 @@ module _ (table row work : List ℕ) where
   unfolding walkFault
   row-judged true ok e = row-short (length (tableOf table .names)) row ok
   row-judged false ok e =
-      let last = first-of (tableFault table work) (when (not (rowOk (length (tableOf table .names)) row)) 9) e .1 in
-      let nine : _≡_ {A = ℕ} 9 0 = ap (λ (b : Bool). when (not b) 9) (sym ok) ∙ last in
+      let last = first-of (tableFault table work) (when (not (rowOk (length (tableOf table .names)) row)) bad-row) e .1 in
+      let nine : _≡_ {A = ℕ} bad-row 0 = ap (λ (b : Bool). when (not b) bad-row) (sym ok) ∙ last in
       let z : ⊥ = omega arith in
       absurd z
 

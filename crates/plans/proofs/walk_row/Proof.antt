@@ -1,4 +1,5 @@
--- `walk_row` meets its contract: what `walk` gives, the part of the row that was walked, and the zeros that `clear` leaves. Assumes nothing.
+-- `walk_row` meets its contract: what `walk` gives, the part of the row that was walked, and the zeros that `clear` leaves. Assumes
+-- nothing.
 use mathlib.Core.Path.{_≡_, sym, ap, _∙_}
 use Prim.Native.Nat.{ℕ}
 use native.Mathlib.Omega.{arith}

@@ -4,6 +4,7 @@ use mathlib.Core.Bool.{false}
 use Prim.Native.Nat.{ℕ, _<_}
 use native.Mathlib.Omega.{arith}
 use lib.ListN.{length}
+use Rattle.model.specs.Claims.{AllBytes}
 use Rattle.tables.specs.Accepting.{AcceptedAs}
 use Rattle.tables.specs.declared.Accepted.{Accepted}
 use Rattle.plans.proofs.CallLaws.{SizesBad, sizes-fit, gives-sizes, gives-refusal, gives-short, gives-copy}
@@ -40,30 +41,42 @@ same-length c = search needs
 
 returns-2 : tie.Need-returns-2
 returns-2 c =
-    let at = c .before .before .before .before .before .before .before .before .before .before .before .before .before .before .args in
-    let fit : SizesBad (at .table .now) (at .work .now) ≡ false = sym (c .before .before .before .before .before .before .before .before .before .before .sizes-bad .ensures) ∙ c .before .before .before .before .before .before .before .before .before .if1 .left in
-    let answer = c .before .before .before .accepted .given in
+    let answered = c .before .before .before in
+    let called = answered .before .before .before .before in
+    let passed = called .before .before in
+    let at = passed .before .before .before .before .before .args in
+    let fit : SizesBad (at .table .now) (at .work .now) ≡ false = sym (passed .before .sizes-bad .ensures) ∙ passed .if1 .left in
+    let answer = answered .accepted .given in
     let judged =
-    subst (λ (r : Accepted). AcceptedAs (at .table .now) (at .work .now) (c .before .before .before .before .before .before .before .accept-table .last .1 .0) r) (answer .1)
-    (c .before .before .before .before .before .before .before .accept-table .ensures) in
-    gives-short (at .table .now) (at .work .now) (at .out .now) (c .refused2 .result) fit (judged .number)
-    (λ (i : ℕ) (h : i < length (at .table .now)). omega (arith, c .before .before .before .before .before .before .before .before .before .before .before .before .before .shared-slice-known .given i)) (omega arith) (c .refused2 .ensures)
+    subst (λ (r : Accepted). AcceptedAs (at .table .now) (at .work .now) (called .accept-table .last .1 .0) r) (answer .1)
+    (called .accept-table .ensures) in
+    let known = passed .before .before .before .before .shared-slice-known .given in
+    let bytes : AllBytes (at .table .now) = λ (i : ℕ) (h : i < length (at .table .now)). omega (arith, known i) in
+    gives-short (at .table .now) (at .work .now) (at .out .now) (c .refused2 .result) fit (judged .number) bytes (omega arith)
+    (c .refused2 .ensures)
 
 copy-in-requires : tie.Need-copy-in-requires
 copy-in-requires c κs = search needs
 
 cast-t18 : tie.Need-cast-t18
 cast-t18 c =
-    let at = c .before .before .before .before .before .before .before .before .before .before .before .before .before .before .before .before .before .args in
-    omega (arith, sizes-fit (at .table .now) (at .work .now) (sym (c .before .before .before .before .before .before .before .before .before .before .before .before .before .sizes-bad .ensures) ∙ c .before .before .before .before .before .before .before .before .before .before .before .before .if1 .left) .input-fits)
+    let answered = c .before .before .before .before .before .before in
+    let called = answered .before .before .before .before in
+    let passed = called .before .before in
+    let at = passed .before .before .before .before .before .args in
+    let fit : SizesBad (at .table .now) (at .work .now) ≡ false = sym (passed .before .sizes-bad .ensures) ∙ passed .if1 .left in
+    omega (arith, sizes-fit (at .table .now) (at .work .now) fit .input-fits)
 
 cast-t19 : tie.Need-cast-t19
 cast-t19 c =
-    let at = c .before .before .before .before .before .before .before .before .before .before .before .before .before .before .before .before .before .before .args in
-    let answer = c .before .before .before .before .before .before .before .accepted .given in
+    let answered = c .before .before .before .before .before .before .before in
+    let called = answered .before .before .before .before in
+    let passed = called .before .before in
+    let at = passed .before .before .before .before .before .args in
+    let answer = answered .accepted .given in
     let judged =
-    subst (λ (r : Accepted). AcceptedAs (at .table .now) (at .work .now) (c .before .before .before .before .before .before .before .before .before .before .before .accept-table .last .1 .0) r) (answer .1)
-    (c .before .before .before .before .before .before .before .before .before .before .before .accept-table .ensures) in
+    subst (λ (r : Accepted). AcceptedAs (at .table .now) (at .work .now) (called .accept-table .last .1 .0) r) (answer .1)
+    (called .accept-table .ensures) in
     omega (arith, judged .kept .items-are, judged .kept .ready .few-states)
 
 enum-known-accepted-2 : tie.Need-enum-known-accepted-2
@@ -80,29 +93,37 @@ same-length-3 c = search needs
 
 returns-3 : tie.Need-returns-3
 returns-3 c =
-    let at = c .before .before .before .before .before .before .before .before .before .before .before .before .before .before .before .before .before .before .args in
-    let fit : SizesBad (at .table .now) (at .work .now) ≡ false = sym (c .before .before .before .before .before .before .before .before .before .before .before .before .before .before .sizes-bad .ensures) ∙ c .before .before .before .before .before .before .before .before .before .before .before .before .before .if1 .left in
-    let answer = c .before .before .before .before .before .before .before .accepted .given in
+    let answered = c .before .before .before .before .before .before .before in
+    let called = answered .before .before .before .before in
+    let passed = called .before .before in
+    let at = passed .before .before .before .before .before .args in
+    let fit : SizesBad (at .table .now) (at .work .now) ≡ false = sym (passed .before .sizes-bad .ensures) ∙ passed .if1 .left in
+    let answer = answered .accepted .given in
     let judged =
-    subst (λ (r : Accepted). AcceptedAs (at .table .now) (at .work .now) (c .before .before .before .before .before .before .before .before .before .before .before .accept-table .last .1 .0) r) (answer .1)
-    (c .before .before .before .before .before .before .before .before .before .before .before .accept-table .ensures) in
-    gives-copy (at .table .now) (at .work .now) (at .out .now) (c .before .before .before .copy-in .last .0) _ fit (judged .number)
-    (λ (i : ℕ) (h : i < length (at .table .now)). omega (arith, c .before .before .before .before .before .before .before .before .before .before .before .before .before .before .before .before .before .shared-slice-known .given i)) (omega arith)
-    (c .before .before .before .copy-in .ensures .written) refl refl (judged .kept .items-are) refl
+    subst (λ (r : Accepted). AcceptedAs (at .table .now) (at .work .now) (called .accept-table .last .1 .0) r) (answer .1)
+    (called .accept-table .ensures) in
+    let known = passed .before .before .before .before .shared-slice-known .given in
+    let bytes : AllBytes (at .table .now) = λ (i : ℕ) (h : i < length (at .table .now)). omega (arith, known i) in
+    let copied = c .before .before .before .copy-in in
+    gives-copy (at .table .now) (at .work .now) (at .out .now) (copied .last .0) _ fit (judged .number) bytes (omega arith)
+    (copied .ensures .written) refl refl (judged .kept .items-are) refl
 
 same-length-4 : tie.Need-same-length-4
 same-length-4 c = search needs
 
 returns-4 : tie.Need-returns-4
 returns-4 c =
-    let at = c .before .before .before .before .before .before .before .before .before .before .before .before .before .args in
-    let fit : SizesBad (at .table .now) (at .work .now) ≡ false = sym (c .before .before .before .before .before .before .before .before .before .sizes-bad .ensures) ∙ c .before .before .before .before .before .before .before .before .if1 .left in
-    let answer = c .before .before .accepted2 .given in
+    let answered = c .before .before in
+    let called = answered .before .before .before .before in
+    let passed = called .before .before in
+    let at = passed .before .before .before .before .before .args in
+    let fit : SizesBad (at .table .now) (at .work .now) ≡ false = sym (passed .before .sizes-bad .ensures) ∙ passed .if1 .left in
+    let answer = answered .accepted2 .given in
     let judged =
-    subst (λ (r : Accepted). AcceptedAs (at .table .now) (at .work .now) (c .before .before .before .before .before .before .accept-table .last .1 .0) r) (answer .1)
-    (c .before .before .before .before .before .before .accept-table .ensures) in
-    gives-refusal (at .table .now) (at .work .now) (at .out .now) (answer .0 .0) (c .refused3 .result) fit (judged .number) (judged .kept)
-    (c .refused3 .ensures)
+    subst (λ (r : Accepted). AcceptedAs (at .table .now) (at .work .now) (called .accept-table .last .1 .0) r) (answer .1)
+    (called .accept-table .ensures) in
+    gives-refusal (at .table .now) (at .work .now) (at .out .now) (answer .0 .0) (c .refused3 .result) fit (judged .number)
+    (judged .kept) (c .refused3 .ensures)
 
 pub rewrite-spec : {M : Type 1} → statement M
 rewrite-spec =

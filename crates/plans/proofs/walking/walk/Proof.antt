@@ -1,11 +1,7 @@
 -- `walk` meets its contract: one law of CallLaws for each answer. Assumes nothing.
 use mathlib.Core.Path.{_≡_, sym, _∙_, subst}
-use mathlib.Core.Bool.{false, true, and-eq-true-iff}
-use native.Mathlib.Omega.{arith}
-use borrow.Author.Tests.{leb-true, not-true, not-false}
-use lib.Dec.{leb}
-use lib.ListN.{length}
-use Rattle.model.specs.Fields.{allBelow, rowOk}
+use mathlib.Core.Bool.{false}
+use borrow.Author.Tests.{not-true, not-false}
 use Rattle.tables.specs.Accepting.{AcceptedAs}
 use Rattle.tables.specs.declared.Accepted.{Accepted}
 use Rattle.plans.proofs.CallLaws.{SizesBad, sizes-fit, names-count, row-short, ends-sizes, ends-refusal, ends-row, ends-walked}
@@ -45,12 +41,15 @@ same-length c = search needs
 
 returns-2 : tie.Need-returns-2
 returns-2 c =
-    let at = c .before .before .before .before .before .before .before .before .before .before .before .before .before .before .before .args in
-    let fit : SizesBad (at .table .now) (at .work .now) ≡ false = sym (c .before .before .before .before .before .before .before .before .before .before .before .sizes-bad .ensures) ∙ c .before .before .before .before .before .before .before .before .before .before .if1 .left in
-    let answer = c .before .before .before .before .accepted .given in
+    let answered = c .before .before .before .before in
+    let called = answered .before .before .before .before in
+    let passed = called .before .before in
+    let at = passed .before .before .before .before .before .args in
+    let fit : SizesBad (at .table .now) (at .work .now) ≡ false = sym (passed .before .sizes-bad .ensures) ∙ passed .if1 .left in
+    let answer = answered .accepted .given in
     let judged =
-    subst (λ (r : Accepted). AcceptedAs (at .table .now) (at .work .now) (c .before .before .before .before .before .before .before .before .accept-table .last .1 .0) r) (answer .1)
-    (c .before .before .before .before .before .before .before .before .accept-table .ensures) in
+    subst (λ (r : Accepted). AcceptedAs (at .table .now) (at .work .now) (called .accept-table .last .1 .0) r) (answer .1)
+    (called .accept-table .ensures) in
     let tested = c .before .before .row-ok in
     ends-row (at .table .now) (at .row .now) (at .work .now) (answer .0 .0 .names) (c .refused2 .result) fit (judged .number)
     (names-count (at .table .now) (answer .0 .0) (judged .kept .read))
@@ -58,13 +57,17 @@ returns-2 c =
 
 walk-over-requires : tie.Need-walk-over-requires
 walk-over-requires c κs =
-    let at = c .before .before .before .before .before .before .before .before .before .before .before .before .before .before .before .args in
-    let answer = c .before .before .before .before .accepted .given in
+    let answered = c .before .before .before .before in
+    let called = answered .before .before .before .before in
+    let passed = called .before .before in
+    let at = passed .before .before .before .before .before .args in
+    let answer = answered .accepted .given in
     let judged =
-    subst (λ (r : Accepted). AcceptedAs (at .table .now) (at .work .now) (c .before .before .before .before .before .before .before .before .accept-table .last .1 .0) r) (answer .1)
-    (c .before .before .before .before .before .before .before .before .accept-table .ensures) in
+    subst (λ (r : Accepted). AcceptedAs (at .table .now) (at .work .now) (called .accept-table .last .1 .0) r) (answer .1)
+    (called .accept-table .ensures) in
     let tested = c .before .before .row-ok in
-    (judged .kept .ready, row-short (answer .0 .0 .names) (at .row .now) (sym (tested .ensures) ∙ not-false (tested .result) (c .before .if2 .left)))
+    let row-is-ok = sym (tested .ensures) ∙ not-false (tested .result) (c .before .if2 .left) in
+    (judged .kept .ready, row-short (answer .0 .0 .names) (at .row .now) row-is-ok)
 
 enum-known-accepted-2 : tie.Need-enum-known-accepted-2
 enum-known-accepted-2 c = search needs
@@ -77,12 +80,15 @@ same-length-2 c = search needs
 
 returns-3 : tie.Need-returns-3
 returns-3 c =
-    let at = c .before .before .before .before .before .before .before .before .before .before .before .before .before .before .before .before .args in
-    let fit : SizesBad (at .table .now) (at .work .now) ≡ false = sym (c .before .before .before .before .before .before .before .before .before .before .before .before .sizes-bad .ensures) ∙ c .before .before .before .before .before .before .before .before .before .before .before .if1 .left in
-    let answer = c .before .before .before .before .before .accepted .given in
+    let answered = c .before .before .before .before .before in
+    let called = answered .before .before .before .before in
+    let passed = called .before .before in
+    let at = passed .before .before .before .before .before .args in
+    let fit : SizesBad (at .table .now) (at .work .now) ≡ false = sym (passed .before .sizes-bad .ensures) ∙ passed .if1 .left in
+    let answer = answered .accepted .given in
     let judged =
-    subst (λ (r : Accepted). AcceptedAs (at .table .now) (at .work .now) (c .before .before .before .before .before .before .before .before .before .accept-table .last .1 .0) r) (answer .1)
-    (c .before .before .before .before .before .before .before .before .before .accept-table .ensures) in
+    subst (λ (r : Accepted). AcceptedAs (at .table .now) (at .work .now) (called .accept-table .last .1 .0) r) (answer .1)
+    (called .accept-table .ensures) in
     let tested = c .before .before .before .row-ok in
     ends-walked (at .table .now) (at .row .now) (at .work .now) (answer .0 .0 .names) (c .walk-over .result) fit (judged .number)
     (names-count (at .table .now) (answer .0 .0) (judged .kept .read))
@@ -93,14 +99,17 @@ same-length-3 c = search needs
 
 returns-4 : tie.Need-returns-4
 returns-4 c =
-    let at = c .before .before .before .before .before .before .before .before .before .before .before .before .before .args in
-    let fit : SizesBad (at .table .now) (at .work .now) ≡ false = sym (c .before .before .before .before .before .before .before .before .before .sizes-bad .ensures) ∙ c .before .before .before .before .before .before .before .before .if1 .left in
-    let answer = c .before .before .accepted2 .given in
+    let answered = c .before .before in
+    let called = answered .before .before .before .before in
+    let passed = called .before .before in
+    let at = passed .before .before .before .before .before .args in
+    let fit : SizesBad (at .table .now) (at .work .now) ≡ false = sym (passed .before .sizes-bad .ensures) ∙ passed .if1 .left in
+    let answer = answered .accepted2 .given in
     let judged =
-    subst (λ (r : Accepted). AcceptedAs (at .table .now) (at .work .now) (c .before .before .before .before .before .before .accept-table .last .1 .0) r) (answer .1)
-    (c .before .before .before .before .before .before .accept-table .ensures) in
-    ends-refusal (at .table .now) (at .row .now) (at .work .now) (answer .0 .0) (c .refused3 .result) fit (judged .number) (judged .kept)
-    (c .refused3 .ensures)
+    subst (λ (r : Accepted). AcceptedAs (at .table .now) (at .work .now) (called .accept-table .last .1 .0) r) (answer .1)
+    (called .accept-table .ensures) in
+    ends-refusal (at .table .now) (at .row .now) (at .work .now) (answer .0 .0) (c .refused3 .result) fit (judged .number)
+    (judged .kept) (c .refused3 .ensures)
 
 pub walk-spec : {M : Type 1} → statement M
 walk-spec =

@@ -17,16 +17,16 @@ next-names-requires c κs =
     let start = c .before .before .before .before .before in
     let walked = c .before .walk-all in
     let found = c .cell in
-    field-reached (start .args .table .now) (start .args .work .now) (start .args .row .now) (walked .result) (start .pre .0) (walked .ensures)
-    (found .result) (found .ensures .value)
+    field-reached (start .args .table .now) (start .args .work .now) (start .args .row .now) (walked .result) (start .pre .0)
+    (walked .ensures) (found .result) (found .ensures .value)
 
 accepts-requires : tie.Need-accepts-requires
 accepts-requires c κs =
     let start = c .before .before .before .before .before .before in
     let walked = c .before .before .walk-all in
     let found = c .before .cell in
-    field-reached (start .args .table .now) (start .args .work .now) (start .args .row .now) (walked .result) (start .pre .0) (walked .ensures)
-    (found .result) (found .ensures .value)
+    field-reached (start .args .table .now) (start .args .work .now) (start .args .row .now) (walked .result) (start .pre .0)
+    (walked .ensures) (found .result) (found .ensures .value)
 
 outcome-of-requires : tie.Need-outcome-of-requires
 outcome-of-requires c κs = search needs
@@ -50,8 +50,8 @@ returns c =
     let found = c .before .before .before .cell in
     let next = c .before .before .next-names in
     let accepting = c .before .accepts in
-    ends-over (start .args .table .now) (start .args .work .now) (start .args .row .now) (walked .result) (start .pre .0) (walked .ensures)
-    (found .result) (next .result) (c .outcome-of .result) _ (accepting .result) _ (found .ensures .value) (next .ensures) (accepting .ensures)
+    ends-over (start .args .table .now) (start .args .work .now) (start .args .row .now) (walked .result) (start .pre .0)
+    (walked .ensures) (found .result) (next .result) (c .outcome-of .result) _ (accepting .result) _ (found .ensures .value) (next .ensures) (accepting .ensures)
     (c .outcome-of .ensures) refl refl refl refl refl refl
 
 pub walk-over-spec : {M : Type 1} → statement M
