@@ -1,12 +1,14 @@
 # Targets: see `make help`. The toolchain is the Rattle kit; its command is rt.
 .DEFAULT_GOAL := help
-.PHONY: help run test check fmt
+.PHONY: help run test check lib example fmt
 
 help:
-	@echo "make run    what is proved so far, in one line"
-	@echo "make test   the whole gate, from nothing; its last line is 'N passed, 0 failed'"
-	@echo "make check  prove what changed since the last check"
-	@echo "make fmt    put every .rt and .antt file into the layout"
+	@echo "make run      what is proved so far, in one line"
+	@echo "make test     the whole gate, from nothing; its last line is 'N passed, 0 failed'"
+	@echo "make check    prove what changed since the last check"
+	@echo "make lib      target/staticlib/libplans.a, for C; its header is include/plans.h"
+	@echo "make example  build examples/walk.c over it with gcc, run it, and compare what it prints"
+	@echo "make fmt      put every .rt and .antt file into the layout"
 
 # Every target that needs the kit asks for it here, so that a newcomer reads what is missing.
 .PHONY: kit
@@ -21,6 +23,12 @@ test: kit
 
 check: kit
 	@rt check
+
+lib: kit
+	@rt staticlib plans
+
+example: lib
+	@scripts/example
 
 fmt: kit
 	@rt fmt

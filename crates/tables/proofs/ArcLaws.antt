@@ -1,7 +1,7 @@
 -- A state's arcs by their offsets in its field: the arcs from an offset on, and what is known there of the test that the field
 -- passed; then that its arcs ascend, and the search for a name among them. Assumes nothing.
 use mathlib.Core.Path.{_≡_, refl, sym, ap, _∙_, subst}
-use mathlib.Core.Bool.{Bool, true, false, _&&_, false≢true}
+use mathlib.Core.Bool.{Bool, true, false, _&&_, false≢true, and-eq-true-iff}
 use mathlib.Core.List.{List, [], _∷_}
 use Prim.Native.Nat.{ℕ, zero, suc, _+_, _*_, _-_, _≤_, _<_}
 use native.Mathlib.Omega.{arith}
@@ -12,7 +12,6 @@ use lib.Seq.{drop-cons, drop-drop, getD-drop}
 use Rattle.model.specs.Fields.{arcsOk, stateOk}
 use Rattle.model.specs.Tables.{Arc, arc, arcsIn, stateIn, targetIn}
 use Rattle.model.proofs.Arcs.{Ascending}
-use Rattle.model.proofs.FieldLaws.{both}
 use Rattle.fields.proofs.StateLaws.{ArcsLeft, arcs-begin, arcs-cut, arcs-unnamed, arcs-unordered, arcs-go, state-empty, state-first}
 use Rattle.tables.specs.Arcs.{StateOk, targetAt}
 
@@ -86,7 +85,7 @@ left-begins s ok =
   where
     first : (s : List ℕ) → StateOk s → getD s 0 0 < 2
     first [] ok = omega arith
-    first (b ∷ s) ok = unfold stateOk in let p = both (leb b 1) (arcsOk (length s) 64 0 s) ok in omega (arith, leb-true b 1 (p .0))
+    first (b ∷ s) ok = unfold stateOk in let p = and-eq-true-iff (leb b 1) (arcsOk (length s) 64 0 s) .0 ok in omega (arith, leb-true b 1 (p .0))
 
 pub arc-here : (s : List ℕ) (next i : ℕ) → StateOk s → i < length s → Left s next i → ArcHere s next i
 arc-here s next i ok h left =
@@ -110,9 +109,9 @@ unfolding arcsOk arcsIn
 arcs-ascend zero n next t ok = (tt, tt)
 arcs-ascend (suc f) n next [] ok = (tt, tt)
 arcs-ascend (suc f) n next (a ∷ t) ok =
-    let p = both (leb 2 (length t)) ((ltb a n && leb next a) && arcsOk f n (suc a) (drop 2 t)) ok in
-    let q = both (ltb a n && leb next a) (arcsOk f n (suc a) (drop 2 t)) (p .1) in
-    let r = both (ltb a n) (leb next a) (q .0) in
+    let p = and-eq-true-iff (leb 2 (length t)) ((ltb a n && leb next a) && arcsOk f n (suc a) (drop 2 t)) .0 ok in
+    let q = and-eq-true-iff (ltb a n && leb next a) (arcsOk f n (suc a) (drop 2 t)) .0 (p .1) in
+    let r = and-eq-true-iff (ltb a n) (leb next a) .0 (q .0) in
     let more = arcs-ascend f n (suc a) (drop 2 t) (q .1) in
     ((leb-true next a (r .1), more .0), (ltb-true a n (r .0), more .1))
 
@@ -120,7 +119,7 @@ arcs-ascend (suc f) n next (a ∷ t) ok =
 pub state-ascends : (s : List ℕ) → StateOk s → Ascending 0 (stateIn s .arcs) × NamesBelow 64 (stateIn s .arcs)
 unfolding stateOk stateIn
 state-ascends [] ok = (tt, tt)
-state-ascends (b ∷ s) ok = arcs-ascend (length s) 64 0 s (both (leb b 1) (arcsOk (length s) 64 0 s) ok .1)
+state-ascends (b ∷ s) ok = arcs-ascend (length s) 64 0 s (and-eq-true-iff (leb b 1) (arcsOk (length s) 64 0 s) .0 ok .1)
 
 pub left-ascends : (s : List ℕ) (next i : ℕ) → StateOk s → Left s next i → Ascending next (arcsFrom s i)
 unfolding arcsFrom

@@ -2,7 +2,7 @@
 -- from its begin over its turns to its answers. Assumes nothing.
 use mathlib.Core.Path.{_≡_, refl, sym, ap, _∙_, subst}
 use mathlib.Core.Logic.{⊎-elim}
-use mathlib.Core.Bool.{Bool, true, false, not, _&&_, true≢false, false≢true}
+use mathlib.Core.Bool.{Bool, true, false, not, _&&_, true≢false, false≢true, and-eq-true-iff}
 use mathlib.Core.List.{List, [], _∷_, _++_, map, List·Memᴰ as In, List·Memᴰ·head as here, List·Memᴰ·tail as there}
 use mathlib.Core.List.{List·Memᴰ·not-nil, List·Memᴰ·append-cases, List·Memᴰ·eq-of-singleton}
 use Prim.Native.Nat.{ℕ, zero, suc, _+_, _-_, _*_, _≤_, _<_}
@@ -15,7 +15,7 @@ use Rattle.model.specs.Limits.{when, firstOf, state-limit, input-limit, work-by
 use Rattle.model.specs.Fields.{File, Read, unread, default-class, table, withField, arcsOk, stateOk, readFields, readWith}
 use Rattle.model.specs.Tables.{State, no-state, stateIn, statesIn, metByArcs, metByStates, isFirstMet}
 use Rattle.model.specs.Calls.{tableOf, tableStates}
-use Rattle.model.proofs.FieldLaws.{Fitting, a-name, a-class, a-row, a-state, fitting, both}
+use Rattle.model.proofs.FieldLaws.{Fitting, a-name, a-class, a-row, a-state, fitting}
 use Rattle.model.proofs.Turns.{read-keeps}
 use Rattle.fields.specs.Offsets.{bodyAt, nextAt, offsetAt, fieldsAt}
 use Rattle.fields.specs.Places.{fileOf, Sound, ReadAs}
@@ -37,9 +37,9 @@ unfolding arcsOk
 arcs-more zero n m next t h ok = refl
 arcs-more (suc f) n m next [] h ok = refl
 arcs-more (suc f) n m next (a ∷ t) h ok =
-    let p = both (leb 2 (length t)) ((ltb a n && leb next a) && arcsOk f n (suc a) (drop 2 t)) ok in
-    let q = both (ltb a n && leb next a) (arcsOk f n (suc a) (drop 2 t)) (p .1) in
-    let r = both (ltb a n) (leb next a) (q .0) in
+    let p = and-eq-true-iff (leb 2 (length t)) ((ltb a n && leb next a) && arcsOk f n (suc a) (drop 2 t)) .0 ok in
+    let q = and-eq-true-iff (ltb a n && leb next a) (arcsOk f n (suc a) (drop 2 t)) .0 (p .1) in
+    let r = and-eq-true-iff (ltb a n) (leb next a) .0 (q .0) in
     let low : a < m = omega (arith, ltb-true a n (r .0)) in
     rw (p .0, lt-ltb a m low, r .1, arcs-more f n m (suc a) (drop 2 t) h (q .1))
 
@@ -48,7 +48,7 @@ state-more : (n m : ℕ) (s : List ℕ) → n ≤ m → stateOk n s ≡ true →
 unfolding stateOk
 state-more n m [] h ok = ok
 state-more n m (b ∷ s) h ok =
-    let p = both (leb b 1) (arcsOk (length s) n 0 s) ok in
+    let p = and-eq-true-iff (leb b 1) (arcsOk (length s) n 0 s) .0 ok in
     rw (p .0, arcs-more (length s) n m 0 s h (p .1))
 
 -- a table as read so far
@@ -259,7 +259,7 @@ unfolding tableOf
 table-read s p r =
     record {
       no-refusal = sym (ap (λ (a : Read). a .number) (r .is));
-      sound = r .kept;
+      sound = r .kept .sound;
       file-is = ap (λ (a : Read). a .file-is) (r .is);
     }
 

@@ -1,0 +1,4 @@
+-- Laws of the public entries' results: which refusal a call comes to, and what it gives back (CallLaws); how a walk over an
+-- accepted table ends (EndLaws). Assumes nothing.
+pub mod CallLaws
+pub mod EndLaws

@@ -1,0 +1,73 @@
+-- What the public entries say (document 01, "What is given back" and "Walking a row"): the result, and every lent byte, are
+-- equal to what a definition of `model` gives. Assumes nothing.
+use mathlib.Core.Path.{_≡_}
+use mathlib.Core.Bool.{Bool, true, false, cond}
+use mathlib.Core.List.{List, [], _∷_, _++_}
+use Prim.Native.Nat.{ℕ, zero, suc}
+use lib.Dec.{eqb}
+use lib.ListN.{length, drop, replicate}
+use Rattle.model.specs.Tables.{outcome, longestBeginning, nextNames, nextCount}
+use Rattle.model.specs.Calls.{rewriteFault, rewritten, walkFault, tableStates}
+use Rattle.plans.specs.declared.Built.{Built}
+use Rattle.plans.specs.declared.Walked.{Walked}
+
+-- the bytes at the front of the output, which is untouched beyond them
+abbrev pub over : List ℕ → List ℕ → List ℕ
+over bytes out = bytes ++ drop (length bytes) out
+
+-- every byte of the lent working area is zero
+abbrev pub zeroed : List ℕ → List ℕ
+zeroed work = replicate (length work) 0
+
+-- a value where nothing is refused, and otherwise what stands for none
+abbrev pub unless : {A : Type 0} → ℕ → A → A → A
+unless fault none value = cond (eqb fault 0) value none
+
+-- ---- calls that write a table
+
+-- what is given back: the refusal, and where there is none the table's bytes in the output, their number, the states and the joins
+pub record Gives (fault : ℕ) (bytes : List ℕ) (states joins : ℕ) (out out′ : List ℕ) (r : Built) : Type 0 where
+  pub number-is : r .number ≡ fault
+  pub length-is : r .length ≡ unless fault 0 (length bytes)
+  pub states-are : r .states ≡ unless fault 0 states
+  pub joins-are : r .joins ≡ unless fault 0 joins
+  pub output-is : out′ ≡ unless fault out (over bytes out)
+
+-- the same with the working area before and after
+pub record Wrote (fault : ℕ) (bytes : List ℕ) (states joins : ℕ) (work work′ out out′ : List ℕ) (r : Built) : Type 0 where
+  pub gives : Gives fault bytes states joins out out′ r
+  pub work-zero : work′ ≡ zeroed work
+
+-- a table read and written again: the lent slices before and after, and the result
+abbrev pub RewriteGives : List ℕ → List ℕ → List ℕ → List ℕ → Built → Type 0
+RewriteGives table work out out′ r =
+    Gives (rewriteFault table work out) (rewritten table) (length (tableStates table)) 0 out out′ r
+
+abbrev pub RewriteSays : List ℕ → List ℕ → List ℕ → List ℕ → List ℕ → Built → Type 0
+RewriteSays table work work′ out out′ r =
+    Wrote (rewriteFault table work out) (rewritten table) (length (tableStates table)) 0 work work′ out out′ r
+
+-- ---- a row walked
+
+-- the beginning that can be walked
+abbrev pub walkedPart : List ℕ → List ℕ → List ℕ → List ℕ
+walkedPart table row work = unless (walkFault table row work) [] (longestBeginning (tableStates table) row)
+
+-- the refusal and the walk's outcome, the next names and how many they are
+pub record WalkGives (table row work : List ℕ) (number result names count : ℕ) : Type 0 where
+  pub number-is : number ≡ walkFault table row work
+  pub outcome-is : result ≡ unless (walkFault table row work) 0 (outcome (tableStates table) row)
+  pub names-are : names ≡ unless (walkFault table row work) 0 (nextNames (tableStates table) row)
+  pub count-is : count ≡ unless (walkFault table row work) 0 (nextCount (tableStates table) row)
+
+-- the same with the beginning, and the working area before and after
+pub record WalkSays (table row work work′ beginning : List ℕ) (number result names count : ℕ) : Type 0 where
+  pub gives : WalkGives table row work number result names count
+  pub beginning-is : beginning ≡ walkedPart table row work
+  pub work-zero : work′ ≡ zeroed work
+
+-- the same for C, where the beginning is told by its length
+pub record WalkedSays (table row work work′ : List ℕ) (r : Walked) : Type 0 where
+  pub gives : WalkGives table row work (r .number) (r .outcome) (r .names) (r .count)
+  pub length-is : r .length ≡ length (walkedPart table row work)
+  pub work-zero : work′ ≡ zeroed work

@@ -1,0 +1,22 @@
+// The numbers that document 01 fixes for lent slices, by the names that model/specs/Limits has for them, and their test.
+ghost use mathlib.Core.Path.{_≡_};
+ghost use mathlib.Core.Bool.{_||_};
+ghost use lib.Dec.{ltb};
+ghost use Rattle.model.specs.Limits.{input-limit, work-bytes};
+
+// The longest input, and the shortest working area, in bytes.
+pub const INPUT_LIMIT: usize = 65535;
+
+pub const WORK_BYTES: usize = 65536;
+
+// The refusals of lent slices.
+pub const BAD_SIZES: u8 = 1;
+
+pub const OUTPUT_TOO_SHORT: u8 = 13;
+
+// Whether an input is too long or a working area too short.
+pub fn sizes_bad(input: usize, work: usize) -> bool
+    ensures { λ r. ⌜ r ≡ (ltb input-limit input || ltb work work-bytes) ⌝ }
+{
+    (INPUT_LIMIT < input) | (work < WORK_BYTES)
+}

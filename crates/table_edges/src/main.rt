@@ -1,0 +1,169 @@
+// Document 01's edges for tables and walks, one line each: what was tried, and the number that came back. The file `stdout` has the
+// numbers that document 01 gives.
+use libc::STDOUT_FILENO;
+use writing::copy_in;
+ghost use Prim.Native.Nat.{_≤_};
+
+// A table is put together in a buffer of this size.
+const ROOM: usize = 4096;
+
+// One name, snack; context, k = 1, h = 1; two states; and the four together, which is document 01's example.
+const NAME: [u8; 8] = *b"\x01\x00\x05snack";
+
+const CLASS: [u8; 6] = *b"\x02\x00\x03\x00\x01\x01";
+
+const GOOD: [u8; 28] =
+    *b"\x01\x00\x05snack\x02\x00\x03\x00\x01\x01\x04\x00\x04\x00\x00\x00\x01\x04\x00\x04\x01\x00\x00\x01";
+
+// A state that accepts, without arcs.
+const END: [u8; 4] = *b"\x04\x00\x01\x01";
+
+// Appends a part to what the buffer holds before `at`; a part that does not fit is left out.
+fn put(out: &mut [u8; ROOM], at: usize, part: &[u8]) -> usize
+    requires { ⌜ at ≤ 4096 ⌝ }
+    ensures { λ r. ⌜ r ≤ 4096 ⌝ }
+{
+    if ROOM - at < part.len() {
+        return at;
+    }
+    copy_in(out, at, part)
+}
+
+// Appends the names a00, a01 and so on, so many.
+fn put_names(out: &mut [u8; ROOM], count: u8) -> usize
+    ensures { λ r. ⌜ r ≤ 4096 ⌝ }
+{
+    let mut at = 0;
+    let mut i: u8 = 0;
+    while i < count {
+        let name = [1, 0, 3, b'a', b'0' + i / 10, b'0' + i % 10];
+        at = put(out, at, &name);
+        i += 1;
+    }
+    at
+}
+
+// Appends so many states without arcs.
+fn put_states(out: &mut [u8; ROOM], from: usize, count: usize) -> usize
+    requires { ⌜ from ≤ 4096 ⌝ }
+    ensures { λ r. ⌜ r ≤ 4096 ⌝ }
+{
+    let mut at = from;
+    let mut i = 0;
+    while i < count {
+        at = put(out, at, &END);
+        i += 1;
+    }
+    at
+}
+
+// A line: what was tried, and the number that came back.
+fn line(tried: &[u8], number: u8) {
+    io::write_all(STDOUT_FILENO, tried);
+    io::write_all(STDOUT_FILENO, b": ");
+    io::number::print_decimal(STDOUT_FILENO, number as u64);
+    io::write_all(STDOUT_FILENO, b"\n");
+}
+
+// A table rewritten into an output that is long enough for it.
+fn table(tried: &[u8], bytes: &[u8]) {
+    let mut work = io::large_buffer();
+    let mut out = io::buffer();
+    let built = plans::rewrite_table(bytes, &mut work, &mut out);
+    line(tried, built.number);
+}
+
+// A row walked over the good table.
+fn row(tried: &[u8], names: &[u8]) {
+    let mut work = io::large_buffer();
+    let walked = plans::plans_walk(&GOOD, names, &mut work);
+    line(tried, walked.number);
+}
+
+// Sizes: 1 and 13.
+fn sizes() {
+    let long = io::large_buffer();
+    table(b"an input of 65,536 bytes", &long);
+    let mut short = io::buffer();
+    let mut out = io::buffer();
+    let built = plans::rewrite_table(&GOOD, &mut short, &mut out);
+    line(b"a working area of 4,096 bytes", built.number);
+    let mut work = io::large_buffer();
+    let mut few = [0u8; 27];
+    let cut = plans::rewrite_table(&GOOD, &mut work, &mut few);
+    line(b"an output one byte shorter than the table", cut.number);
+    let mut enough = [0u8; 28];
+    let whole = plans::rewrite_table(&GOOD, &mut work, &mut enough);
+    line(b"an output as long as the table", whole.number);
+}
+
+// The fields' refusals that short tables show: 2 to 6, 8 and 11.
+fn fields() {
+    table(b"a field that runs past the end", b"\x01\x00\x05snac");
+    table(
+        b"a row in a table",
+        b"\x01\x00\x05snack\x02\x00\x03\x00\x01\x01\x03\x00\x00",
+    );
+    table(b"no states", b"\x01\x00\x05snack\x02\x00\x03\x00\x01\x01");
+    table(b"empty input", b"");
+    table(b"a name that begins with a digit", b"\x01\x00\x055nack");
+    table(
+        b"a name equal to the one before",
+        b"\x01\x00\x05snack\x01\x00\x05snack",
+    );
+    table(
+        b"a class with k = 9",
+        b"\x01\x00\x05snack\x02\x00\x03\x00\x09\x01",
+    );
+    table(
+        b"a state whose first byte is 2",
+        b"\x01\x00\x05snack\x02\x00\x03\x00\x01\x01\x04\x00\x01\x02",
+    );
+}
+
+// 12, three ways.
+fn numbering() {
+    table(
+        b"an arc to no state",
+        b"\x01\x00\x05snack\x02\x00\x03\x00\x01\x01\x04\x00\x04\x00\x00\x00\x01",
+    );
+    table(
+        b"a state never met",
+        b"\x01\x00\x05snack\x02\x00\x03\x00\x01\x01\x04\x00\x01\x01\x04\x00\x01\x01",
+    );
+    table(
+        b"states not numbered first-met",
+        b"\x01\x00\x01a\x01\x00\x01b\x02\x00\x03\x00\x01\x01\x04\x00\x07\x00\x00\x00\x02\x01\x00\x01\x04\x00\x01\x01\x04\x00\x01\x00",
+    );
+}
+
+// The limits on names and states: 7, and what just passes.
+fn limits() {
+    let mut out = io::buffer();
+    let names = put_names(&mut out, 64);
+    let class = put(&mut out, names, &CLASS);
+    let end = put_states(&mut out, class, 1);
+    table(b"64 names", &out[..end]);
+    let more = put_names(&mut out, 65);
+    table(b"65 names", &out[..more]);
+    let name = put(&mut out, 0, &NAME);
+    let only = put(&mut out, name, &CLASS);
+    let states = put_states(&mut out, only, 513);
+    table(b"513 states", &out[..states]);
+}
+
+// Rows: 9, and what just passes.
+fn rows() {
+    row(b"a row of 64", &[0u8; 64]);
+    row(b"a row of 65", &[0u8; 65]);
+    row(b"an entry that is no name's number", &[0, 1]);
+}
+
+fn main() {
+    table(b"the example", &GOOD);
+    sizes();
+    fields();
+    numbering();
+    limits();
+    rows();
+}
