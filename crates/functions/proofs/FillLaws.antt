@@ -15,6 +15,7 @@ use Rattle.indexed.specs.Trees.{Arrays, up}
 use Rattle.indexed.specs.Passes.{NamesAbove, KeysWhere}
 use Rattle.indexed.proofs.Keys.{number-at, numbers-length}
 use Rattle.indexed.proofs.Suffixes.{parent-below}
+use Rattle.partition.proofs.StepLaws.{no-truth, no-falsehood}
 use Rattle.functions.specs.Parts.{Ancestor, KeyAt}
 
 -- each of the first i elements is as it should be
@@ -59,10 +60,6 @@ own-all i out₀ out all filled =
         filled .done k (omega arith) ∙ sym (number-at (length out₀) k inside)
 
 -- one ancestor further
-pub ancestor-start : (n j : ℕ) (parents : List ℕ) (v : ℕ) → v < n → Ancestor n 0 parents v v
-unfolding up
-ancestor-start n j parents v inside = record { value = refl; inside = inside }
-
 pub up-step :
     (parents : List ℕ) (left at next : ℕ) → 0 < left → next ≡ getD parents at 0 → up parents (left - 1) next ≡ up parents left at
 unfolding up
@@ -85,6 +82,15 @@ pub above-all :
     NamesAbove (length out₀) j parents names out
 above-all j i parents names out₀ out all filled =
     record { size = filled .size; above = λ v h. filled .done v (omega arith) }
+
+-- a key that is none, and one that is the name
+pub key-none : (b : Bool) (name : ℕ) → b ≡ true → name-limit ≡ cond b name-limit name
+key-none true name e = refl
+key-none false name e = absurd (no-truth e)
+
+pub key-name : (b : Bool) (name : ℕ) → b ≡ false → name ≡ cond b name-limit name
+key-name true name e = absurd (no-falsehood e)
+key-name false name e = refl
 
 -- keys by the seen set
 pub key-root : (enlarge : Bool) (parents names seen : List ℕ) (v : ℕ) → v ≡ 0 → KeyAt enlarge parents names seen v name-limit

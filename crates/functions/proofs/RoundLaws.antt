@@ -71,6 +71,10 @@ module _ (n : ℕ) (parents names numbers keys more groups : List ℕ) (ready : 
         labelled = labelled;
       })
 
+-- labels of as many states
+pub labelled-then : (n : ℕ) (groups groups′ : List ℕ) → Labelled n groups → Labelled (length groups) groups′ → Labelled n groups′
+labelled-then n groups groups′ before after = subst (λ (m : ℕ). Labelled m groups′) (before .size) after
+
 -- a pass is a joining
 pub pass-joining :
     (n m : ℕ) (ins outs keys groups groups′ : List ℕ) (joined : Bool) → m ≡ n → Passed m ins outs keys groups groups′ joined →
@@ -127,6 +131,14 @@ round-joining n parents names numbers keys more groups g₁ g₂ g₃ a b c size
     (then-joining (KeyClosed n parents numbers names) (KeyClosed n numbers parents keys)
     (TwoClosed n parents names numbers keys) n groups g₁ g₂ a b
     (λ l t. t .0) (λ l t. t .1) (λ l x y. (x, y)) j₁ j₂) j₃
+
+-- a round of a partition with as many states
+pub round-of :
+    (n : ℕ) (parents names numbers keys more groups groups′ : List ℕ) (joined : Bool) → length groups ≡ n →
+    Joining (RoundClosed (length groups) parents names numbers keys more) (length groups) groups groups′ joined →
+    Joining (RoundClosed n parents names numbers keys more) n groups groups′ joined
+round-of n parents names numbers keys more groups groups′ joined size joining =
+    subst (λ (m : ℕ). Joining (RoundClosed m parents names numbers keys more) m groups groups′ joined) size joining
 
 -- rounds so far: joined says whether another is due
 pub record RoundsTo (Closed : List ℕ → Type 0) (n : ℕ) (groups₀ groups : List ℕ) (joined : Bool) : Type 0 where
