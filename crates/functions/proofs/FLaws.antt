@@ -14,7 +14,7 @@ use Rattle.indexed.specs.Partitions.{Refines, Labelled, KeyClosed, ForkClosed, 
 use Rattle.indexed.specs.Passes.{BySuffix, ByEnds, NamesAbove, SeenSets, BySeen, KeysWhere, FJoined}
 use Rattle.indexed.proofs.Keys.{forks-keys, keys-forks}
 use Rattle.indexed.proofs.Functions.{last-forks, seen-forks, last-back, last-keys, seen-back, seen-keys}
-use Rattle.functions.specs.Rounds.{RoundClosed, JoinedUntil}
+use Rattle.functions.specs.Rounds.{RoundClosed, JoinedUntil, Finished}
 use Rattle.functions.specs.Results.{JoinedByLast, JoinedBySeen}
 
 module _ (n : ℕ) (parents names accepts classes : List ℕ) (arrays : Arrays n parents names) where
@@ -73,40 +73,38 @@ none-closed :
 none-closed n ins outs none groups is v w hv hw below same-key same-row = absurd (omega (arith, is v hv))
 
 pub joined-by-last :
-    (n j : ℕ) (parents names accepts classes numbers keys none ends groups : List ℕ) → Arrays n parents names →
-    BySuffix n j parents names classes → NamesAbove n j parents names keys → numbers ≡ numbersFrom n 0 →
-    ((v : ℕ) → v < n → getD none v 0 ≡ name-limit) → ByEnds n accepts classes ends →
-    JoinedUntil (RoundClosed n parents names numbers keys none) n ends groups → JoinedByLast n j parents names accepts groups
-joined-by-last n j parents names accepts classes numbers keys none ends groups arrays by above own is ends-by until =
+    (n j : ℕ) (parents names accepts classes keys none groups : List ℕ) → Arrays n parents names →
+    BySuffix n j parents names classes → NamesAbove n j parents names keys →
+    ((v : ℕ) → v < n → getD none v 0 ≡ name-limit) → Finished n parents names accepts classes keys none groups →
+    JoinedByLast n j parents names accepts groups
+joined-by-last n j parents names accepts classes keys none groups arrays by above is finished =
     record {
       classes = classes;
       by-suffix = by;
       joined =
-          f-joined n parents names accepts classes arrays keys none ends groups (last-forks n j parents names classes arrays by)
-          ends-by
+          f-joined n parents names accepts classes arrays keys none (finished .ends) groups
+          (last-forks n j parents names classes arrays by) (finished .by-ends)
           (λ l agree shut more. last-back n parents names arrays j classes keys l by above agree shut)
           (λ l agree back. last-keys n parents names arrays j classes keys l by above agree back)
-          (λ l agree back. none-closed n (numbersFrom n 0) parents none l is)
-          (subst (λ (m : List ℕ). JoinedUntil (RoundClosed n parents names m keys none) n ends groups) own until);
+          (λ l agree back. none-closed n (numbersFrom n 0) parents none l is) (finished .until);
     }
 
 pub joined-by-seen :
-    (n : ℕ) (parents names accepts seen classes numbers enlarging others ends groups : List ℕ) → Arrays n parents names →
+    (n : ℕ) (parents names accepts seen classes enlarging others groups : List ℕ) → Arrays n parents names →
     SeenSets n parents names seen → BySeen n seen classes → KeysWhere n true parents names seen enlarging →
-    KeysWhere n false parents names seen others → numbers ≡ numbersFrom n 0 → ByEnds n accepts classes ends →
-    JoinedUntil (RoundClosed n parents names numbers enlarging others) n ends groups →
+    KeysWhere n false parents names seen others → Finished n parents names accepts classes enlarging others groups →
     JoinedBySeen n parents names accepts groups
-joined-by-seen n parents names accepts seen classes numbers enlarging others ends groups arrays sets by keys keys′ own ends-by until =
+joined-by-seen n parents names accepts seen classes enlarging others groups arrays sets by keys keys′ finished =
     record {
       seen = seen;
       classes = classes;
       sets = sets;
       by-seen = by;
       joined =
-          f-joined n parents names accepts classes arrays enlarging others ends groups
-          (seen-forks n parents names seen classes arrays sets by) ends-by
+          f-joined n parents names accepts classes arrays enlarging others (finished .ends) groups
+          (seen-forks n parents names seen classes arrays sets by) (finished .by-ends)
           (λ l agree shut more. seen-back n parents names arrays seen classes enlarging others l sets by keys keys′ agree shut more)
           (λ l agree back. seen-keys n parents names arrays true seen classes enlarging l sets by keys agree back)
           (λ l agree back. seen-keys n parents names arrays false seen classes others l sets by keys′ agree back)
-          (subst (λ (m : List ℕ). JoinedUntil (RoundClosed n parents names m enlarging others) n ends groups) own until);
+          (finished .until);
     }

@@ -1,5 +1,5 @@
 -- Laws of rounds: a pass as a joining, joinings one after the other, and joinings until one joins nothing. Assumes nothing.
-use mathlib.Core.Path.{_≡_, refl, sym, ap, _∙_, subst}
+use mathlib.Core.Path.{_≡_, refl, sym, ap, _∙_, subst, subst₂}
 use mathlib.Core.Bool.{Bool, true, false, cond, _||_}
 use mathlib.Core.List.{List}
 use Prim.Native.Nat.{ℕ, _+_, _<_, _≤_}
@@ -7,11 +7,12 @@ use native.Mathlib.Omega.{arith}
 use lib.ListN.{length, getD}
 use Rattle.model.specs.Lists.{numbersFrom}
 use Rattle.indexed.specs.Partitions.{Refines, Labelled, KeyClosed, sum}
-use Rattle.indexed.specs.Passes.{Passed}
+use Rattle.indexed.specs.Passes.{Passed, ByEnds}
 use Rattle.indexed.proofs.Keys.{number-at, numbers-length}
+use Rattle.indexed.proofs.Suffixes.{parent-below}
 use Rattle.partition.specs.Steps.{Ready}
 use Rattle.partition.proofs.StepLaws.{no-truth, no-falsehood}
-use Rattle.functions.specs.Rounds.{RoundReady, RoundClosed, Joining, JoinedUntil}
+use Rattle.functions.specs.Rounds.{RoundReady, RoundClosed, Joining, JoinedUntil, FinishReady, Finished}
 
 or-first : (a b : Bool) → a || b ≡ false → a ≡ false
 or-first true b e = e
@@ -184,3 +185,35 @@ module _ (Closed : List ℕ → Type 0) (n : ℕ) (groups₀ : List ℕ) where
       JoinedUntil Closed n groups₀ groups
   rounds-all groups joined done so-far =
       record { labelled = so-far .labelled; coarser = so-far .coarser; sound = so-far .sound; closed = so-far .closed done }
+
+-- the rounds are ready after the parts before them
+pub finish-ready :
+    (n : ℕ) (parents names accepts classes keys more numbers ends : List ℕ) →
+    FinishReady n parents names accepts classes keys more → numbers ≡ numbersFrom n 0 → Labelled n ends →
+    RoundReady (length ends) parents names numbers keys more ends
+finish-ready n parents names accepts classes keys more numbers ends ready own labelled =
+    subst (λ (m : ℕ). RoundReady m parents names numbers keys more ends) (sym (labelled .size))
+    (record {
+      few = ready .arrays .few-states;
+      parents-size = ready .arrays .parents-size;
+      names-size = ready .arrays .names-size;
+      keys-size = ready .keys-size;
+      more-size = ready .more-size;
+      parents-below = parent-below n parents names (ready .arrays);
+      own = own;
+      labelled = labelled;
+    })
+
+pub finished :
+    (n : ℕ) (parents names accepts classes keys more numbers ends groups : List ℕ) → numbers ≡ numbersFrom n 0 →
+    ByEnds n accepts classes ends →
+    JoinedUntil (RoundClosed (length ends) parents names numbers keys more) (length ends) ends groups →
+    Finished n parents names accepts classes keys more groups
+finished n parents names accepts classes keys more numbers ends groups own by until =
+    record {
+      ends = ends;
+      by-ends = by;
+      until =
+          subst₂ (λ (m : ℕ) (l : List ℕ). JoinedUntil (RoundClosed m parents names l keys more) m ends groups)
+          (by .labelled .size) own until;
+    }
