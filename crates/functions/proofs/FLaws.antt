@@ -1,16 +1,16 @@
 -- The rule of f from rounds: joined until closed, from the partition by ends on, is joined by the rule of f. One law over what it is
 -- to be closed against the arcs, then last names and seen sets. Assumes nothing.
-use mathlib.Core.Path.{_≡_, refl, sym, ap, _∙_, subst}
+use mathlib.Core.Path.{_≡_, sym, ap, subst}
 use mathlib.Core.Logic.{_⊎_, inl, inr}
-use mathlib.Core.Bool.{Bool, true, false}
+use mathlib.Core.Bool.{true, false}
 use mathlib.Core.List.{List}
-use Prim.Native.Nat.{ℕ, _+_, _<_, _≤_}
+use Prim.Native.Nat.{ℕ, _<_}
 use native.Mathlib.Omega.{arith}
-use lib.ListN.{length, getD}
+use lib.ListN.{getD}
 use Rattle.model.specs.Limits.{name-limit}
 use Rattle.model.specs.Lists.{numbersFrom}
 use Rattle.indexed.specs.Trees.{Arrays}
-use Rattle.indexed.specs.Partitions.{Refines, Labelled, KeyClosed, ForkClosed, EndsClosed, BackClosed}
+use Rattle.indexed.specs.Partitions.{Refines, KeyClosed, ForkClosed, EndsClosed, BackClosed}
 use Rattle.indexed.specs.Passes.{BySuffix, ByEnds, NamesAbove, SeenSets, BySeen, KeysWhere, FJoined}
 use Rattle.indexed.proofs.Keys.{forks-keys, keys-forks}
 use Rattle.indexed.proofs.Functions.{last-forks, seen-forks, last-back, last-keys, seen-back, seen-keys}
@@ -66,6 +66,10 @@ module _ (n : ℕ) (parents names accepts classes : List ℕ) (arrays : Arrays n
           until .sound classes
           (round-closed classes (λ a b ha hb e. e) class-forks (λ v w pv pw hv hw same-name one same. one))
           (ends-inside ends classes by (λ v w hv hw in-v in-w alike. alike))
+
+-- the tree's arrays, by the length of another array of as many states
+pub arrays-for : (n m : ℕ) (parents names : List ℕ) → m ≡ n → Arrays n parents names → Arrays m parents names
+arrays-for n m parents names size arrays = subst (λ (k : ℕ). Arrays k parents names) (sym size) arrays
 
 -- keys of none but 64 ask nothing
 none-closed :

@@ -1,8 +1,8 @@
 -- Laws of seen sets: one name more, sets filled in from the root on, the first state with a set, and classes of states with the same
 -- set. Assumes nothing.
-use mathlib.Core.Path.{_≡_, refl, sym, ap, ap₂, _∙_, subst}
+use mathlib.Core.Path.{_≡_, refl, sym, ap, _∙_, subst}
 use mathlib.Core.List.{List}
-use Prim.Native.Nat.{ℕ, zero, suc, _+_, _*_, _%_, _^_, _<_, _≤_}
+use Prim.Native.Nat.{ℕ, _+_, _*_, _%_, _^_, _<_, _≤_}
 use native.Mathlib.Nat.{mod-eq-of-lt}
 use native.Mathlib.Omega.{arith}
 use lib.Bits.{bitOr}
@@ -12,7 +12,6 @@ use lib.Seq.{getD-set-same, getD-set-other}
 use borrow.Author.Count.{below-more}
 use Rattle.model.specs.Limits.{name-limit}
 use Rattle.indexed.specs.Trees.{Arrays}
-use Rattle.indexed.specs.Partitions.{Labelled}
 use Rattle.indexed.specs.Passes.{SeenSets, BySeen}
 use Rattle.functions.specs.Parts.{SeenAt, FirstSeen}
 use Rattle.functions.proofs.FillLaws.{Filled}

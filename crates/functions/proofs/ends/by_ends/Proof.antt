@@ -1,19 +1,14 @@
 -- `by_ends` meets its contract. The invariant of its loop: the first v groups are right. Assumes nothing.
-use mathlib.Core.Path.{_≡_, refl, sym, ap, _∙_, subst}
-use Prim.Native.Nat.{ℕ, _+_, _-_, _<_, _≤_}
+use mathlib.Core.Path.{sym, _∙_, subst}
+use Prim.Native.Nat.{ℕ, _-_, _≤_}
 use native.Mathlib.Omega.{arith}
-use borrow.Author.Needs.{needs}
-use lib.ListN.{length, getD, length-set}
+use lib.ListN.{length}
 use Rattle.functions.specs.Parts.{EndLabel}
 use Rattle.indexed.specs.Partitions.{Labelled}
 use Rattle.functions.proofs.FillLaws.{Filled, filled-none, filled-more}
 use Rattle.functions.proofs.EndLaws.{by-ends-all, label-low}
 use Rattle.functions.proofs.ends.by_ends.Statement.{statement}
 use Rattle.functions.proofs.ends.by_ends.Tie as tie
-use Rattle.functions.proofs.ends.by_ends.Reads as reads
-use Rattle.functions.proofs.ends.by_ends.Lts as lts
-use Rattle.cells.proofs.numbers.narrow16.Reads as narrow16-reads
-use Rattle.functions.proofs.ends.end_label.Reads as end-label-reads
 
 abbrev Inv-loop : tie.InvT-loop
 Inv-loop accepts classes groups₀ v₀ groups v = (v ≤ length groups₀) × Filled (EndLabel accepts classes) v groups₀ groups

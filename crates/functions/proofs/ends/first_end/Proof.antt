@@ -1,15 +1,11 @@
 -- `first_end` meets its contract. The invariant of its loop: no accepting state of the class stands before u. Assumes nothing.
-use mathlib.Core.Path.{_≡_, refl, sym, ap, _∙_, subst}
-use Prim.Native.Nat.{ℕ, _+_, _-_, _<_, _≤_}
+use Prim.Native.Nat.{_-_, _≤_}
 use native.Mathlib.Omega.{arith}
 use borrow.Author.Needs.{needs}
-use lib.ListN.{length, getD, length-set}
+use lib.ListN.{length}
 use Rattle.functions.proofs.EndLaws.{NoEnd, no-end-start, no-end-more, end-found, end-itself}
 use Rattle.functions.proofs.ends.first_end.Statement.{statement}
 use Rattle.functions.proofs.ends.first_end.Tie as tie
-use Rattle.functions.proofs.ends.first_end.Reads as reads
-use Rattle.functions.proofs.ends.first_end.Lts as lts
-use Rattle.cells.proofs.numbers.wide16.Reads as wide16-reads
 
 abbrev Inv-loop : tie.InvT-loop
 Inv-loop accepts classes v class u₀ u = (u ≤ v) × NoEnd accepts classes v u

@@ -1,16 +1,13 @@
 -- `ancestor` meets its contract. The invariant of its loop: what is left to climb leads to the same state. Assumes nothing.
-use mathlib.Core.Path.{_≡_, refl, sym, ap, _∙_, subst}
-use Prim.Native.Nat.{ℕ, _+_, _-_, _<_, _≤_}
+use mathlib.Core.Path.{_≡_, refl, _∙_}
+use Prim.Native.Nat.{_-_, _<_}
 use native.Mathlib.Omega.{arith}
 use borrow.Author.Needs.{needs}
-use lib.ListN.{length, getD, length-set}
+use lib.ListN.{length}
 use Rattle.indexed.specs.Trees.{up}
 use Rattle.functions.proofs.FillLaws.{up-step, up-end, parent-inside}
 use Rattle.functions.proofs.keys.ancestor.Statement.{statement}
 use Rattle.functions.proofs.keys.ancestor.Tie as tie
-use Rattle.functions.proofs.keys.ancestor.Reads as reads
-use Rattle.functions.proofs.keys.ancestor.Lts as lts
-use Rattle.cells.proofs.numbers.wide16.Reads as wide16-reads
 
 abbrev Inv-loop : tie.InvT-loop
 Inv-loop j parents names v at₀ left₀ at left = (at < length parents) × (up parents left at ≡ up parents j v)

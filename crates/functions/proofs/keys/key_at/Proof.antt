@@ -6,10 +6,6 @@ use Rattle.functions.proofs.FillLaws.{key-arc, parent-inside}
 use borrow.Author.Needs.{needs}
 use Rattle.functions.proofs.keys.key_at.Statement.{statement}
 use Rattle.functions.proofs.keys.key_at.Tie as tie
-use Rattle.functions.proofs.keys.key_at.Reads as reads
-use Rattle.functions.proofs.keys.key_at.Lts as lts
-use Rattle.cells.proofs.numbers.wide16.Reads as wide16-reads
-use Rattle.functions.proofs.keys.key_where.Reads as key-where-reads
 
 -- the arc's source is a state
 parent-here : (c : tie.After-wide16) → c .wide16 .result < length (c .before .before .before .before .before .before .args .seen .now)

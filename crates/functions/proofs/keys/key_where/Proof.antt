@@ -3,8 +3,6 @@ use mathlib.Core.Bool.{Bool·beq}
 use Rattle.functions.proofs.FillLaws.{key-none, key-name}
 use Rattle.functions.proofs.keys.key_where.Statement.{statement}
 use Rattle.functions.proofs.keys.key_where.Tie as tie
-use Rattle.functions.proofs.keys.key_where.Reads as reads
-use Rattle.functions.proofs.keys.key_where.Lts as lts
 
 returns : tie.Need-returns
 returns c = key-none (Bool·beq (c .before .args .same) (c .before .args .enlarge)) (c .before .args .name) (c .if1 .taken)

@@ -1,17 +1,13 @@
 -- `keys_where` meets its contract. The invariant of its loop: the first v keys are right. Assumes nothing.
-use mathlib.Core.Path.{_≡_, refl, sym, ap, _∙_, subst}
-use Prim.Native.Nat.{ℕ, _+_, _-_, _<_, _≤_}
+use mathlib.Core.Path.{sym, subst}
+use Prim.Native.Nat.{ℕ, _-_, _≤_}
 use native.Mathlib.Omega.{arith}
-use borrow.Author.Needs.{needs}
-use lib.ListN.{length, getD, length-set}
+use lib.ListN.{length}
 use Rattle.functions.specs.Parts.{KeyAt}
 use Rattle.indexed.specs.Trees.{Arrays}
 use Rattle.functions.proofs.FillLaws.{Filled, filled-none, filled-more, keys-all}
 use Rattle.functions.proofs.keys.keys_where.Statement.{statement}
 use Rattle.functions.proofs.keys.keys_where.Tie as tie
-use Rattle.functions.proofs.keys.keys_where.Reads as reads
-use Rattle.functions.proofs.keys.keys_where.Lts as lts
-use Rattle.functions.proofs.keys.key_at.Reads as key-at-reads
 
 abbrev Inv-loop : tie.InvT-loop
 Inv-loop enlarge parents names seen keys₀ v₀ keys v = (v ≤ length keys₀) × Filled (KeyAt enlarge parents names seen) v keys₀ keys

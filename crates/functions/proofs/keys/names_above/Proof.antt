@@ -1,16 +1,12 @@
 -- `names_above` meets its contract. The invariant of its loop: the first v keys are right. Assumes nothing.
-use mathlib.Core.Path.{_≡_, refl, sym, ap, _∙_, subst}
-use Prim.Native.Nat.{ℕ, _+_, _-_, _<_, _≤_}
+use mathlib.Core.Path.{sym, ap, subst}
+use Prim.Native.Nat.{ℕ, _-_, _≤_}
 use native.Mathlib.Omega.{arith}
-use borrow.Author.Needs.{needs}
-use lib.ListN.{length, getD, length-set}
+use lib.ListN.{length, getD}
 use Rattle.indexed.specs.Trees.{Arrays}
 use Rattle.functions.proofs.FillLaws.{Filled, IsAbove, filled-none, filled-more, above-all}
 use Rattle.functions.proofs.keys.names_above.Statement.{statement}
 use Rattle.functions.proofs.keys.names_above.Tie as tie
-use Rattle.functions.proofs.keys.names_above.Reads as reads
-use Rattle.functions.proofs.keys.names_above.Lts as lts
-use Rattle.functions.proofs.keys.ancestor.Reads as ancestor-reads
 
 abbrev Inv-loop : tie.InvT-loop
 Inv-loop j parents names keys₀ v₀ keys v = (v ≤ length keys₀) × Filled (IsAbove j parents names) v keys₀ keys

@@ -1,15 +1,10 @@
 -- `own` meets its contract. The invariant of its loop: the first v elements are their own places. Assumes nothing.
-use mathlib.Core.Path.{_≡_, refl, sym, ap, _∙_, subst}
-use Prim.Native.Nat.{ℕ, _+_, _-_, _<_, _≤_}
+use Prim.Native.Nat.{_-_, _≤_}
 use native.Mathlib.Omega.{arith}
-use borrow.Author.Needs.{needs}
-use lib.ListN.{length, getD, length-set}
+use lib.ListN.{length}
 use Rattle.functions.proofs.FillLaws.{Filled, IsOwn, filled-none, filled-more, own-all}
 use Rattle.functions.proofs.keys.own.Statement.{statement}
 use Rattle.functions.proofs.keys.own.Tie as tie
-use Rattle.functions.proofs.keys.own.Reads as reads
-use Rattle.functions.proofs.keys.own.Lts as lts
-use Rattle.cells.proofs.numbers.narrow16.Reads as narrow16-reads
 
 abbrev Inv-loop : tie.InvT-loop
 Inv-loop numbers₀ v₀ numbers v = (v ≤ length numbers₀) × Filled IsOwn v numbers₀ numbers

@@ -1,17 +1,13 @@
 -- `close` meets its contract. The invariant of its loop: what holds after some rounds. Assumes nothing.
-use mathlib.Core.Path.{_≡_, refl, sym, ap, _∙_, subst}
+use mathlib.Core.Path.{_≡_, refl, sym, _∙_, subst}
 use mathlib.Core.Bool.{Bool}
-use Prim.Native.Nat.{ℕ, _+_, _-_, _<_, _≤_}
+use Prim.Native.Nat.{_-_, _<_}
 use native.Mathlib.Omega.{arith}
-use borrow.Author.Needs.{needs}
-use lib.ListN.{length, getD, length-set}
+use lib.ListN.{length}
 use Rattle.functions.specs.Rounds.{RoundClosed, Joining}
 use Rattle.functions.proofs.RoundLaws.{RoundsTo, due, due-less, ready-again, round-of, rounds-none, rounds-more, rounds-all}
 use Rattle.functions.proofs.rounds.close.Statement.{statement}
 use Rattle.functions.proofs.rounds.close.Tie as tie
-use Rattle.functions.proofs.rounds.close.Reads as reads
-use Rattle.functions.proofs.rounds.close.Lts as lts
-use Rattle.functions.proofs.rounds.round.Reads as round-reads
 
 abbrev Inv-loop : tie.InvT-loop
 Inv-loop parents names numbers keys more groups₀ work₀ joined₀ groups work joined = (length work ≡ length work₀) × RoundsTo (RoundClosed (length groups₀) parents names numbers keys more) (length groups₀) groups₀ groups joined

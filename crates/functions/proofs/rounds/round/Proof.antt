@@ -6,9 +6,6 @@ use Rattle.functions.proofs.RoundLaws.{ready-forks, ready-backs, labell
 use borrow.Author.Needs.{needs}
 use Rattle.functions.proofs.rounds.round.Statement.{statement}
 use Rattle.functions.proofs.rounds.round.Tie as tie
-use Rattle.functions.proofs.rounds.round.Reads as reads
-use Rattle.functions.proofs.rounds.round.Lts as lts
-use Rattle.partition.proofs.pass.Reads as pass-reads
 
 pass-requires : tie.Need-pass-requires
 pass-requires c κs =

@@ -1,18 +1,13 @@
 -- `classes_by_seen` meets its contract. The invariant of its loop: the first v classes are right. Assumes nothing.
-use mathlib.Core.Path.{_≡_, refl, sym, ap, _∙_, subst}
-use Prim.Native.Nat.{ℕ, _+_, _-_, _<_, _≤_}
+use mathlib.Core.Path.{sym, subst}
+use Prim.Native.Nat.{_-_, _≤_}
 use native.Mathlib.Omega.{arith}
-use borrow.Author.Needs.{needs}
-use lib.ListN.{length, getD, length-set}
+use lib.ListN.{length}
 use Rattle.functions.specs.Parts.{FirstSeen}
 use Rattle.functions.proofs.FillLaws.{Filled, filled-none, filled-more}
 use Rattle.functions.proofs.SeenLaws.{by-seen-all}
 use Rattle.functions.proofs.seen.classes_by_seen.Statement.{statement}
 use Rattle.functions.proofs.seen.classes_by_seen.Tie as tie
-use Rattle.functions.proofs.seen.classes_by_seen.Reads as reads
-use Rattle.functions.proofs.seen.classes_by_seen.Lts as lts
-use Rattle.cells.proofs.numbers.narrow16.Reads as narrow16-reads
-use Rattle.functions.proofs.seen.first_seen.Reads as first-seen-reads
 
 abbrev Inv-loop : tie.InvT-loop
 Inv-loop seen classes₀ v₀ classes v = (v ≤ length classes₀) × Filled (FirstSeen seen) v classes₀ classes

@@ -1,15 +1,12 @@
 -- `first_seen` meets its contract. The invariant of its loop: no state before u has the set. Assumes nothing.
-use mathlib.Core.Path.{_≡_, refl, sym, ap, _∙_, subst}
-use Prim.Native.Nat.{ℕ, _+_, _-_, _<_, _≤_}
+use mathlib.Core.Path.{_≡_}
+use Prim.Native.Nat.{ℕ, _-_, _<_, _≤_}
 use native.Mathlib.Omega.{arith}
-use borrow.Author.Needs.{needs}
-use lib.ListN.{length, getD, length-set}
+use lib.ListN.{getD}
 use borrow.Author.Count.{below-more}
 use Rattle.functions.proofs.SeenLaws.{first-found, first-itself}
 use Rattle.functions.proofs.seen.first_seen.Statement.{statement}
 use Rattle.functions.proofs.seen.first_seen.Tie as tie
-use Rattle.functions.proofs.seen.first_seen.Reads as reads
-use Rattle.functions.proofs.seen.first_seen.Lts as lts
 
 abbrev Inv-loop : tie.InvT-loop
 Inv-loop seen v set u₀ u = (u ≤ v) × ((k : ℕ) → k < u → getD seen k 0 ≡ getD seen v 0 → ⊥)

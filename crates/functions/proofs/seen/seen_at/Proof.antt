@@ -7,10 +7,6 @@ use Rattle.functions.proofs.SeenLaws.{seen-arc}
 use borrow.Author.Needs.{needs}
 use Rattle.functions.proofs.seen.seen_at.Statement.{statement}
 use Rattle.functions.proofs.seen.seen_at.Tie as tie
-use Rattle.functions.proofs.seen.seen_at.Reads as reads
-use Rattle.functions.proofs.seen.seen_at.Lts as lts
-use Rattle.cells.proofs.numbers.wide16.Reads as wide16-reads
-use Rattle.functions.proofs.seen.with_name.Reads as with-name-reads
 
 -- the arc's source is a state
 parent-here : (c : tie.After-wide16) → c .wide16 .result < length (c .before .before .before .before .before .before .args .seen .now)

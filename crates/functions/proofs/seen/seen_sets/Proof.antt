@@ -1,16 +1,12 @@
 -- `seen_sets` meets its contract. The invariant of its loop: the first v sets are right. Assumes nothing.
-use mathlib.Core.Path.{_≡_, refl, sym, ap, _∙_, subst}
-use Prim.Native.Nat.{ℕ, _+_, _-_, _<_, _≤_}
+use mathlib.Core.Path.{sym, subst}
+use Prim.Native.Nat.{ℕ, _-_, _≤_}
 use native.Mathlib.Omega.{arith}
-use borrow.Author.Needs.{needs}
-use lib.ListN.{length, getD, length-set}
+use lib.ListN.{length}
 use Rattle.indexed.specs.Trees.{Arrays}
 use Rattle.functions.proofs.SeenLaws.{SeenTo, seen-none, seen-more, seen-all}
 use Rattle.functions.proofs.seen.seen_sets.Statement.{statement}
 use Rattle.functions.proofs.seen.seen_sets.Tie as tie
-use Rattle.functions.proofs.seen.seen_sets.Reads as reads
-use Rattle.functions.proofs.seen.seen_sets.Lts as lts
-use Rattle.functions.proofs.seen.seen_at.Reads as seen-at-reads
 
 abbrev Inv-loop : tie.InvT-loop
 Inv-loop parents names seen₀ v₀ seen v = (v ≤ length seen₀) × SeenTo parents names v seen₀ seen

@@ -3,8 +3,6 @@ use Rattle.functions.proofs.SeenLaws.{with-bit}
 use borrow.Author.Needs.{needs}
 use Rattle.functions.proofs.seen.with_name.Statement.{statement}
 use Rattle.functions.proofs.seen.with_name.Tie as tie
-use Rattle.functions.proofs.seen.with_name.Reads as reads
-use Rattle.functions.proofs.seen.with_name.Lts as lts
 
 shl-result : tie.Need-shl-result
 shl-result c = search needs
