@@ -365,6 +365,18 @@ module _ (rows : List Word) (groups work next : List ℕ) (gathered : Gathered r
             };
       }
 
+  -- no more are met than there are states
+  pub numbering-few :
+      (met numbers : List ℕ) (i count : ℕ) → Numbering rows groups met numbers i count → count ≤ length (treeOf rows)
+  numbering-few met numbers i count r =
+      omega (
+        arith,
+        every-few,
+        ap length (r .comes-to),
+        metFrom-adds (r .looks) i (transitionsOf (treeOf rows) groups) (r .seen),
+        r .so-far .counted,
+      )
+
   pub numbering-more :
       (met numbers : List ℕ) (i count g set : ℕ) → Numbering rows groups met numbers i count → i < count → g ≡ getD met i 0 →
       set ≡ getD next g 0 → Look met numbers i count g set

@@ -1,3 +1,14 @@
+-- `numbering::number` meets its contract: the first i groups met are looked at. Assumes nothing.
+use mathlib.Core.Path.{_≡_, refl, sym, ap, _∙_, subst}
+use mathlib.Core.List.{List}
+use Prim.Native.Nat.{ℕ, _+_, _-_, _<_, _≤_}
+use native.Mathlib.Omega.{arith}
+use lib.ListN.{length, getD, length-set}
+use Rattle.model.specs.Classes.{Word}
+use Rattle.model.specs.Joinings.{treeOf}
+use Rattle.quotient.specs.Gathered.{Gathered}
+use Rattle.quotient.specs.Numbered.{MetAs, MeetingOne, Meeting}
+use Rattle.quotient.proofs.MetLaws.{Numbering, Look, met-low, root-meeting, numbering-start, numbering-more, numbering-end}
 use Rattle.quotient.proofs.numbering.number.Statement.{statement}
 use Rattle.quotient.proofs.numbering.number.Tie as tie
 use Rattle.quotient.proofs.numbering.number.Reads as reads
@@ -8,10 +19,12 @@ use Rattle.quotient.proofs.numbering.meet_one.Reads as meet-one-reads
 use Rattle.quotient.proofs.numbering.none_met.Reads as none-met-reads
 
 abbrev Inv-loop : tie.InvT-loop
-Inv-loop groups work next met₀ numbers₀ count₀ i₀ met numbers count i = ?
+Inv-loop groups work next met₀ numbers₀ count₀ i₀ met numbers count i =
+    (length met ≡ length met₀) × ((length numbers ≡ length numbers₀)
+    × ((rows : List Word) → Gathered rows groups work next → Numbering rows groups met numbers i count))
 
 abbrev μ-loop : tie.MeasureT-loop
-μ-loop groups work next met₀ numbers₀ count₀ i₀ met numbers count i = ?
+μ-loop groups work next met₀ numbers₀ count₀ i₀ met numbers count i = length groups - i
 
 none-met-requires : tie.Need-none-met-requires Inv-loop μ-loop
 none-met-requires c κs = ?

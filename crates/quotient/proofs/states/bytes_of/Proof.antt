@@ -1,3 +1,17 @@
+-- `states::bytes_of` meets its contract: the fields of the first i states are counted. Assumes nothing.
+use mathlib.Core.Path.{_≡_, refl, sym, ap, _∙_, subst}
+use mathlib.Core.List.{List}
+use Prim.Native.Nat.{ℕ, _+_, _*_, _-_, _<_, _≤_}
+use native.Mathlib.Omega.{arith}
+use lib.Count.{ones, ones-le}
+use lib.ListN.{length, getD, length-append}
+use Rattle.model.specs.Classes.{Word}
+use Rattle.model.specs.Joinings.{treeOf}
+use Rattle.model.specs.Quotients.{metGroups, statesOf}
+use Rattle.model.specs.Tables.{stateFields}
+use Rattle.quotient.specs.Ready.{Sized}
+use Rattle.quotient.proofs.MetLaws.{met-nth, met-low}
+use Rattle.quotient.proofs.StatePieces.{fieldsFrom, fieldOf, fields-all, fields-more, fields-none, field-length}
 use Rattle.quotient.proofs.states.bytes_of.Statement.{statement}
 use Rattle.quotient.proofs.states.bytes_of.Tie as tie
 use Rattle.quotient.proofs.states.bytes_of.Reads as reads
@@ -6,10 +20,12 @@ use Rattle.cells.proofs.numbers.wide16.Reads as wide16-reads
 use Rattle.quotient.proofs.sets.how_many.Reads as how-many-reads
 
 abbrev Inv-loop : tie.InvT-loop
-Inv-loop next met count total₀ i₀ total i = ?
+Inv-loop next met count total₀ i₀ total i =
+    (total ≤ 196 * i) × ((rows : List Word) (groups : List ℕ) → Sized rows groups next met count →
+    total + length (fieldsFrom rows groups i) ≡ length (stateFields (statesOf rows (treeOf rows) groups)))
 
 abbrev μ-loop : tie.MeasureT-loop
-μ-loop next met count total₀ i₀ total i = ?
+μ-loop next met count total₀ i₀ total i = count - i
 
 loop-holds : tie.Need-loop-holds Inv-loop μ-loop
 loop-holds c = ?

@@ -1,3 +1,13 @@
+-- `states::write_arcs` meets its contract: the arcs of what is left of the set are still to be written. Assumes nothing.
+use mathlib.Core.Path.{_≡_, refl, sym, ap, _∙_, subst}
+use mathlib.Core.List.{List, _++_}
+use Prim.Native.Nat.{ℕ, _+_, _-_, _<_, _≤_}
+use native.Mathlib.Omega.{arith}
+use lib.ListN.{length, getD}
+use Rattle.writing.specs.Writing.{Put, arcPart}
+use Rattle.quotient.specs.Ready.{ArcsToWrite}
+use Rattle.quotient.proofs.BytesLeft.{BytesLeft, left-all, left-more, left-length, left-room, left-none}
+use Rattle.quotient.proofs.StatePieces.{ArcsToWriteMore, arcs-write-name, arcs-write-more, arcs-write-done}
 use Rattle.quotient.proofs.states.write_arcs.Statement.{statement}
 use Rattle.quotient.proofs.states.write_arcs.Tie as tie
 use Rattle.quotient.proofs.states.write_arcs.Reads as reads
@@ -10,10 +20,12 @@ use Rattle.quotient.proofs.sets.only.Reads as only-reads
 use Rattle.writing.proofs.put_arc.Reads as put-arc-reads
 
 abbrev Inv-loop : tie.InvT-loop
-Inv-loop work row names numbers out₀ at left₀ end₀ out left end = ?
+Inv-loop work row names numbers out₀ at left₀ end₀ out left end =
+    (bytes : List ℕ) → ArcsToWrite work row names numbers bytes →
+    (rest : List ℕ) × ArcsToWrite work row left numbers rest × BytesLeft out₀ out at end bytes rest
 
 abbrev μ-loop : tie.MeasureT-loop
-μ-loop work row names numbers out₀ at left₀ end₀ out left end = ?
+μ-loop work row names numbers out₀ at left₀ end₀ out left end = left
 
 loop-holds : tie.Need-loop-holds Inv-loop μ-loop
 loop-holds c = ?

@@ -1,3 +1,18 @@
+-- `states::write_states` meets its contract: the fields from state i on are still to be written. Assumes nothing.
+use mathlib.Core.Path.{_≡_, refl, sym, ap, _∙_, subst}
+use mathlib.Core.List.{List, _++_}
+use Prim.Native.Nat.{ℕ, _+_, _-_, _<_, _≤_}
+use native.Mathlib.Omega.{arith}
+use lib.ListN.{length, getD}
+use Rattle.model.specs.Classes.{Word}
+use Rattle.model.specs.Joinings.{treeOf}
+use Rattle.model.specs.Quotients.{metGroups, statesOf}
+use Rattle.model.specs.Tables.{stateFields}
+use Rattle.writing.specs.Writing.{Put}
+use Rattle.quotient.specs.Ready.{Ready}
+use Rattle.quotient.proofs.BytesLeft.{BytesLeft, left-all, left-more, left-length, left-room, left-none}
+use Rattle.quotient.proofs.MetLaws.{met-nth, met-low}
+use Rattle.quotient.proofs.StatePieces.{fieldsFrom, fieldOf, fields-all, fields-more, fields-none, state-ready}
 use Rattle.quotient.proofs.states.write_states.Statement.{statement}
 use Rattle.quotient.proofs.states.write_states.Tie as tie
 use Rattle.quotient.proofs.states.write_states.Reads as reads
@@ -6,10 +21,12 @@ use Rattle.cells.proofs.numbers.wide16.Reads as wide16-reads
 use Rattle.quotient.proofs.states.write_state.Reads as write-state-reads
 
 abbrev Inv-loop : tie.InvT-loop
-Inv-loop work next accepting met numbers count out₀ at end₀ i₀ out end i = ?
+Inv-loop work next accepting met numbers count out₀ at end₀ i₀ out end i =
+    (rows : List Word) (groups : List ℕ) → Ready rows groups work next accepting met numbers count →
+    BytesLeft out₀ out at end (stateFields (statesOf rows (treeOf rows) groups)) (fieldsFrom rows groups i)
 
 abbrev μ-loop : tie.MeasureT-loop
-μ-loop work next accepting met numbers count out₀ at end₀ i₀ out end i = ?
+μ-loop work next accepting met numbers count out₀ at end₀ i₀ out end i = count - i
 
 loop-holds : tie.Need-loop-holds Inv-loop μ-loop
 loop-holds c = ?
