@@ -1,4 +1,6 @@
 -- `states::bytes_of` meets its contract: the fields of the first i states are counted. Assumes nothing.
+use borrow.Author.Needs.{needs}
+use Rattle.quotient.proofs.StatePieces.{count-low, sized-more}
 use mathlib.Core.Path.{_≡_, refl, sym, ap, _∙_, subst}
 use mathlib.Core.List.{List}
 use Prim.Native.Nat.{ℕ, _+_, _*_, _-_, _<_, _≤_}
@@ -28,46 +30,215 @@ abbrev μ-loop : tie.MeasureT-loop
 μ-loop next met count total₀ i₀ total i = count - i
 
 loop-holds : tie.Need-loop-holds Inv-loop μ-loop
-loop-holds c = ?
+loop-holds c =
+    (omega arith, λ rows groups r. omega (arith, ap length (fields-all rows groups)))
 
 mul-wide16 : tie.Need-mul-wide16 Inv-loop μ-loop
-mul-wide16 c = ?
+mul-wide16 c =
+    let at = c .before .before .before .before in
+    let rows = at .pre .0 in
+    let groups = at .pre .1 in
+    let sized = at .pre .2 in
+    let few = sized .gathered .few in
+    let low = count-low rows groups (sized .work) (at .args .next .now) (at .args .met .now) (sized .numbers) (at .args .count)
+    (sized .gathered) (sized .numbered) in
+    let i = c .before .loop .i in
+    let early : i < at .args .count = c .loop-test .taken in
+    omega arith
 
 shared-slice-read-wide16 : tie.Need-shared-slice-read-wide16 Inv-loop μ-loop
-shared-slice-read-wide16 c = ?
+shared-slice-read-wide16 c =
+    let at = c .before .before .before .before .before in
+    let rows = at .pre .0 in
+    let groups = at .pre .1 in
+    let sized = at .pre .2 in
+    let few = sized .gathered .few in
+    let low = count-low rows groups (sized .work) (at .args .next .now) (at .args .met .now) (sized .numbers) (at .args .count)
+    (sized .gathered) (sized .numbered) in
+    let i = c .before .before .loop .i in
+    let early : i < at .args .count = c .before .loop-test .taken in
+    omega (arith, sized .numbered .met-size)
 
 wide16-requires : tie.Need-wide16-requires Inv-loop μ-loop
-wide16-requires c κs = ?
+wide16-requires c κs =
+    search needs
 
 mul-how-many : tie.Need-mul-how-many Inv-loop μ-loop
-mul-how-many c = ?
+mul-how-many c =
+    let at = c .before .before .before .before .before .before in
+    let rows = at .pre .0 in
+    let groups = at .pre .1 in
+    let sized = at .pre .2 in
+    let few = sized .gathered .few in
+    let low = count-low rows groups (sized .work) (at .args .next .now) (at .args .met .now) (sized .numbers) (at .args .count)
+    (sized .gathered) (sized .numbered) in
+    let i = c .before .before .before .loop .i in
+    let early : i < at .args .count = c .before .before .loop-test .taken in
+    let g-low = met-low (metGroups (treeOf rows) groups) (sized .numbered) i early in
+    let g-is = c .wide16 .ensures in
+    omega arith
 
 shared-slice-read-how-many : tie.Need-shared-slice-read-how-many Inv-loop μ-loop
-shared-slice-read-how-many c = ?
+shared-slice-read-how-many c =
+    let at = c .before .before .before .before .before .before .before in
+    let rows = at .pre .0 in
+    let groups = at .pre .1 in
+    let sized = at .pre .2 in
+    let few = sized .gathered .few in
+    let low = count-low rows groups (sized .work) (at .args .next .now) (at .args .met .now) (sized .numbers) (at .args .count)
+    (sized .gathered) (sized .numbered) in
+    let i = c .before .before .before .before .loop .i in
+    let early : i < at .args .count = c .before .before .before .loop-test .taken in
+    let g-low = met-low (metGroups (treeOf rows) groups) (sized .numbered) i early in
+    let g-is = c .before .wide16 .ensures in
+    omega (arith, sized .gathered .next-size)
 
 how-many-requires : tie.Need-how-many-requires Inv-loop μ-loop
-how-many-requires c κs = ?
+how-many-requires c κs =
+    search needs
 
 mul-total : tie.Need-mul-total Inv-loop μ-loop
-mul-total c = ?
+mul-total c =
+    let at = c .before .before .before .before .before .before .before .before in
+    let rows = at .pre .0 in
+    let groups = at .pre .1 in
+    let sized = at .pre .2 in
+    let few = sized .gathered .few in
+    let low = count-low rows groups (sized .work) (at .args .next .now) (at .args .met .now) (sized .numbers) (at .args .count)
+    (sized .gathered) (sized .numbered) in
+    let i = c .before .before .before .before .before .loop .i in
+    let early : i < at .args .count = c .before .before .before .before .loop-test .taken in
+    let g-low = met-low (metGroups (treeOf rows) groups) (sized .numbered) i early in
+    let g-is = c .before .before .wide16 .ensures in
+    let many : c .how-many .result ≤ 64 =
+    omega (
+      arith,
+      c .how-many .ensures,
+      ones-le 64 (getD (at .args .next .now) (c .before .before .wide16 .result) 0)
+          (c .before .shared-slice-known4 .given (c .before .before .wide16 .result) .fits),
+    ) in
+    let before : c .before .before .before .before .before .loop .total ≤ 196 * i = c .before .before .before .before .before .loop .inv .0 in
+    omega arith
 
 add-total : tie.Need-add-total Inv-loop μ-loop
-add-total c = ?
+add-total c =
+    let at = c .before .before .before .before .before .before .before .before in
+    let rows = at .pre .0 in
+    let groups = at .pre .1 in
+    let sized = at .pre .2 in
+    let few = sized .gathered .few in
+    let low = count-low rows groups (sized .work) (at .args .next .now) (at .args .met .now) (sized .numbers) (at .args .count)
+    (sized .gathered) (sized .numbered) in
+    let i = c .before .before .before .before .before .loop .i in
+    let early : i < at .args .count = c .before .before .before .before .loop-test .taken in
+    let g-low = met-low (metGroups (treeOf rows) groups) (sized .numbered) i early in
+    let g-is = c .before .before .wide16 .ensures in
+    let many : c .how-many .result ≤ 64 =
+    omega (
+      arith,
+      c .how-many .ensures,
+      ones-le 64 (getD (at .args .next .now) (c .before .before .wide16 .result) 0)
+          (c .before .shared-slice-known4 .given (c .before .before .wide16 .result) .fits),
+    ) in
+    let before : c .before .before .before .before .before .loop .total ≤ 196 * i = c .before .before .before .before .before .loop .inv .0 in
+    omega arith
 
 add-total-2 : tie.Need-add-total-2 Inv-loop μ-loop
-add-total-2 c = ?
+add-total-2 c =
+    let at = c .before .before .before .before .before .before .before .before in
+    let rows = at .pre .0 in
+    let groups = at .pre .1 in
+    let sized = at .pre .2 in
+    let few = sized .gathered .few in
+    let low = count-low rows groups (sized .work) (at .args .next .now) (at .args .met .now) (sized .numbers) (at .args .count)
+    (sized .gathered) (sized .numbered) in
+    let i = c .before .before .before .before .before .loop .i in
+    let early : i < at .args .count = c .before .before .before .before .loop-test .taken in
+    let g-low = met-low (metGroups (treeOf rows) groups) (sized .numbered) i early in
+    let g-is = c .before .before .wide16 .ensures in
+    let many : c .how-many .result ≤ 64 =
+    omega (
+      arith,
+      c .how-many .ensures,
+      ones-le 64 (getD (at .args .next .now) (c .before .before .wide16 .result) 0)
+          (c .before .shared-slice-known4 .given (c .before .before .wide16 .result) .fits),
+    ) in
+    let before : c .before .before .before .before .before .loop .total ≤ 196 * i = c .before .before .before .before .before .loop .inv .0 in
+    omega arith
 
 add-i : tie.Need-add-i Inv-loop μ-loop
-add-i c = ?
+add-i c =
+    let at = c .before .before .before .before .before .before .before .before in
+    let rows = at .pre .0 in
+    let groups = at .pre .1 in
+    let sized = at .pre .2 in
+    let few = sized .gathered .few in
+    let low = count-low rows groups (sized .work) (at .args .next .now) (at .args .met .now) (sized .numbers) (at .args .count)
+    (sized .gathered) (sized .numbered) in
+    let i = c .before .before .before .before .before .loop .i in
+    let early : i < at .args .count = c .before .before .before .before .loop-test .taken in
+    let g-low = met-low (metGroups (treeOf rows) groups) (sized .numbered) i early in
+    let g-is = c .before .before .wide16 .ensures in
+    let many : c .how-many .result ≤ 64 =
+    omega (
+      arith,
+      c .how-many .ensures,
+      ones-le 64 (getD (at .args .next .now) (c .before .before .wide16 .result) 0)
+          (c .before .shared-slice-known4 .given (c .before .before .wide16 .result) .fits),
+    ) in
+    let before : c .before .before .before .before .before .loop .total ≤ 196 * i = c .before .before .before .before .before .loop .inv .0 in
+    omega arith
 
 loop-less : tie.Need-loop-less Inv-loop μ-loop
-loop-less c = ?
+loop-less c =
+    let at = c .before .before .before .before .before .before .before .before in
+    let rows = at .pre .0 in
+    let groups = at .pre .1 in
+    let sized = at .pre .2 in
+    let few = sized .gathered .few in
+    let low = count-low rows groups (sized .work) (at .args .next .now) (at .args .met .now) (sized .numbers) (at .args .count)
+    (sized .gathered) (sized .numbered) in
+    let i = c .before .before .before .before .before .loop .i in
+    let early : i < at .args .count = c .before .before .before .before .loop-test .taken in
+    omega arith
 
 loop-again : tie.Need-loop-again Inv-loop μ-loop
-loop-again c = ?
+loop-again c =
+    let at = c .before .before .before .before .before .before .before .before in
+    let rows = at .pre .0 in
+    let groups = at .pre .1 in
+    let sized = at .pre .2 in
+    let few = sized .gathered .few in
+    let low = count-low rows groups (sized .work) (at .args .next .now) (at .args .met .now) (sized .numbers) (at .args .count)
+    (sized .gathered) (sized .numbered) in
+    let i = c .before .before .before .before .before .loop .i in
+    let early : i < at .args .count = c .before .before .before .before .loop-test .taken in
+    let g-low = met-low (metGroups (treeOf rows) groups) (sized .numbered) i early in
+    let g-is = c .before .before .wide16 .ensures in
+    let many : c .how-many .result ≤ 64 =
+    omega (
+      arith,
+      c .how-many .ensures,
+      ones-le 64 (getD (at .args .next .now) (c .before .before .wide16 .result) 0)
+          (c .before .shared-slice-known4 .given (c .before .before .wide16 .result) .fits),
+    ) in
+    let before : c .before .before .before .before .before .loop .total ≤ 196 * i = c .before .before .before .before .before .loop .inv .0 in
+    (
+      omega arith,
+      λ rows′ groups′ r.
+          sized-more rows′ groups′ (at .args .next .now) (at .args .met .now) (at .args .count) r i (c .before .before .wide16 .result)
+          (c .before .before .before .before .before .loop .total) (c .how-many .result) early (c .before .before .wide16 .ensures) (c .how-many .ensures)
+          (c .before .before .before .before .before .loop .inv .1 rows′ groups′ r),
+    )
 
 returns : tie.Need-returns Inv-loop μ-loop
-returns c = ?
+returns c =
+    λ rows groups r.
+    omega (
+      arith,
+      c .before .loop .inv .1 rows groups r,
+      ap length (fields-none rows groups (c .before .loop .i) (omega (arith, r .numbered .counted, c .loop-test .left))),
+    )
 
 pub bytes-of-spec : {M : Type 1} → statement M
 bytes-of-spec =

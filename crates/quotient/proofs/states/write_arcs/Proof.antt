@@ -1,4 +1,6 @@
 -- `states::write_arcs` meets its contract: the arcs of what is left of the set are still to be written. Assumes nothing.
+use borrow.Author.Needs.{needs}
+use mathlib.Core.Path.{ap₂}
 use mathlib.Core.Path.{_≡_, refl, sym, ap, _∙_, subst}
 use mathlib.Core.List.{List, _++_}
 use Prim.Native.Nat.{ℕ, _+_, _-_, _<_, _≤_}
@@ -28,46 +30,119 @@ abbrev μ-loop : tie.MeasureT-loop
 μ-loop work row names numbers out₀ at left₀ end₀ out left end = left
 
 loop-holds : tie.Need-loop-holds Inv-loop μ-loop
-loop-holds c = ?
+loop-holds c =
+    let at = c .before .before .before in
+    λ bytes m. (bytes, m, left-all (at .args .out .now) (at .args .at) bytes)
 
 lowest-requires : tie.Need-lowest-requires Inv-loop μ-loop
-lowest-requires c κs = ?
+lowest-requires c κs =
+    search needs
 
 cell-requires : tie.Need-cell-requires Inv-loop μ-loop
-cell-requires c κs = ?
+cell-requires c κs =
+    let at = c .before .before .before .before .before .before in
+    let fits = at .pre .1 .2 in
+    let m = c .before .before .loop .inv (at .pre .1 .0) (at .pre .1 .1) in
+    let named = arcs-write-name (c .lowest .result) (m .1) (c .before .loop-test .taken) (c .lowest .ensures) in
+    (at .pre .0 .1, (named, at .pre .0 .0))
 
 narrow8-requires : tie.Need-narrow8-requires Inv-loop μ-loop
-narrow8-requires c κs = ?
+narrow8-requires c κs =
+    let at = c .before .before .before .before .before .before .before .before in
+    let fits = at .pre .1 .2 in
+    let m = c .before .before .before .before .loop .inv (at .pre .1 .0) (at .pre .1 .1) in
+    let named = arcs-write-name (c .before .before .lowest .result) (m .1) (c .before .before .before .loop-test .taken) (c .before .before .lowest .ensures) in
+    omega arith
 
 mul-wide16 : tie.Need-mul-wide16 Inv-loop μ-loop
-mul-wide16 c = ?
+mul-wide16 c =
+    let at = c .before .before .before .before .before .before .before .before .before in
+    let fits = at .pre .1 .2 in
+    let m = c .before .before .before .before .before .loop .inv (at .pre .1 .0) (at .pre .1 .1) in
+    let t = arcs-write-more (c .before .before .before .lowest .result) (c .before .before .cell .result) (m .1) (c .before .before .before .before .loop-test .taken)
+    (c .before .before .before .lowest .ensures) (c .before .before .cell .ensures .value) in
+    omega (arith, t .target-low, at .good .1 .1 .1 .0)
 
 shared-slice-read-wide16 : tie.Need-shared-slice-read-wide16 Inv-loop μ-loop
-shared-slice-read-wide16 c = ?
+shared-slice-read-wide16 c =
+    let at = c .before .before .before .before .before .before .before .before .before .before in
+    let fits = at .pre .1 .2 in
+    let m = c .before .before .before .before .before .before .loop .inv (at .pre .1 .0) (at .pre .1 .1) in
+    let t = arcs-write-more (c .before .before .before .before .lowest .result) (c .before .before .before .cell .result) (m .1) (c .before .before .before .before .before .loop-test .taken)
+    (c .before .before .before .before .lowest .ensures) (c .before .before .before .cell .ensures .value) in
+    t .target-low
 
 wide16-requires : tie.Need-wide16-requires Inv-loop μ-loop
-wide16-requires c κs = ?
+wide16-requires c κs =
+    search needs
 
 put-arc-requires : tie.Need-put-arc-requires Inv-loop μ-loop
-put-arc-requires c κs = ?
+put-arc-requires c κs =
+    let at = c .before .before .before .before .before .before .before .before .before .before .before in
+    let fits = at .pre .1 .2 in
+    let m = c .before .before .before .before .before .before .before .loop .inv (at .pre .1 .0) (at .pre .1 .1) in
+    let t = arcs-write-more (c .before .before .before .before .before .lowest .result) (c .before .before .before .before .cell .result) (m .1) (c .before .before .before .before .before .before .loop-test .taken)
+    (c .before .before .before .before .before .lowest .ensures) (c .before .before .before .before .cell .ensures .value) in
+    let target = c .before .before .before .before .cell .result in
+    let number = getD (at .args .numbers .now) target 0 in
+    let room = left-room (m .2) (arcPart (c .before .before .before .before .before .lowest .result) number) (t .rest) (t .bytes-are) fits in
+    (omega arith, omega (arith, c .wide16 .ensures, c .before .shared-slice-known3 .given target .fits))
 
 only-requires : tie.Need-only-requires Inv-loop μ-loop
-only-requires c κs = ?
+only-requires c κs =
+    let at = c .before .before .before .before .before .before .before .before .before .before .before .before .before .before in
+    let fits = at .pre .1 .2 in
+    let m = c .before .before .before .before .before .before .before .before .before .before .loop .inv (at .pre .1 .0) (at .pre .1 .1) in
+    let named = arcs-write-name (c .before .before .before .before .before .before .before .before .lowest .result) (m .1) (c .before .before .before .before .before .before .before .before .before .loop-test .taken) (c .before .before .before .before .before .before .before .before .lowest .ensures) in
+    named
 
 sub-left : tie.Need-sub-left Inv-loop μ-loop
-sub-left c = ?
+sub-left c =
+    let at = c .before .before .before .before .before .before .before .before .before .before .before .before .before .before .before in
+    let fits = at .pre .1 .2 in
+    let m = c .before .before .before .before .before .before .before .before .before .before .before .loop .inv (at .pre .1 .0) (at .pre .1 .1) in
+    let t = arcs-write-more (c .before .before .before .before .before .before .before .before .before .lowest .result) (c .before .before .before .before .before .before .before .before .cell .result) (m .1) (c .before .before .before .before .before .before .before .before .before .before .loop-test .taken)
+    (c .before .before .before .before .before .before .before .before .before .lowest .ensures) (c .before .before .before .before .before .before .before .before .cell .ensures .value) in
+    omega (arith, t .in-set, c .only .ensures)
 
 loop-less : tie.Need-loop-less Inv-loop μ-loop
-loop-less c = ?
+loop-less c =
+    let at = c .before .before .before .before .before .before .before .before .before .before .before .before .before .before .before in
+    let fits = at .pre .1 .2 in
+    let m = c .before .before .before .before .before .before .before .before .before .before .before .loop .inv (at .pre .1 .0) (at .pre .1 .1) in
+    let t = arcs-write-more (c .before .before .before .before .before .before .before .before .before .lowest .result) (c .before .before .before .before .before .before .before .before .cell .result) (m .1) (c .before .before .before .before .before .before .before .before .before .before .loop-test .taken)
+    (c .before .before .before .before .before .before .before .before .before .lowest .ensures) (c .before .before .before .before .before .before .before .before .cell .ensures .value) in
+    omega (arith, t .in-set, t .some, c .only .ensures)
 
 loop-again : tie.Need-loop-again Inv-loop μ-loop
-loop-again c = ?
+loop-again c =
+    let at = c .before .before .before .before .before .before .before .before .before .before .before .before .before .before .before in
+    let fits = at .pre .1 .2 in
+    let start-low : at .args .at ≤ length (at .args .out .now) = omega arith in
+    λ bytes given.
+    let m = c .before .before .before .before .before .before .before .before .before .before .before .loop .inv bytes given in
+    let t = arcs-write-more (c .before .before .before .before .before .before .before .before .before .lowest .result) (c .before .before .before .before .before .before .before .before .cell .result) (m .1) (c .before .before .before .before .before .before .before .before .before .before .loop-test .taken)
+    (c .before .before .before .before .before .before .before .before .before .lowest .ensures) (c .before .before .before .before .before .before .before .before .cell .ensures .value) in
+    (
+      t .rest,
+      t .after (c .only .result) (c .only .ensures),
+      left-more (m .2) (arcPart (c .before .before .before .before .before .before .narrow8 .result) (c .before .before .before .before .wide16 .result)) (t .rest) (c .before .before .before .put-arc .last .0) 3
+          (c .before .before .before .put-arc .result)
+          (t .bytes-are
+          ∙ ap₂ (λ (a b : ℕ). arcPart a b ++ t .rest) (sym (c .before .before .before .before .before .before .narrow8 .ensures)) (sym (c .before .before .before .before .wide16 .ensures)))
+          (c .before .before .before .put-arc .ensures) start-low,
+    )
 
 same-length : tie.Need-same-length Inv-loop μ-loop
-same-length c = ?
+same-length c =
+    let at = c .before .before .before .before .before in
+    left-length (c .before .loop .inv (at .pre .1 .0) (at .pre .1 .1) .2) (at .pre .1 .2)
 
 returns : tie.Need-returns Inv-loop μ-loop
-returns c = ?
+returns c =
+    λ bytes given.
+    let m = c .before .loop .inv bytes given in
+    left-none (m .2) (arcs-write-done (m .1) (c .loop-test .left))
 
 pub write-arcs-spec : {M : Type 1} → statement M
 write-arcs-spec =

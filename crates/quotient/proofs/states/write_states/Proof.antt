@@ -1,4 +1,6 @@
 -- `states::write_states` meets its contract: the fields from state i on are still to be written. Assumes nothing.
+use borrow.Author.Needs.{needs}
+use Rattle.quotient.proofs.StatePieces.{count-low}
 use mathlib.Core.Path.{_≡_, refl, sym, ap, _∙_, subst}
 use mathlib.Core.List.{List, _++_}
 use Prim.Native.Nat.{ℕ, _+_, _-_, _<_, _≤_}
@@ -29,43 +31,174 @@ abbrev μ-loop : tie.MeasureT-loop
 μ-loop work next accepting met numbers count out₀ at end₀ i₀ out end i = count - i
 
 loop-holds : tie.Need-loop-holds Inv-loop μ-loop
-loop-holds c = ?
+loop-holds c =
+    let at = c .before .before .before .before .before .before in
+    λ rows groups ready.
+    subst
+    (λ (left : List ℕ). BytesLeft (at .args .out .now) (at .args .out .now) (at .args .at) (at .args .at)
+    (stateFields (statesOf rows (treeOf rows) groups)) left)
+    (sym (fields-all rows groups))
+    (left-all (at .args .out .now) (at .args .at) (stateFields (statesOf rows (treeOf rows) groups)))
 
 mul-wide16 : tie.Need-mul-wide16 Inv-loop μ-loop
-mul-wide16 c = ?
+mul-wide16 c =
+    let at = c .before .before .before .before .before .before .before .before in
+    let rows = at .pre .0 in
+    let groups = at .pre .1 in
+    let ready = at .pre .2 in
+    let few = ready .gathered .few in
+    let low = count-low rows groups (at .args .work .now) (at .args .next .now) (at .args .met .now) (at .args .numbers .now)
+    (at .args .count) (ready .gathered) (ready .numbered) in
+    let i = c .before .loop .i in
+    let early : i < at .args .count = c .loop-test .taken in
+    omega arith
 
 shared-slice-read-wide16 : tie.Need-shared-slice-read-wide16 Inv-loop μ-loop
-shared-slice-read-wide16 c = ?
+shared-slice-read-wide16 c =
+    let at = c .before .before .before .before .before .before .before .before .before in
+    let rows = at .pre .0 in
+    let groups = at .pre .1 in
+    let ready = at .pre .2 in
+    let few = ready .gathered .few in
+    let low = count-low rows groups (at .args .work .now) (at .args .next .now) (at .args .met .now) (at .args .numbers .now)
+    (at .args .count) (ready .gathered) (ready .numbered) in
+    let i = c .before .before .loop .i in
+    let early : i < at .args .count = c .before .loop-test .taken in
+    omega (arith, ready .numbered .met-size)
 
 wide16-requires : tie.Need-wide16-requires Inv-loop μ-loop
-wide16-requires c κs = ?
+wide16-requires c κs =
+    search needs
 
 mul-write-state : tie.Need-mul-write-state Inv-loop μ-loop
-mul-write-state c = ?
+mul-write-state c =
+    let at = c .before .before .before .before .before .before .before .before .before .before in
+    let rows = at .pre .0 in
+    let groups = at .pre .1 in
+    let ready = at .pre .2 in
+    let few = ready .gathered .few in
+    let low = count-low rows groups (at .args .work .now) (at .args .next .now) (at .args .met .now) (at .args .numbers .now)
+    (at .args .count) (ready .gathered) (ready .numbered) in
+    let i = c .before .before .before .loop .i in
+    let early : i < at .args .count = c .before .before .loop-test .taken in
+    let g-low = met-low (metGroups (treeOf rows) groups) (ready .numbered) i early in
+    let g-is = c .wide16 .ensures in
+    omega arith
 
 shared-slice-read-write-state : tie.Need-shared-slice-read-write-state Inv-loop μ-loop
-shared-slice-read-write-state c = ?
+shared-slice-read-write-state c =
+    let at = c .before .before .before .before .before .before .before .before .before .before .before in
+    let rows = at .pre .0 in
+    let groups = at .pre .1 in
+    let ready = at .pre .2 in
+    let few = ready .gathered .few in
+    let low = count-low rows groups (at .args .work .now) (at .args .next .now) (at .args .met .now) (at .args .numbers .now)
+    (at .args .count) (ready .gathered) (ready .numbered) in
+    let i = c .before .before .before .before .loop .i in
+    let early : i < at .args .count = c .before .before .before .loop-test .taken in
+    let g-low = met-low (metGroups (treeOf rows) groups) (ready .numbered) i early in
+    let g-is = c .before .wide16 .ensures in
+    omega (arith, ready .gathered .next-size)
 
 shared-slice-read-write-state-2 : tie.Need-shared-slice-read-write-state-2 Inv-loop μ-loop
-shared-slice-read-write-state-2 c = ?
+shared-slice-read-write-state-2 c =
+    let at = c .before .before .before .before .before .before .before .before .before .before .before .before in
+    let rows = at .pre .0 in
+    let groups = at .pre .1 in
+    let ready = at .pre .2 in
+    let few = ready .gathered .few in
+    let low = count-low rows groups (at .args .work .now) (at .args .next .now) (at .args .met .now) (at .args .numbers .now)
+    (at .args .count) (ready .gathered) (ready .numbered) in
+    let i = c .before .before .before .before .before .loop .i in
+    let early : i < at .args .count = c .before .before .before .before .loop-test .taken in
+    let g-low = met-low (metGroups (treeOf rows) groups) (ready .numbered) i early in
+    let g-is = c .before .before .wide16 .ensures in
+    omega (arith, ready .marked .size)
 
 write-state-requires : tie.Need-write-state-requires Inv-loop μ-loop
-write-state-requires c κs = ?
+write-state-requires c κs =
+    let at = c .before .before .before .before .before .before .before .before .before .before .before .before .before in
+    let rows = at .pre .0 in
+    let groups = at .pre .1 in
+    let ready = at .pre .2 in
+    let few = ready .gathered .few in
+    let low = count-low rows groups (at .args .work .now) (at .args .next .now) (at .args .met .now) (at .args .numbers .now)
+    (at .args .count) (ready .gathered) (ready .numbered) in
+    let i = c .before .before .before .before .before .before .loop .i in
+    let early : i < at .args .count = c .before .before .before .before .before .loop-test .taken in
+    let g-low = met-low (metGroups (treeOf rows) groups) (ready .numbered) i early in
+    let g-is = c .before .before .before .wide16 .ensures in
+    let g = c .before .before .before .wide16 .result in
+    let next-field = fields-more rows groups (c .before .before .before .before .before .before .loop .i) (c .before .before .before .wide16 .result)
+    (omega (arith, ready .numbered .counted, c .before .before .before .before .before .loop-test .taken))
+    (c .before .before .before .wide16 .ensures ∙ met-nth (metGroups (treeOf rows) groups) (ready .numbered) (c .before .before .before .before .before .before .loop .i) (c .before .before .before .before .before .loop-test .taken)) in
+    (
+      (ready .gathered .work-size, omega arith),
+      (
+        fieldOf rows groups g,
+        state-ready rows groups (at .args .work .now) (at .args .next .now) (at .args .accepting .now) (at .args .met .now)
+    (at .args .numbers .now) (at .args .count) ready (c .before .before .before .before .before .before .loop .i) (c .before .before .before .wide16 .result)
+    (getD (at .args .next .now) (c .before .before .before .wide16 .result) 0) (getD (at .args .accepting .now) (c .before .before .before .wide16 .result) 0)
+    (c .before .before .before .before .before .loop-test .taken) (c .before .before .before .wide16 .ensures) refl refl,
+        left-room (c .before .before .before .before .before .before .loop .inv rows groups ready) (fieldOf rows groups g) (fieldsFrom rows groups (i + 1)) next-field (at .pre .3),
+      ),
+    )
 
 add-i : tie.Need-add-i Inv-loop μ-loop
-add-i c = ?
+add-i c =
+    let at = c .before .before .before .before .before .before .before .before .before .before .before .before .before .before .before .before in
+    let rows = at .pre .0 in
+    let groups = at .pre .1 in
+    let ready = at .pre .2 in
+    let few = ready .gathered .few in
+    let low = count-low rows groups (at .args .work .now) (at .args .next .now) (at .args .met .now) (at .args .numbers .now)
+    (at .args .count) (ready .gathered) (ready .numbered) in
+    let i = c .before .before .before .before .before .before .before .before .before .loop .i in
+    let early : i < at .args .count = c .before .before .before .before .before .before .before .before .loop-test .taken in
+    omega arith
 
 loop-less : tie.Need-loop-less Inv-loop μ-loop
-loop-less c = ?
+loop-less c =
+    let at = c .before .before .before .before .before .before .before .before .before .before .before .before .before .before .before .before in
+    let rows = at .pre .0 in
+    let groups = at .pre .1 in
+    let ready = at .pre .2 in
+    let few = ready .gathered .few in
+    let low = count-low rows groups (at .args .work .now) (at .args .next .now) (at .args .met .now) (at .args .numbers .now)
+    (at .args .count) (ready .gathered) (ready .numbered) in
+    let i = c .before .before .before .before .before .before .before .before .before .loop .i in
+    let early : i < at .args .count = c .before .before .before .before .before .before .before .before .loop-test .taken in
+    omega arith
 
 loop-again : tie.Need-loop-again Inv-loop μ-loop
-loop-again c = ?
+loop-again c =
+    let at = c .before .before .before .before .before .before .before .before .before .before .before .before .before .before .before .before in
+    let fits = at .pre .3 in
+    let start-low : at .args .at ≤ length (at .args .out .now) = omega arith in
+    λ rows groups ready.
+    let g = c .before .before .before .before .before .before .wide16 .result in
+    left-more (c .before .before .before .before .before .before .before .before .before .loop .inv rows groups ready) (fieldOf rows groups g) (fieldsFrom rows groups (c .before .before .before .before .before .before .before .before .before .loop .i + 1))
+    (c .before .before .write-state .last .1 .1 .1 .1 .1 .0) (length (fieldOf rows groups g)) (c .before .before .write-state .result)
+    (fields-more rows groups (c .before .before .before .before .before .before .before .before .before .loop .i) (c .before .before .before .before .before .before .wide16 .result)
+    (omega (arith, ready .numbered .counted, c .before .before .before .before .before .before .before .before .loop-test .taken))
+    (c .before .before .before .before .before .before .wide16 .ensures ∙ met-nth (metGroups (treeOf rows) groups) (ready .numbered) (c .before .before .before .before .before .before .before .before .before .loop .i) (c .before .before .before .before .before .before .before .before .loop-test .taken)))
+    (c .before .before .write-state .ensures (fieldOf rows groups g)
+    (state-ready rows groups (at .args .work .now) (at .args .next .now) (at .args .accepting .now) (at .args .met .now)
+    (at .args .numbers .now) (at .args .count) ready (c .before .before .before .before .before .before .before .before .before .loop .i) (c .before .before .before .before .before .before .wide16 .result)
+    (getD (at .args .next .now) (c .before .before .before .before .before .before .wide16 .result) 0) (getD (at .args .accepting .now) (c .before .before .before .before .before .before .wide16 .result) 0)
+    (c .before .before .before .before .before .before .before .before .loop-test .taken) (c .before .before .before .before .before .before .wide16 .ensures) refl refl))
+    start-low
 
 same-length : tie.Need-same-length Inv-loop μ-loop
-same-length c = ?
+same-length c =
+    let at = c .before .before .before .before .before .before .before .before in
+    left-length (c .before .loop .inv (at .pre .0) (at .pre .1) (at .pre .2)) (at .pre .3)
 
 returns : tie.Need-returns Inv-loop μ-loop
-returns c = ?
+returns c =
+    λ rows groups ready.
+    left-none (c .before .loop .inv rows groups ready)
+    (fields-none rows groups (c .before .loop .i) (omega (arith, ready .numbered .counted, c .loop-test .left)))
 
 pub write-states-spec : {M : Type 1} → statement M
 write-states-spec =

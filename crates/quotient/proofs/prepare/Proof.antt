@@ -1,0 +1,99 @@
+-- `prepare` meets its contract: what each step leaves is what the next needs. Assumes nothing.
+use mathlib.Core.Path.{sym, _∙_}
+use Rattle.model.specs.Joinings.{treeOf}
+use Rattle.model.proofs.Trees.{treeOf-tree}
+use Rattle.model.proofs.FirstMet.{states-length}
+use Rattle.quotient.proofs.TreeArcs.{labels-fit}
+use borrow.Author.Needs.{needs}
+use Rattle.quotient.proofs.prepare.Statement.{statement}
+use Rattle.quotient.proofs.prepare.Tie as tie
+use Rattle.quotient.proofs.prepare.Reads as reads
+use Rattle.quotient.proofs.prepare.Lts as lts
+use Rattle.quotient.proofs.gathering.gather.Reads as gather-reads
+use Rattle.quotient.proofs.gathering.mark_accepting.Reads as mark-accepting-reads
+use Rattle.quotient.proofs.numbering.number.Reads as number-reads
+use Rattle.quotient.proofs.states.bytes_of.Reads as bytes-of-reads
+
+gather-requires : tie.Need-gather-requires
+gather-requires c κs = search needs
+
+mark-accepting-requires : tie.Need-mark-accepting-requires
+mark-accepting-requires c κs = search needs
+
+number-requires : tie.Need-number-requires
+number-requires c κs =
+    let at = c .before .before .before .before .before .before .before .before .before .before .before .before .before .before .before .before .before .before .before .before .before .before .before .before in
+    ((at .pre .0 .0, c .before .before .before .before .before .before .before .before .before .before .before .before .gather .ensures (at .pre .0 .0) (at .pre .0 .1)), at .pre .1 .1 .1)
+
+bytes-of-requires : tie.Need-bytes-of-requires
+bytes-of-requires c κs =
+    let at = c .before .before .before .before .before .before .before .before .before .before .before .before .before .before .before .before .before .before .before .before .before .before .before .before .before .before .before .before .before .before .before in
+    let rows = at .pre .0 .0 in
+    let gathered = c .before .before .before .before .before .before .before .before .before .before .before .before .before .before .before .before .before .before .before .gather .ensures rows (at .pre .0 .1) in
+    (
+      rows,
+      at .args .groups .now,
+      record {
+        work = c .before .before .before .before .before .before .before .before .before .before .before .before .before .before .before .before .before .before .before .gather .last .1 .1 .1 .0;
+        numbers = c .before .before .before .before .before .before .number .last .1 .1 .1 .1 .0;
+        gathered = gathered;
+        numbered = c .before .before .before .before .before .before .number .ensures rows gathered;
+      },
+    )
+
+same-length : tie.Need-same-length
+same-length c = search needs
+
+same-length-2 : tie.Need-same-length-2
+same-length-2 c = search needs
+
+same-length-3 : tie.Need-same-length-3
+same-length-3 c = search needs
+
+same-length-4 : tie.Need-same-length-4
+same-length-4 c = search needs
+
+same-length-5 : tie.Need-same-length-5
+same-length-5 c = search needs
+
+returns : tie.Need-returns
+returns c =
+    let at = c .before .before .before .before .before .before .before .before .before .before .before .before .before .before .before .before .before .before .before .before .before .before .before .before .before .before .before .before .before .before .before .before in
+    λ rows joined told.
+    let gathered = c .before .before .before .before .before .before .before .before .before .before .before .before .before .before .before .before .before .before .before .before .gather .ensures rows joined in
+    let numbered = c .before .before .before .before .before .before .before .number .ensures rows gathered in
+    let groups = at .args .groups .now in
+    record {
+      ready =
+          record {
+            gathered = gathered;
+            marked = c .before .before .before .before .before .before .before .before .before .before .before .before .before .before .mark-accepting .ensures rows told (joined .labels);
+            numbered = numbered;
+          };
+      counted =
+          numbered .counted
+          ∙ sym (states-length (treeOf rows) groups (treeOf-tree rows) (labels-fit rows groups (joined .labels)) rows);
+      sized =
+          c .bytes-of .ensures rows groups
+          (record {
+            work = c .before .before .before .before .before .before .before .before .before .before .before .before .before .before .before .before .before .before .before .before .gather .last .1 .1 .1 .0;
+            numbers = c .before .before .before .before .before .before .before .number .last .1 .1 .1 .1 .0;
+            gathered = gathered;
+            numbered = numbered;
+          });
+    }
+
+pub prepare-spec : {M : Type 1} → statement M
+prepare-spec =
+    tie.close
+    (tie.spec
+    gather-requires
+    mark-accepting-requires
+    number-requires
+    bytes-of-requires
+    same-length
+    same-length-2
+    same-length-3
+    same-length-4
+    same-length-5
+    returns)
