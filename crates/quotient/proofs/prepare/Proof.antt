@@ -7,12 +7,6 @@ use Rattle.quotient.proofs.TreeArcs.{labels-fit}
 use borrow.Author.Needs.{needs}
 use Rattle.quotient.proofs.prepare.Statement.{statement}
 use Rattle.quotient.proofs.prepare.Tie as tie
-use Rattle.quotient.proofs.prepare.Reads as reads
-use Rattle.quotient.proofs.prepare.Lts as lts
-use Rattle.quotient.proofs.gathering.gather.Reads as gather-reads
-use Rattle.quotient.proofs.gathering.mark_accepting.Reads as mark-accepting-reads
-use Rattle.quotient.proofs.numbering.number.Reads as number-reads
-use Rattle.quotient.proofs.states.bytes_of.Reads as bytes-of-reads
 
 gather-requires : tie.Need-gather-requires
 gather-requires c κs = search needs

@@ -8,13 +8,6 @@ use lib.ListN.{length, getD, length-set}
 use Rattle.quotient.proofs.ArcPass.{GatheredUpTo, gather-start, from-low, name-low, gathered-more, gather-end}
 use Rattle.quotient.proofs.gathering.gather.Statement.{statement}
 use Rattle.quotient.proofs.gathering.gather.Tie as tie
-use Rattle.quotient.proofs.gathering.gather.Reads as reads
-use Rattle.quotient.proofs.gathering.gather.Lts as lts
-use Rattle.cells.proofs.numbers.wide16.Reads as wide16-reads
-use Rattle.cells.proofs.numbers.wide8.Reads as wide8-reads
-use Rattle.cells.proofs.set_cell.Reads as set-cell-reads
-use Rattle.quotient.proofs.sets.clear.Reads as clear-reads
-use Rattle.quotient.proofs.sets.put.Reads as put-reads
 
 abbrev Inv-loop : tie.InvT-loop
 Inv-loop parents names groups work₀ next₀ v₀ work next v =

@@ -9,12 +9,6 @@ use Rattle.quotient.specs.Numbered.{MetAs, Meeting}
 use Rattle.quotient.proofs.MetLaws.{MeetingMore, meeting-name, meeting-more, meeting-done}
 use Rattle.quotient.proofs.numbering.meet.Statement.{statement}
 use Rattle.quotient.proofs.numbering.meet.Tie as tie
-use Rattle.quotient.proofs.numbering.meet.Reads as reads
-use Rattle.quotient.proofs.numbering.meet.Lts as lts
-use Rattle.cells.proofs.cell.Reads as cell-reads
-use Rattle.quotient.proofs.numbering.meet_one.Reads as meet-one-reads
-use Rattle.quotient.proofs.sets.lowest.Reads as lowest-reads
-use Rattle.quotient.proofs.sets.only.Reads as only-reads
 
 abbrev Inv-loop : tie.InvT-loop
 Inv-loop work row names met₀ numbers₀ count left₀ reached₀ met numbers left reached =

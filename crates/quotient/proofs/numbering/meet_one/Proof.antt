@@ -4,9 +4,6 @@ use Rattle.quotient.proofs.MetLaws.{meet-old, meet-room, meet-new}
 use borrow.Author.Needs.{needs}
 use Rattle.quotient.proofs.numbering.meet_one.Statement.{statement}
 use Rattle.quotient.proofs.numbering.meet_one.Tie as tie
-use Rattle.quotient.proofs.numbering.meet_one.Reads as reads
-use Rattle.quotient.proofs.numbering.meet_one.Lts as lts
-use Rattle.cells.proofs.numbers.narrow16.Reads as narrow16-reads
 
 mul-number : tie.Need-mul-number
 mul-number c = search needs

@@ -15,12 +15,6 @@ use Rattle.quotient.specs.Numbered.{MetAs, MeetingOne, Meeting}
 use Rattle.quotient.proofs.MetLaws.{Numbering, Look, met-low, root-meeting, numbering-start, numbering-more, numbering-end}
 use Rattle.quotient.proofs.numbering.number.Statement.{statement}
 use Rattle.quotient.proofs.numbering.number.Tie as tie
-use Rattle.quotient.proofs.numbering.number.Reads as reads
-use Rattle.quotient.proofs.numbering.number.Lts as lts
-use Rattle.cells.proofs.numbers.wide16.Reads as wide16-reads
-use Rattle.quotient.proofs.numbering.meet.Reads as meet-reads
-use Rattle.quotient.proofs.numbering.meet_one.Reads as meet-one-reads
-use Rattle.quotient.proofs.numbering.none_met.Reads as none-met-reads
 
 abbrev Inv-loop : tie.InvT-loop
 Inv-loop groups work next met₀ numbers₀ count₀ i₀ met numbers count i =

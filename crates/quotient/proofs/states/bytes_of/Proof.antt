@@ -16,10 +16,6 @@ use Rattle.quotient.proofs.MetLaws.{met-nth, met-low}
 use Rattle.quotient.proofs.StatePieces.{fieldsFrom, fieldOf, fields-all, fields-more, fields-none, field-length}
 use Rattle.quotient.proofs.states.bytes_of.Statement.{statement}
 use Rattle.quotient.proofs.states.bytes_of.Tie as tie
-use Rattle.quotient.proofs.states.bytes_of.Reads as reads
-use Rattle.quotient.proofs.states.bytes_of.Lts as lts
-use Rattle.cells.proofs.numbers.wide16.Reads as wide16-reads
-use Rattle.quotient.proofs.sets.how_many.Reads as how-many-reads
 
 abbrev Inv-loop : tie.InvT-loop
 Inv-loop next met count total₀ i₀ total i =

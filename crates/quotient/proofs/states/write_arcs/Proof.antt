@@ -1,25 +1,16 @@
 -- `states::write_arcs` meets its contract: the arcs of what is left of the set are still to be written. Assumes nothing.
 use borrow.Author.Needs.{needs}
-use mathlib.Core.Path.{ap₂}
-use mathlib.Core.Path.{_≡_, refl, sym, ap, _∙_, subst}
+use mathlib.Core.Path.{_≡_, sym, ap₂, _∙_}
 use mathlib.Core.List.{List, _++_}
-use Prim.Native.Nat.{ℕ, _+_, _-_, _<_, _≤_}
+use Prim.Native.Nat.{ℕ, _≤_}
 use native.Mathlib.Omega.{arith}
 use lib.ListN.{length, getD}
-use Rattle.writing.specs.Writing.{Put, arcPart}
+use Rattle.writing.specs.Writing.{arcPart}
 use Rattle.quotient.specs.Ready.{ArcsToWrite}
 use Rattle.quotient.proofs.BytesLeft.{BytesLeft, left-all, left-more, left-length, left-room, left-none}
-use Rattle.quotient.proofs.StatePieces.{ArcsToWriteMore, arcs-write-name, arcs-write-more, arcs-write-done}
+use Rattle.quotient.proofs.StatePieces.{arcs-write-name, arcs-write-more, arcs-write-done}
 use Rattle.quotient.proofs.states.write_arcs.Statement.{statement}
 use Rattle.quotient.proofs.states.write_arcs.Tie as tie
-use Rattle.quotient.proofs.states.write_arcs.Reads as reads
-use Rattle.quotient.proofs.states.write_arcs.Lts as lts
-use Rattle.cells.proofs.cell.Reads as cell-reads
-use Rattle.cells.proofs.numbers.narrow8.Reads as narrow8-reads
-use Rattle.cells.proofs.numbers.wide16.Reads as wide16-reads
-use Rattle.quotient.proofs.sets.lowest.Reads as lowest-reads
-use Rattle.quotient.proofs.sets.only.Reads as only-reads
-use Rattle.writing.proofs.put_arc.Reads as put-arc-reads
 
 abbrev Inv-loop : tie.InvT-loop
 Inv-loop work row names numbers out₀ at left₀ end₀ out left end =
@@ -46,90 +37,77 @@ cell-requires c κs =
     let named = arcs-write-name (c .lowest .result) (m .1) (c .before .loop-test .taken) (c .lowest .ensures) in
     (at .pre .0 .1, (named, at .pre .0 .0))
 
+number-of-requires : tie.Need-number-of-requires Inv-loop μ-loop
+number-of-requires c κs =
+    let at = c .before .before .before .before .before .before .before in
+    let fits = at .pre .1 .2 in
+    let m = c .before .before .before .loop .inv (at .pre .1 .0) (at .pre .1 .1) in
+    let t = arcs-write-more (c .before .lowest .result) (c .cell .result) (m .1) (c .before .before .loop-test .taken)
+    (c .before .lowest .ensures) (c .cell .ensures .value) in
+    t .target-low
+
 narrow8-requires : tie.Need-narrow8-requires Inv-loop μ-loop
 narrow8-requires c κs =
-    let at = c .before .before .before .before .before .before .before .before in
-    let fits = at .pre .1 .2 in
-    let m = c .before .before .before .before .loop .inv (at .pre .1 .0) (at .pre .1 .1) in
-    let named = arcs-write-name (c .before .before .lowest .result) (m .1) (c .before .before .before .loop-test .taken) (c .before .before .lowest .ensures) in
-    omega arith
-
-mul-wide16 : tie.Need-mul-wide16 Inv-loop μ-loop
-mul-wide16 c =
     let at = c .before .before .before .before .before .before .before .before .before in
     let fits = at .pre .1 .2 in
     let m = c .before .before .before .before .before .loop .inv (at .pre .1 .0) (at .pre .1 .1) in
-    let t = arcs-write-more (c .before .before .before .lowest .result) (c .before .before .cell .result) (m .1) (c .before .before .before .before .loop-test .taken)
-    (c .before .before .before .lowest .ensures) (c .before .before .cell .ensures .value) in
-    omega (arith, t .target-low, at .good .1 .1 .1 .0)
+    let named = arcs-write-name (c .before .before .before .lowest .result) (m .1) (c .before .before .before .before .loop-test .taken) (c .before .before .before .lowest .ensures) in
+    omega arith
 
-shared-slice-read-wide16 : tie.Need-shared-slice-read-wide16 Inv-loop μ-loop
-shared-slice-read-wide16 c =
+put-arc-requires : tie.Need-put-arc-requires Inv-loop μ-loop
+put-arc-requires c κs =
     let at = c .before .before .before .before .before .before .before .before .before .before in
     let fits = at .pre .1 .2 in
     let m = c .before .before .before .before .before .before .loop .inv (at .pre .1 .0) (at .pre .1 .1) in
     let t = arcs-write-more (c .before .before .before .before .lowest .result) (c .before .before .before .cell .result) (m .1) (c .before .before .before .before .before .loop-test .taken)
     (c .before .before .before .before .lowest .ensures) (c .before .before .before .cell .ensures .value) in
-    t .target-low
-
-wide16-requires : tie.Need-wide16-requires Inv-loop μ-loop
-wide16-requires c κs =
-    search needs
-
-put-arc-requires : tie.Need-put-arc-requires Inv-loop μ-loop
-put-arc-requires c κs =
-    let at = c .before .before .before .before .before .before .before .before .before .before .before in
-    let fits = at .pre .1 .2 in
-    let m = c .before .before .before .before .before .before .before .loop .inv (at .pre .1 .0) (at .pre .1 .1) in
-    let t = arcs-write-more (c .before .before .before .before .before .lowest .result) (c .before .before .before .before .cell .result) (m .1) (c .before .before .before .before .before .before .loop-test .taken)
-    (c .before .before .before .before .before .lowest .ensures) (c .before .before .before .before .cell .ensures .value) in
-    let target = c .before .before .before .before .cell .result in
-    let number = getD (at .args .numbers .now) target 0 in
-    let room = left-room (m .2) (arcPart (c .before .before .before .before .before .lowest .result) number) (t .rest) (t .bytes-are) fits in
-    (omega arith, omega (arith, c .wide16 .ensures, c .before .shared-slice-known3 .given target .fits))
+    let group = c .before .before .before .cell .result in
+    let number = getD (at .args .numbers .now) group 0 in
+    let room = left-room (m .2) (arcPart (c .before .before .before .before .lowest .result) number) (t .rest) (t .bytes-are) fits in
+    (omega arith, omega (arith, c .before .before .number-of .ensures, c .before .before .before .before .before .before .before .before .shared-slice-known2 .given group .fits))
 
 only-requires : tie.Need-only-requires Inv-loop μ-loop
 only-requires c κs =
-    let at = c .before .before .before .before .before .before .before .before .before .before .before .before .before .before in
+    let at = c .before .before .before .before .before .before .before .before .before .before .before .before .before in
     let fits = at .pre .1 .2 in
-    let m = c .before .before .before .before .before .before .before .before .before .before .loop .inv (at .pre .1 .0) (at .pre .1 .1) in
-    let named = arcs-write-name (c .before .before .before .before .before .before .before .before .lowest .result) (m .1) (c .before .before .before .before .before .before .before .before .before .loop-test .taken) (c .before .before .before .before .before .before .before .before .lowest .ensures) in
+    let m = c .before .before .before .before .before .before .before .before .before .loop .inv (at .pre .1 .0) (at .pre .1 .1) in
+    let named = arcs-write-name (c .before .before .before .before .before .before .before .lowest .result) (m .1) (c .before .before .before .before .before .before .before .before .loop-test .taken) (c .before .before .before .before .before .before .before .lowest .ensures) in
     named
 
 sub-left : tie.Need-sub-left Inv-loop μ-loop
 sub-left c =
-    let at = c .before .before .before .before .before .before .before .before .before .before .before .before .before .before .before in
+    let at = c .before .before .before .before .before .before .before .before .before .before .before .before .before .before in
     let fits = at .pre .1 .2 in
-    let m = c .before .before .before .before .before .before .before .before .before .before .before .loop .inv (at .pre .1 .0) (at .pre .1 .1) in
-    let t = arcs-write-more (c .before .before .before .before .before .before .before .before .before .lowest .result) (c .before .before .before .before .before .before .before .before .cell .result) (m .1) (c .before .before .before .before .before .before .before .before .before .before .loop-test .taken)
-    (c .before .before .before .before .before .before .before .before .before .lowest .ensures) (c .before .before .before .before .before .before .before .before .cell .ensures .value) in
+    let m = c .before .before .before .before .before .before .before .before .before .before .loop .inv (at .pre .1 .0) (at .pre .1 .1) in
+    let t = arcs-write-more (c .before .before .before .before .before .before .before .before .lowest .result) (c .before .before .before .before .before .before .before .cell .result) (m .1) (c .before .before .before .before .before .before .before .before .before .loop-test .taken)
+    (c .before .before .before .before .before .before .before .before .lowest .ensures) (c .before .before .before .before .before .before .before .cell .ensures .value) in
     omega (arith, t .in-set, c .only .ensures)
 
 loop-less : tie.Need-loop-less Inv-loop μ-loop
 loop-less c =
-    let at = c .before .before .before .before .before .before .before .before .before .before .before .before .before .before .before in
+    let at = c .before .before .before .before .before .before .before .before .before .before .before .before .before .before in
     let fits = at .pre .1 .2 in
-    let m = c .before .before .before .before .before .before .before .before .before .before .before .loop .inv (at .pre .1 .0) (at .pre .1 .1) in
-    let t = arcs-write-more (c .before .before .before .before .before .before .before .before .before .lowest .result) (c .before .before .before .before .before .before .before .before .cell .result) (m .1) (c .before .before .before .before .before .before .before .before .before .before .loop-test .taken)
-    (c .before .before .before .before .before .before .before .before .before .lowest .ensures) (c .before .before .before .before .before .before .before .before .cell .ensures .value) in
+    let m = c .before .before .before .before .before .before .before .before .before .before .loop .inv (at .pre .1 .0) (at .pre .1 .1) in
+    let t = arcs-write-more (c .before .before .before .before .before .before .before .before .lowest .result) (c .before .before .before .before .before .before .before .cell .result) (m .1) (c .before .before .before .before .before .before .before .before .before .loop-test .taken)
+    (c .before .before .before .before .before .before .before .before .lowest .ensures) (c .before .before .before .before .before .before .before .cell .ensures .value) in
     omega (arith, t .in-set, t .some, c .only .ensures)
 
 loop-again : tie.Need-loop-again Inv-loop μ-loop
 loop-again c =
-    let at = c .before .before .before .before .before .before .before .before .before .before .before .before .before .before .before in
+    let at = c .before .before .before .before .before .before .before .before .before .before .before .before .before .before in
     let fits = at .pre .1 .2 in
     let start-low : at .args .at ≤ length (at .args .out .now) = omega arith in
     λ bytes given.
-    let m = c .before .before .before .before .before .before .before .before .before .before .before .loop .inv bytes given in
-    let t = arcs-write-more (c .before .before .before .before .before .before .before .before .before .lowest .result) (c .before .before .before .before .before .before .before .before .cell .result) (m .1) (c .before .before .before .before .before .before .before .before .before .before .loop-test .taken)
-    (c .before .before .before .before .before .before .before .before .before .lowest .ensures) (c .before .before .before .before .before .before .before .before .cell .ensures .value) in
+    let m = c .before .before .before .before .before .before .before .before .before .before .loop .inv bytes given in
+    let t = arcs-write-more (c .before .before .before .before .before .before .before .before .lowest .result) (c .before .before .before .before .before .before .before .cell .result) (m .1) (c .before .before .before .before .before .before .before .before .before .loop-test .taken)
+    (c .before .before .before .before .before .before .before .before .lowest .ensures) (c .before .before .before .before .before .before .before .cell .ensures .value) in
     (
       t .rest,
       t .after (c .only .result) (c .only .ensures),
-      left-more (m .2) (arcPart (c .before .before .before .before .before .before .narrow8 .result) (c .before .before .before .before .wide16 .result)) (t .rest) (c .before .before .before .put-arc .last .0) 3
+      left-more (m .2) (arcPart (c .before .before .before .before .narrow8 .result) (c .before .before .before .before .before .before .number-of .result)) (t .rest) (c .before .before .before .put-arc .last .0) 3
           (c .before .before .before .put-arc .result)
           (t .bytes-are
-          ∙ ap₂ (λ (a b : ℕ). arcPart a b ++ t .rest) (sym (c .before .before .before .before .before .before .narrow8 .ensures)) (sym (c .before .before .before .before .wide16 .ensures)))
+          ∙ ap₂ (λ (a b : ℕ). arcPart a b ++ t .rest) (sym (c .before .before .before .before .narrow8 .ensures)) (sym (c .before .before .before .before .before .before .number-of .ensures)))
           (c .before .before .before .put-arc .ensures) start-low,
     )
 
@@ -153,10 +131,8 @@ write-arcs-spec =
     loop-holds
     lowest-requires
     cell-requires
+    number-of-requires
     narrow8-requires
-    mul-wide16
-    shared-slice-read-wide16
-    wide16-requires
     put-arc-requires
     only-requires
     sub-left

@@ -12,11 +12,6 @@ use Rattle.quotient.proofs.StatePieces.{state-parts}
 use borrow.Author.Needs.{needs}
 use Rattle.quotient.proofs.states.write_state.Statement.{statement}
 use Rattle.quotient.proofs.states.write_state.Tie as tie
-use Rattle.quotient.proofs.states.write_state.Reads as reads
-use Rattle.quotient.proofs.states.write_state.Lts as lts
-use Rattle.quotient.proofs.sets.how_many.Reads as how-many-reads
-use Rattle.quotient.proofs.states.write_arcs.Reads as write-arcs-reads
-use Rattle.writing.proofs.put_state.Reads as put-state-reads
 
 how-many-requires : tie.Need-how-many-requires
 how-many-requires c κs = search needs

@@ -17,10 +17,6 @@ use Rattle.quotient.proofs.MetLaws.{met-nth, met-low}
 use Rattle.quotient.proofs.StatePieces.{fieldsFrom, fieldOf, fields-all, fields-more, fields-none, state-ready}
 use Rattle.quotient.proofs.states.write_states.Statement.{statement}
 use Rattle.quotient.proofs.states.write_states.Tie as tie
-use Rattle.quotient.proofs.states.write_states.Reads as reads
-use Rattle.quotient.proofs.states.write_states.Lts as lts
-use Rattle.cells.proofs.numbers.wide16.Reads as wide16-reads
-use Rattle.quotient.proofs.states.write_state.Reads as write-state-reads
 
 abbrev Inv-loop : tie.InvT-loop
 Inv-loop work next accepting met numbers count out₀ at end₀ i₀ out end i =
