@@ -23,10 +23,10 @@ use Rattle.model.proofs.Trees.{treeOf-tree}
 use Rattle.cells.specs.Cells.{cellAt}
 use Rattle.writing.specs.Writing.{stateHead, arcPart}
 use Rattle.writing.proofs.Pieces.{state-bytes, state-bytes-length, arc-bytes-cons}
-use Rattle.quotient.specs.Gathered.{ArcsAt, Gathered, Accepting}
+use Rattle.quotient.specs.Gathered.{ArcsAt, Gathered}
 use Rattle.quotient.specs.Numbered.{MetAs}
 use Rattle.quotient.specs.Ready.{Ready, Sized, ArcsToWrite, StateToWrite}
-use Rattle.quotient.proofs.ArcSets.{ArcsMore, arcs-more, arcs-done, arcs-counted}
+use Rattle.quotient.proofs.ArcSets.{arcs-more, arcs-done, arcs-counted}
 use Rattle.quotient.proofs.MetLaws.{met-nth, met-low}
 use Rattle.quotient.proofs.TreeArcs.{labels-fit}
 

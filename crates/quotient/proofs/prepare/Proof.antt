@@ -16,22 +16,25 @@ mark-accepting-requires c κs = search needs
 
 number-requires : tie.Need-number-requires
 number-requires c κs =
-    let at = c .before .before .before .before .before .before .before .before .before .before .before .before .before .before .before .before .before .before .before .before .before .before .before .before in
-    ((at .pre .0 .0, c .before .before .before .before .before .before .before .before .before .before .before .before .gather .ensures (at .pre .0 .0) (at .pre .0 .1)), at .pre .1 .1 .1)
+    let early = c .before .before .before .before .before .before .before .before .before .before .before .before in
+    let gathered = early .gather in
+    let at = early .before .before .before .before .before .before .before .before .before .before .before .before in
+    ((at .pre .0 .0, gathered .ensures (at .pre .0 .0) (at .pre .0 .1)), at .pre .1 .1 .1)
 
 bytes-of-requires : tie.Need-bytes-of-requires
 bytes-of-requires c κs =
-    let at = c .before .before .before .before .before .before .before .before .before .before .before .before .before .before .before .before .before .before .before .before .before .before .before .before .before .before .before .before .before .before .before in
+    let numbered = c .before .before .before .before .before .before in
+    let after-gather = numbered .before .before .before .before .before .before .before .before .before .before .before .before .before in
+    let at = after-gather .before .before .before .before .before .before .before .before .before .before .before .before in
     let rows = at .pre .0 .0 in
-    let gathered = c .before .before .before .before .before .before .before .before .before .before .before .before .before .before .before .before .before .before .before .gather .ensures rows (at .pre .0 .1) in
-    (
+    let gathered = after-gather .gather .ensures rows (at .pre .0 .1) in (
       rows,
       at .args .groups .now,
       record {
-        work = c .before .before .before .before .before .before .before .before .before .before .before .before .before .before .before .before .before .before .before .gather .last .1 .1 .1 .0;
-        numbers = c .before .before .before .before .before .before .number .last .1 .1 .1 .1 .0;
+        work = after-gather .gather .last .1 .1 .1 .0;
+        numbers = numbered .number .last .1 .1 .1 .1 .0;
         gathered = gathered;
-        numbered = c .before .before .before .before .before .before .number .ensures rows gathered;
+        numbered = numbered .number .ensures rows gathered;
       },
     )
 
@@ -52,16 +55,19 @@ same-length-5 c = search needs
 
 returns : tie.Need-returns
 returns c =
-    let at = c .before .before .before .before .before .before .before .before .before .before .before .before .before .before .before .before .before .before .before .before .before .before .before .before .before .before .before .before .before .before .before .before in
-    λ rows joined told.
-    let gathered = c .before .before .before .before .before .before .before .before .before .before .before .before .before .before .before .before .before .before .before .before .gather .ensures rows joined in
-    let numbered = c .before .before .before .before .before .before .before .number .ensures rows gathered in
+    let after-number = c .before .before .before .before .before .before .before in
+    let after-marking = after-number .before .before .before .before .before .before .before in
+    let after-gather = after-marking .before .before .before .before .before .before in
+    let at = after-gather .before .before .before .before .before .before .before .before .before .before .before .before in
     let groups = at .args .groups .now in
+    λ rows joined told.
+    let gathered = after-gather .gather .ensures rows joined in
+    let numbered = after-number .number .ensures rows gathered in
     record {
       ready =
           record {
             gathered = gathered;
-            marked = c .before .before .before .before .before .before .before .before .before .before .before .before .before .before .mark-accepting .ensures rows told (joined .labels);
+            marked = after-marking .mark-accepting .ensures rows told (joined .labels);
             numbered = numbered;
           };
       counted =
@@ -70,8 +76,8 @@ returns c =
       sized =
           c .bytes-of .ensures rows groups
           (record {
-            work = c .before .before .before .before .before .before .before .before .before .before .before .before .before .before .before .before .before .before .before .before .gather .last .1 .1 .1 .0;
-            numbers = c .before .before .before .before .before .before .before .number .last .1 .1 .1 .1 .0;
+            work = after-gather .gather .last .1 .1 .1 .0;
+            numbers = after-number .number .last .1 .1 .1 .1 .0;
             gathered = gathered;
             numbered = numbered;
           });

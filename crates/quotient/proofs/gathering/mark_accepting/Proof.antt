@@ -3,7 +3,7 @@ use borrow.Author.Needs.{needs}
 use mathlib.Core.Path.{_≡_, refl, _∙_}
 use Prim.Native.Nat.{_-_, _<_, _≤_}
 use native.Mathlib.Omega.{arith}
-use lib.ListN.{length, getD, length-set}
+use lib.ListN.{length, length-set}
 use Rattle.quotient.proofs.TreeArcs.{label-low}
 use Rattle.quotient.proofs.AcceptPass.{MarkedUpTo, mark-start, mark-more, mark-end}
 use Rattle.quotient.proofs.gathering.mark_accepting.Statement.{statement}
@@ -16,25 +16,31 @@ Inv-loop accepts groups accepting₀ v₀ accepting v =
 abbrev μ-loop : tie.MeasureT-loop
 μ-loop accepts groups accepting₀ v₀ accepting v = length groups - v
 
+-- the function's entry, from the loop's head
+abbrev entry : tie.At-loop Inv-loop μ-loop → tie.Start Inv-loop μ-loop
+entry c = c .before .before .before .before .before .before .before .before
+
 clear-requires : tie.Need-clear-requires Inv-loop μ-loop
 clear-requires c κs =
     search needs
 
 loop-holds : tie.Need-loop-holds Inv-loop μ-loop
 loop-holds c =
-    let at = c .before .before .before .before .before .before .before in
-    (
+    let after-clear = c .before .before in
+    let at = after-clear .before .before .before .before .before in (
       omega arith,
       (
         refl,
-        mark-start (at .args .accepts .now) (at .args .groups .now) (at .args .accepting .now) (c .before .before .clear .last .0) (at .pre .1)
-            (c .before .before .clear .ensures),
+        mark-start (at .args .accepts .now) (at .args .groups .now) (at .args .accepting .now) (after-clear .clear .last .0) (at .pre .1)
+            (after-clear .clear .ensures),
       ),
     )
 
 mul-wide16 : tie.Need-mul-wide16 Inv-loop μ-loop
 mul-wide16 c =
-    omega (arith, c .before .before .before .before .before .before .before .before .before .good)
+    let head = c .before in
+    let at = entry head in
+    omega (arith, at .good)
 
 shared-slice-read-wide16 : tie.Need-shared-slice-read-wide16 Inv-loop μ-loop
 shared-slice-read-wide16 c =
@@ -46,22 +52,27 @@ wide16-requires c κs =
 
 slice-read-marked : tie.Need-slice-read-marked Inv-loop μ-loop
 slice-read-marked c =
-    let at = c .before .before .before .before .before .before .before .before .before .before .before .before in
+    let after-wide16 = c .before in
+    let turn = after-wide16 .before .before in
+    let head = turn .before in
+    let at = entry head in
     let labels = at .pre .0 .2 in
     let size = labels .size in
-    let v = c .before .before .before .before .loop .v in
-    let inside : v < length (at .args .groups .now) = c .before .before .before .loop-test .taken in
-    let room = c .before .before .before .before .loop .inv .1 .1 .size in
+    let v = head .loop .v in
+    let inside : v < length (at .args .groups .now) = turn .loop-test .taken in
+    let room = head .loop .inv .1 .1 .size in
     let g-low = label-low labels v (omega arith) in
-    omega (arith, c .before .wide16 .ensures)
+    omega (arith, after-wide16 .wide16 .ensures)
 
 shared-slice-read-marked : tie.Need-shared-slice-read-marked Inv-loop μ-loop
 shared-slice-read-marked c =
-    let at = c .before .before .before .before .before .before .before .before .before .before .before .before .before in
+    let turn = c .before .before .before .before in
+    let head = turn .before in
+    let at = entry head in
     let labels = at .pre .0 .2 in
     let size = labels .size in
-    let v = c .before .before .before .before .before .loop .v in
-    let inside : v < length (at .args .groups .now) = c .before .before .before .before .loop-test .taken in
+    let v = head .loop .v in
+    let inside : v < length (at .args .groups .now) = turn .loop-test .taken in
     omega (arith, at .pre .0 .1 .accepts-size)
 
 marked-requires : tie.Need-marked-requires Inv-loop μ-loop
@@ -70,14 +81,17 @@ marked-requires c κs =
 
 slice-write-accepting : tie.Need-slice-write-accepting Inv-loop μ-loop
 slice-write-accepting c =
-    let at = c .before .before .before .before .before .before .before .before .before .before .before .before .before .before in
+    let after-wide16 = c .before .before .before in
+    let turn = after-wide16 .before .before in
+    let head = turn .before in
+    let at = entry head in
     let labels = at .pre .0 .2 in
     let size = labels .size in
-    let v = c .before .before .before .before .before .before .loop .v in
-    let inside : v < length (at .args .groups .now) = c .before .before .before .before .before .loop-test .taken in
-    let room = c .before .before .before .before .before .before .loop .inv .1 .1 .size in
+    let v = head .loop .v in
+    let inside : v < length (at .args .groups .now) = turn .loop-test .taken in
+    let room = head .loop .inv .1 .1 .size in
     let g-low = label-low labels v (omega arith) in
-    omega (arith, c .before .before .before .wide16 .ensures)
+    omega (arith, after-wide16 .wide16 .ensures)
 
 add-v : tie.Need-add-v Inv-loop μ-loop
 add-v c =
@@ -89,33 +103,38 @@ loop-less c =
 
 loop-again : tie.Need-loop-again Inv-loop μ-loop
 loop-again c =
-    let at = c .before .before .before .before .before .before .before .before .before .before .before .before .before .before in
+    let after-wide16 = c .before .before .before in
+    let turn = after-wide16 .before .before in
+    let head = turn .before in
+    let at = entry head in
     let labels = at .pre .0 .2 in
     let size = labels .size in
-    let v = c .before .before .before .before .before .before .loop .v in
-    let inside : v < length (at .args .groups .now) = c .before .before .before .before .before .loop-test .taken in
-    let room = c .before .before .before .before .before .before .loop .inv .1 .1 .size in
-    let g-low = label-low labels v (omega arith) in
-    (
+    let v = head .loop .v in
+    let inside : v < length (at .args .groups .now) = turn .loop-test .taken in
+    let room = head .loop .inv .1 .1 .size in
+    let g-low = label-low labels v (omega arith) in (
       omega arith,
       (
-        length-set (c .before .before .before .before .before .before .loop .accepting) (c .before .before .before .wide16 .result) (c .marked .result) ∙ c .before .before .before .before .before .before .loop .inv .1 .0,
-        mark-more v (at .args .accepts .now) (at .args .groups .now) (c .before .before .before .before .before .before .loop .accepting) inside (omega arith)
-            (c .before .before .before .before .before .before .loop .inv .1 .1) (c .before .before .before .wide16 .result) (c .marked .result) _ (c .before .before .before .wide16 .ensures)
+        length-set (head .loop .accepting) (after-wide16 .wide16 .result) (c .marked .result) ∙ head .loop .inv .1 .0,
+        mark-more v (at .args .accepts .now) (at .args .groups .now) (head .loop .accepting) inside (omega arith)
+            (head .loop .inv .1 .1) (after-wide16 .wide16 .result) (c .marked .result) _ (after-wide16 .wide16 .ensures)
             (c .marked .ensures) refl,
       ),
     )
 
 same-length : tie.Need-same-length Inv-loop μ-loop
 same-length c =
-    c .before .loop .inv .1 .0 ∙ c .before .before .before .before .clear .kept .0
+    let head = c .before in
+    let after-clear = head .before .before .before in
+    head .loop .inv .1 .0 ∙ after-clear .clear .kept .0
 
 returns : tie.Need-returns Inv-loop μ-loop
 returns c =
-    let at = c .before .before .before .before .before .before .before .before .before in
+    let head = c .before in
+    let at = entry head in
     λ rows told labels.
-    mark-end rows (at .args .accepts .now) (at .args .groups .now) (c .before .loop .accepting) (c .before .loop .v) told labels
-    (omega arith) (c .before .loop .inv .1 .1)
+    mark-end rows (at .args .accepts .now) (at .args .groups .now) (head .loop .accepting) (head .loop .v) told labels
+    (omega arith) (head .loop .inv .1 .1)
 
 pub mark-accepting-spec : {M : Type 1} → statement M
 mark-accepting-spec =

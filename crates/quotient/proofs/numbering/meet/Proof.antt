@@ -1,12 +1,12 @@
 -- `numbering::meet` meets its contract: what is left of the set is still to be met. Assumes nothing.
 use borrow.Author.Needs.{needs}
-use mathlib.Core.Path.{_≡_, refl, sym, ap, _∙_, subst}
+use mathlib.Core.Path.{_≡_, refl, _∙_}
 use mathlib.Core.List.{List}
-use Prim.Native.Nat.{ℕ, _+_, _-_, _<_, _≤_}
+use Prim.Native.Nat.{ℕ}
 use native.Mathlib.Omega.{arith}
-use lib.ListN.{length, getD, length-set}
-use Rattle.quotient.specs.Numbered.{MetAs, Meeting}
-use Rattle.quotient.proofs.MetLaws.{MeetingMore, meeting-name, meeting-more, meeting-done}
+use lib.ListN.{length}
+use Rattle.quotient.specs.Numbered.{Meeting}
+use Rattle.quotient.proofs.MetLaws.{meeting-name, meeting-more, meeting-done}
 use Rattle.quotient.proofs.numbering.meet.Statement.{statement}
 use Rattle.quotient.proofs.numbering.meet.Tie as tie
 
@@ -18,6 +18,10 @@ Inv-loop work row names met₀ numbers₀ count left₀ reached₀ met numbers l
 abbrev μ-loop : tie.MeasureT-loop
 μ-loop work row names met₀ numbers₀ count left₀ reached₀ met numbers left reached = left
 
+-- the function's entry, from the loop's head
+abbrev entry : tie.At-loop Inv-loop μ-loop → tie.Start Inv-loop μ-loop
+entry c = c .before .before .before .before
+
 loop-holds : tie.Need-loop-holds Inv-loop μ-loop
 loop-holds c = (refl, (refl, λ n after m. m))
 
@@ -26,54 +30,79 @@ lowest-requires c κs = search needs
 
 cell-requires : tie.Need-cell-requires Inv-loop μ-loop
 cell-requires c κs =
-    let at = c .before .before .before .before .before .before .before .before in
-    let m = c .before .before .before .before .loop .inv .1 .1 (at .pre .1 .0) (at .pre .1 .1) (at .pre .1 .2) in
-    (
+    let after-lowest = c .before .before in
+    let turn = after-lowest .before in
+    let head = turn .before in
+    let at = entry head in
+    let m = head .loop .inv .1 .1 (at .pre .1 .0) (at .pre .1 .1) (at .pre .1 .2) in (
       at .pre .0 .1,
-      (meeting-name (c .before .before .lowest .result) m (c .before .before .before .loop-test .taken) (c .before .before .lowest .ensures), at .pre .0 .0),
+      (meeting-name (after-lowest .lowest .result) m (turn .loop-test .taken) (after-lowest .lowest .ensures), at .pre .0 .0),
     )
 
 meet-one-requires : tie.Need-meet-one-requires Inv-loop μ-loop
 meet-one-requires c κs =
-    let at = c .before .before .before .before .before .before .before .before .before in
-    let m = c .before .before .before .before .before .loop .inv .1 .1 (at .pre .1 .0) (at .pre .1 .1) (at .pre .1 .2) in
-    let t = meeting-more (c .before .before .before .lowest .result) (c .cell .result) m (c .before .before .before .before .loop-test .taken) (c .before .before .before .lowest .ensures)
+    let after-lowest = c .before .before .before in
+    let turn = after-lowest .before in
+    let head = turn .before in
+    let at = entry head in
+    let m = head .loop .inv .1 .1 (at .pre .1 .0) (at .pre .1 .1) (at .pre .1 .2) in
+    let t =
+    meeting-more (after-lowest .lowest .result) (c .cell .result) m (turn .loop-test .taken) (after-lowest .lowest .ensures)
     (c .cell .ensures .value) in
     (at .pre .1 .0, t .one, t .single)
 
 only-requires : tie.Need-only-requires Inv-loop μ-loop
 only-requires c κs =
-    let at = c .before .before .before .before .before .before .before .before .before .before .before .before .before .before in
-    let m = c .before .before .before .before .before .before .before .before .before .before .loop .inv .1 .1 (at .pre .1 .0) (at .pre .1 .1) (at .pre .1 .2) in
-    meeting-name (c .before .before .before .before .before .before .before .before .lowest .result) m (c .before .before .before .before .before .before .before .before .before .loop-test .taken) (c .before .before .before .before .before .before .before .before .lowest .ensures)
+    let after-lowest = c .before .before .before .before .before .before .before .before in
+    let turn = after-lowest .before in
+    let head = turn .before in
+    let at = entry head in
+    let m = head .loop .inv .1 .1 (at .pre .1 .0) (at .pre .1 .1) (at .pre .1 .2) in
+    meeting-name (after-lowest .lowest .result) m (turn .loop-test .taken) (after-lowest .lowest .ensures)
 
 sub-left : tie.Need-sub-left Inv-loop μ-loop
 sub-left c =
-    let at = c .before .before .before .before .before .before .before .before .before .before .before .before .before .before .before in
-    let m = c .before .before .before .before .before .before .before .before .before .before .before .loop .inv .1 .1 (at .pre .1 .0) (at .pre .1 .1) (at .pre .1 .2) in
-    let t = meeting-more (c .before .before .before .before .before .before .before .before .before .lowest .result) (c .before .before .before .before .before .before .cell .result) m (c .before .before .before .before .before .before .before .before .before .before .loop-test .taken) (c .before .before .before .before .before .before .before .before .before .lowest .ensures)
-    (c .before .before .before .before .before .before .cell .ensures .value) in
+    let after-cell = c .before .before .before .before .before .before in
+    let after-lowest = after-cell .before .before .before in
+    let turn = after-lowest .before in
+    let head = turn .before in
+    let at = entry head in
+    let m = head .loop .inv .1 .1 (at .pre .1 .0) (at .pre .1 .1) (at .pre .1 .2) in
+    let t =
+    meeting-more (after-lowest .lowest .result) (after-cell .cell .result) m (turn .loop-test .taken) (after-lowest .lowest .ensures)
+    (after-cell .cell .ensures .value) in
     omega (arith, t .in-set, c .only .ensures)
 
 loop-less : tie.Need-loop-less Inv-loop μ-loop
 loop-less c =
-    let at = c .before .before .before .before .before .before .before .before .before .before .before .before .before .before .before in
-    let m = c .before .before .before .before .before .before .before .before .before .before .before .loop .inv .1 .1 (at .pre .1 .0) (at .pre .1 .1) (at .pre .1 .2) in
-    let t = meeting-more (c .before .before .before .before .before .before .before .before .before .lowest .result) (c .before .before .before .before .before .before .cell .result) m (c .before .before .before .before .before .before .before .before .before .before .loop-test .taken) (c .before .before .before .before .before .before .before .before .before .lowest .ensures)
-    (c .before .before .before .before .before .before .cell .ensures .value) in
+    let after-cell = c .before .before .before .before .before .before in
+    let after-lowest = after-cell .before .before .before in
+    let turn = after-lowest .before in
+    let head = turn .before in
+    let at = entry head in
+    let m = head .loop .inv .1 .1 (at .pre .1 .0) (at .pre .1 .1) (at .pre .1 .2) in
+    let t =
+    meeting-more (after-lowest .lowest .result) (after-cell .cell .result) m (turn .loop-test .taken) (after-lowest .lowest .ensures)
+    (after-cell .cell .ensures .value) in
     omega (arith, t .in-set, t .some, c .only .ensures)
 
 loop-again : tie.Need-loop-again Inv-loop μ-loop
 loop-again c =
-    (
-      c .before .before .before .before .before .meet-one .kept .0 ∙ c .before .before .before .before .before .before .before .before .before .before .before .loop .inv .0,
+    let after-meet-one = c .before .before .before .before .before in
+    let after-cell = after-meet-one .before in
+    let after-lowest = after-cell .before .before .before in
+    let turn = after-lowest .before in
+    let head = turn .before in
+    let met = after-meet-one .meet-one in (
+      met .kept .0 ∙ head .loop .inv .0,
       (
-        c .before .before .before .before .before .meet-one .kept .1 .0 ∙ c .before .before .before .before .before .before .before .before .before .before .before .loop .inv .1 .0,
+        met .kept .1 .0 ∙ head .loop .inv .1 .0,
         λ n after m.
-            let t = meeting-more (c .before .before .before .before .before .before .before .before .before .lowest .result) (c .before .before .before .before .before .before .cell .result) (c .before .before .before .before .before .before .before .before .before .before .before .loop .inv .1 .1 n after m)
-            (c .before .before .before .before .before .before .before .before .before .before .loop-test .taken) (c .before .before .before .before .before .before .before .before .before .lowest .ensures) (c .before .before .before .before .before .before .cell .ensures .value) in
-            t .then (c .before .before .before .before .before .meet-one .last .0) (c .before .before .before .before .before .meet-one .last .1 .0) (c .before .before .before .before .before .meet-one .result) (c .only .result)
-            (c .before .before .before .before .before .meet-one .ensures n (t .one) (t .single)) (c .only .ensures),
+            let t =
+            meeting-more (after-lowest .lowest .result) (after-cell .cell .result) (head .loop .inv .1 .1 n after m)
+            (turn .loop-test .taken) (after-lowest .lowest .ensures) (after-cell .cell .ensures .value) in
+            t .then (met .last .0) (met .last .1 .0) (met .result) (c .only .result)
+            (met .ensures n (t .one) (t .single)) (c .only .ensures),
       ),
     )
 

@@ -18,13 +18,22 @@ narrow16-requires : tie.Need-narrow16-requires
 narrow16-requires c κs = search needs
 
 mul-met : tie.Need-mul-met
-mul-met c = let at = c .before .before .before .before .before in omega (arith, meet-room (at .pre .2) (c .before .if1 .left), at .pre .2 .so-far .met-size, at .good .0)
+mul-met c =
+    let at = c .before .before .before .before .before in
+    let room = meet-room (at .pre .2) (c .before .if1 .left) in
+    omega (arith, at .pre .2 .so-far .few)
 
 slice-write-met : tie.Need-slice-write-met
-slice-write-met c = let at = c .before .before .before .before .before in omega (arith, meet-room (at .pre .2) (c .before .if1 .left), at .pre .2 .so-far .met-size)
+slice-write-met c =
+    let at = c .before .before .before .before .before in
+    let room = meet-room (at .pre .2) (c .before .if1 .left) in
+    omega (arith, at .pre .2 .so-far .met-size)
 
 narrow16-requires-2 : tie.Need-narrow16-requires-2
-narrow16-requires-2 c κs = let at = c .before .before .before .before .before in omega (arith, meet-room (at .pre .2) (c .before .if1 .left), at .pre .2 .so-far .few)
+narrow16-requires-2 c κs =
+    let at = c .before .before .before .before .before in
+    let room = meet-room (at .pre .2) (c .before .if1 .left) in
+    omega (arith, at .pre .2 .so-far .few)
 
 mul-numbers : tie.Need-mul-numbers
 mul-numbers c = search needs
@@ -42,7 +51,11 @@ same-length-2 : tie.Need-same-length-2
 same-length-2 c = search needs
 
 returns-2 : tie.Need-returns-2
-returns-2 c = λ n after m. meet-new m (c .before .before .if1 .left) (c .before .narrow16 .result) (c .narrow162 .result) (c .before .narrow16 .ensures) (c .narrow162 .ensures)
+returns-2 c =
+    let first = c .before in
+    λ n after m.
+    meet-new m (first .before .if1 .left) (first .narrow16 .result) (c .narrow162 .result) (first .narrow16 .ensures)
+    (c .narrow162 .ensures)
 
 pub meet-one-spec : {M : Type 1} → statement M
 meet-one-spec =

@@ -1,19 +1,19 @@
 -- `states::bytes_of` meets its contract: the fields of the first i states are counted. Assumes nothing.
 use borrow.Author.Needs.{needs}
 use Rattle.quotient.proofs.StatePieces.{count-low, sized-more}
-use mathlib.Core.Path.{_≡_, refl, sym, ap, _∙_, subst}
+use mathlib.Core.Path.{_≡_, ap}
 use mathlib.Core.List.{List}
 use Prim.Native.Nat.{ℕ, _+_, _*_, _-_, _<_, _≤_}
 use native.Mathlib.Omega.{arith}
-use lib.Count.{ones, ones-le}
-use lib.ListN.{length, getD, length-append}
+use lib.Count.{ones-le}
+use lib.ListN.{length, getD}
 use Rattle.model.specs.Classes.{Word}
 use Rattle.model.specs.Joinings.{treeOf}
 use Rattle.model.specs.Quotients.{metGroups, statesOf}
 use Rattle.model.specs.Tables.{stateFields}
 use Rattle.quotient.specs.Ready.{Sized}
-use Rattle.quotient.proofs.MetLaws.{met-nth, met-low}
-use Rattle.quotient.proofs.StatePieces.{fieldsFrom, fieldOf, fields-all, fields-more, fields-none, field-length}
+use Rattle.quotient.proofs.MetLaws.{met-low}
+use Rattle.quotient.proofs.StatePieces.{fieldsFrom, fields-all, fields-none}
 use Rattle.quotient.proofs.states.bytes_of.Statement.{statement}
 use Rattle.quotient.proofs.states.bytes_of.Tie as tie
 
@@ -25,34 +25,43 @@ Inv-loop next met count total₀ i₀ total i =
 abbrev μ-loop : tie.MeasureT-loop
 μ-loop next met count total₀ i₀ total i = count - i
 
+-- the function's entry, from the loop's head
+abbrev entry : tie.At-loop Inv-loop μ-loop → tie.Start Inv-loop μ-loop
+entry c = c .before .before .before
+
 loop-holds : tie.Need-loop-holds Inv-loop μ-loop
 loop-holds c =
     (omega arith, λ rows groups r. omega (arith, ap length (fields-all rows groups)))
 
 mul-wide16 : tie.Need-mul-wide16 Inv-loop μ-loop
 mul-wide16 c =
-    let at = c .before .before .before .before in
+    let head = c .before in
+    let at = entry head in
     let rows = at .pre .0 in
     let groups = at .pre .1 in
     let sized = at .pre .2 in
     let few = sized .gathered .few in
-    let low = count-low rows groups (sized .work) (at .args .next .now) (at .args .met .now) (sized .numbers) (at .args .count)
+    let low =
+    count-low rows groups (sized .work) (at .args .next .now) (at .args .met .now) (sized .numbers) (at .args .count)
     (sized .gathered) (sized .numbered) in
-    let i = c .before .loop .i in
+    let i = head .loop .i in
     let early : i < at .args .count = c .loop-test .taken in
     omega arith
 
 shared-slice-read-wide16 : tie.Need-shared-slice-read-wide16 Inv-loop μ-loop
 shared-slice-read-wide16 c =
-    let at = c .before .before .before .before .before in
+    let turn = c .before in
+    let head = turn .before in
+    let at = entry head in
     let rows = at .pre .0 in
     let groups = at .pre .1 in
     let sized = at .pre .2 in
     let few = sized .gathered .few in
-    let low = count-low rows groups (sized .work) (at .args .next .now) (at .args .met .now) (sized .numbers) (at .args .count)
+    let low =
+    count-low rows groups (sized .work) (at .args .next .now) (at .args .met .now) (sized .numbers) (at .args .count)
     (sized .gathered) (sized .numbered) in
-    let i = c .before .before .loop .i in
-    let early : i < at .args .count = c .before .loop-test .taken in
+    let i = head .loop .i in
+    let early : i < at .args .count = turn .loop-test .taken in
     omega (arith, sized .numbered .met-size)
 
 wide16-requires : tie.Need-wide16-requires Inv-loop μ-loop
@@ -61,32 +70,39 @@ wide16-requires c κs =
 
 mul-how-many : tie.Need-mul-how-many Inv-loop μ-loop
 mul-how-many c =
-    let at = c .before .before .before .before .before .before in
+    let turn = c .before .before in
+    let head = turn .before in
+    let at = entry head in
     let rows = at .pre .0 in
     let groups = at .pre .1 in
     let sized = at .pre .2 in
     let few = sized .gathered .few in
-    let low = count-low rows groups (sized .work) (at .args .next .now) (at .args .met .now) (sized .numbers) (at .args .count)
+    let low =
+    count-low rows groups (sized .work) (at .args .next .now) (at .args .met .now) (sized .numbers) (at .args .count)
     (sized .gathered) (sized .numbered) in
-    let i = c .before .before .before .loop .i in
-    let early : i < at .args .count = c .before .before .loop-test .taken in
+    let i = head .loop .i in
+    let early : i < at .args .count = turn .loop-test .taken in
     let g-low = met-low (metGroups (treeOf rows) groups) (sized .numbered) i early in
     let g-is = c .wide16 .ensures in
     omega arith
 
 shared-slice-read-how-many : tie.Need-shared-slice-read-how-many Inv-loop μ-loop
 shared-slice-read-how-many c =
-    let at = c .before .before .before .before .before .before .before in
+    let after-wide16 = c .before in
+    let turn = after-wide16 .before .before in
+    let head = turn .before in
+    let at = entry head in
     let rows = at .pre .0 in
     let groups = at .pre .1 in
     let sized = at .pre .2 in
     let few = sized .gathered .few in
-    let low = count-low rows groups (sized .work) (at .args .next .now) (at .args .met .now) (sized .numbers) (at .args .count)
+    let low =
+    count-low rows groups (sized .work) (at .args .next .now) (at .args .met .now) (sized .numbers) (at .args .count)
     (sized .gathered) (sized .numbered) in
-    let i = c .before .before .before .before .loop .i in
-    let early : i < at .args .count = c .before .before .before .loop-test .taken in
+    let i = head .loop .i in
+    let early : i < at .args .count = turn .loop-test .taken in
     let g-low = met-low (metGroups (treeOf rows) groups) (sized .numbered) i early in
-    let g-is = c .before .wide16 .ensures in
+    let g-is = after-wide16 .wide16 .ensures in
     omega (arith, sized .gathered .next-size)
 
 how-many-requires : tie.Need-how-many-requires Inv-loop μ-loop
@@ -95,136 +111,147 @@ how-many-requires c κs =
 
 mul-total : tie.Need-mul-total Inv-loop μ-loop
 mul-total c =
-    let at = c .before .before .before .before .before .before .before .before in
+    let after-ssk4 = c .before in
+    let after-wide16 = after-ssk4 .before in
+    let turn = after-wide16 .before .before in
+    let head = turn .before in
+    let at = entry head in
     let rows = at .pre .0 in
     let groups = at .pre .1 in
     let sized = at .pre .2 in
     let few = sized .gathered .few in
-    let low = count-low rows groups (sized .work) (at .args .next .now) (at .args .met .now) (sized .numbers) (at .args .count)
+    let low =
+    count-low rows groups (sized .work) (at .args .next .now) (at .args .met .now) (sized .numbers) (at .args .count)
     (sized .gathered) (sized .numbered) in
-    let i = c .before .before .before .before .before .loop .i in
-    let early : i < at .args .count = c .before .before .before .before .loop-test .taken in
+    let i = head .loop .i in
+    let early : i < at .args .count = turn .loop-test .taken in
     let g-low = met-low (metGroups (treeOf rows) groups) (sized .numbered) i early in
-    let g-is = c .before .before .wide16 .ensures in
+    let g-is = after-wide16 .wide16 .ensures in
+    let g = after-wide16 .wide16 .result in
+    let fits = after-ssk4 .shared-slice-known4 .given g .fits in
     let many : c .how-many .result ≤ 64 =
-    omega (
-      arith,
-      c .how-many .ensures,
-      ones-le 64 (getD (at .args .next .now) (c .before .before .wide16 .result) 0)
-          (c .before .shared-slice-known4 .given (c .before .before .wide16 .result) .fits),
-    ) in
-    let before : c .before .before .before .before .before .loop .total ≤ 196 * i = c .before .before .before .before .before .loop .inv .0 in
+    omega (arith, c .how-many .ensures, ones-le 64 (getD (at .args .next .now) g 0) fits) in
+    let before : head .loop .total ≤ 196 * i = head .loop .inv .0 in
     omega arith
 
 add-total : tie.Need-add-total Inv-loop μ-loop
 add-total c =
-    let at = c .before .before .before .before .before .before .before .before in
+    let after-ssk4 = c .before in
+    let after-wide16 = after-ssk4 .before in
+    let turn = after-wide16 .before .before in
+    let head = turn .before in
+    let at = entry head in
     let rows = at .pre .0 in
     let groups = at .pre .1 in
     let sized = at .pre .2 in
     let few = sized .gathered .few in
-    let low = count-low rows groups (sized .work) (at .args .next .now) (at .args .met .now) (sized .numbers) (at .args .count)
+    let low =
+    count-low rows groups (sized .work) (at .args .next .now) (at .args .met .now) (sized .numbers) (at .args .count)
     (sized .gathered) (sized .numbered) in
-    let i = c .before .before .before .before .before .loop .i in
-    let early : i < at .args .count = c .before .before .before .before .loop-test .taken in
+    let i = head .loop .i in
+    let early : i < at .args .count = turn .loop-test .taken in
     let g-low = met-low (metGroups (treeOf rows) groups) (sized .numbered) i early in
-    let g-is = c .before .before .wide16 .ensures in
+    let g-is = after-wide16 .wide16 .ensures in
+    let g = after-wide16 .wide16 .result in
+    let fits = after-ssk4 .shared-slice-known4 .given g .fits in
     let many : c .how-many .result ≤ 64 =
-    omega (
-      arith,
-      c .how-many .ensures,
-      ones-le 64 (getD (at .args .next .now) (c .before .before .wide16 .result) 0)
-          (c .before .shared-slice-known4 .given (c .before .before .wide16 .result) .fits),
-    ) in
-    let before : c .before .before .before .before .before .loop .total ≤ 196 * i = c .before .before .before .before .before .loop .inv .0 in
+    omega (arith, c .how-many .ensures, ones-le 64 (getD (at .args .next .now) g 0) fits) in
+    let before : head .loop .total ≤ 196 * i = head .loop .inv .0 in
     omega arith
 
 add-total-2 : tie.Need-add-total-2 Inv-loop μ-loop
 add-total-2 c =
-    let at = c .before .before .before .before .before .before .before .before in
+    let after-ssk4 = c .before in
+    let after-wide16 = after-ssk4 .before in
+    let turn = after-wide16 .before .before in
+    let head = turn .before in
+    let at = entry head in
     let rows = at .pre .0 in
     let groups = at .pre .1 in
     let sized = at .pre .2 in
     let few = sized .gathered .few in
-    let low = count-low rows groups (sized .work) (at .args .next .now) (at .args .met .now) (sized .numbers) (at .args .count)
+    let low =
+    count-low rows groups (sized .work) (at .args .next .now) (at .args .met .now) (sized .numbers) (at .args .count)
     (sized .gathered) (sized .numbered) in
-    let i = c .before .before .before .before .before .loop .i in
-    let early : i < at .args .count = c .before .before .before .before .loop-test .taken in
+    let i = head .loop .i in
+    let early : i < at .args .count = turn .loop-test .taken in
     let g-low = met-low (metGroups (treeOf rows) groups) (sized .numbered) i early in
-    let g-is = c .before .before .wide16 .ensures in
+    let g-is = after-wide16 .wide16 .ensures in
+    let g = after-wide16 .wide16 .result in
+    let fits = after-ssk4 .shared-slice-known4 .given g .fits in
     let many : c .how-many .result ≤ 64 =
-    omega (
-      arith,
-      c .how-many .ensures,
-      ones-le 64 (getD (at .args .next .now) (c .before .before .wide16 .result) 0)
-          (c .before .shared-slice-known4 .given (c .before .before .wide16 .result) .fits),
-    ) in
-    let before : c .before .before .before .before .before .loop .total ≤ 196 * i = c .before .before .before .before .before .loop .inv .0 in
+    omega (arith, c .how-many .ensures, ones-le 64 (getD (at .args .next .now) g 0) fits) in
+    let before : head .loop .total ≤ 196 * i = head .loop .inv .0 in
     omega arith
 
 add-i : tie.Need-add-i Inv-loop μ-loop
 add-i c =
-    let at = c .before .before .before .before .before .before .before .before in
+    let after-ssk4 = c .before in
+    let after-wide16 = after-ssk4 .before in
+    let turn = after-wide16 .before .before in
+    let head = turn .before in
+    let at = entry head in
     let rows = at .pre .0 in
     let groups = at .pre .1 in
     let sized = at .pre .2 in
     let few = sized .gathered .few in
-    let low = count-low rows groups (sized .work) (at .args .next .now) (at .args .met .now) (sized .numbers) (at .args .count)
+    let low =
+    count-low rows groups (sized .work) (at .args .next .now) (at .args .met .now) (sized .numbers) (at .args .count)
     (sized .gathered) (sized .numbered) in
-    let i = c .before .before .before .before .before .loop .i in
-    let early : i < at .args .count = c .before .before .before .before .loop-test .taken in
+    let i = head .loop .i in
+    let early : i < at .args .count = turn .loop-test .taken in
     let g-low = met-low (metGroups (treeOf rows) groups) (sized .numbered) i early in
-    let g-is = c .before .before .wide16 .ensures in
+    let g-is = after-wide16 .wide16 .ensures in
+    let g = after-wide16 .wide16 .result in
+    let fits = after-ssk4 .shared-slice-known4 .given g .fits in
     let many : c .how-many .result ≤ 64 =
-    omega (
-      arith,
-      c .how-many .ensures,
-      ones-le 64 (getD (at .args .next .now) (c .before .before .wide16 .result) 0)
-          (c .before .shared-slice-known4 .given (c .before .before .wide16 .result) .fits),
-    ) in
-    let before : c .before .before .before .before .before .loop .total ≤ 196 * i = c .before .before .before .before .before .loop .inv .0 in
+    omega (arith, c .how-many .ensures, ones-le 64 (getD (at .args .next .now) g 0) fits) in
+    let before : head .loop .total ≤ 196 * i = head .loop .inv .0 in
     omega arith
 
 loop-less : tie.Need-loop-less Inv-loop μ-loop
 loop-less c =
-    let at = c .before .before .before .before .before .before .before .before in
+    let turn = c .before .before .before .before in
+    let head = turn .before in
+    let at = entry head in
     let rows = at .pre .0 in
     let groups = at .pre .1 in
     let sized = at .pre .2 in
     let few = sized .gathered .few in
-    let low = count-low rows groups (sized .work) (at .args .next .now) (at .args .met .now) (sized .numbers) (at .args .count)
+    let low =
+    count-low rows groups (sized .work) (at .args .next .now) (at .args .met .now) (sized .numbers) (at .args .count)
     (sized .gathered) (sized .numbered) in
-    let i = c .before .before .before .before .before .loop .i in
-    let early : i < at .args .count = c .before .before .before .before .loop-test .taken in
+    let i = head .loop .i in
+    let early : i < at .args .count = turn .loop-test .taken in
     omega arith
 
 loop-again : tie.Need-loop-again Inv-loop μ-loop
 loop-again c =
-    let at = c .before .before .before .before .before .before .before .before in
+    let after-ssk4 = c .before in
+    let after-wide16 = after-ssk4 .before in
+    let turn = after-wide16 .before .before in
+    let head = turn .before in
+    let at = entry head in
     let rows = at .pre .0 in
     let groups = at .pre .1 in
     let sized = at .pre .2 in
     let few = sized .gathered .few in
-    let low = count-low rows groups (sized .work) (at .args .next .now) (at .args .met .now) (sized .numbers) (at .args .count)
+    let low =
+    count-low rows groups (sized .work) (at .args .next .now) (at .args .met .now) (sized .numbers) (at .args .count)
     (sized .gathered) (sized .numbered) in
-    let i = c .before .before .before .before .before .loop .i in
-    let early : i < at .args .count = c .before .before .before .before .loop-test .taken in
+    let i = head .loop .i in
+    let early : i < at .args .count = turn .loop-test .taken in
     let g-low = met-low (metGroups (treeOf rows) groups) (sized .numbered) i early in
-    let g-is = c .before .before .wide16 .ensures in
+    let g-is = after-wide16 .wide16 .ensures in
+    let g = after-wide16 .wide16 .result in
+    let fits = after-ssk4 .shared-slice-known4 .given g .fits in
     let many : c .how-many .result ≤ 64 =
-    omega (
-      arith,
-      c .how-many .ensures,
-      ones-le 64 (getD (at .args .next .now) (c .before .before .wide16 .result) 0)
-          (c .before .shared-slice-known4 .given (c .before .before .wide16 .result) .fits),
-    ) in
-    let before : c .before .before .before .before .before .loop .total ≤ 196 * i = c .before .before .before .before .before .loop .inv .0 in
-    (
+    omega (arith, c .how-many .ensures, ones-le 64 (getD (at .args .next .now) g 0) fits) in
+    let before : head .loop .total ≤ 196 * i = head .loop .inv .0 in (
       omega arith,
       λ rows′ groups′ r.
-          sized-more rows′ groups′ (at .args .next .now) (at .args .met .now) (at .args .count) r i (c .before .before .wide16 .result)
-          (c .before .before .before .before .before .loop .total) (c .how-many .result) early (c .before .before .wide16 .ensures) (c .how-many .ensures)
-          (c .before .before .before .before .before .loop .inv .1 rows′ groups′ r),
+          sized-more rows′ groups′ (at .args .next .now) (at .args .met .now) (at .args .count) r i g (head .loop .total)
+          (c .how-many .result) early g-is (c .how-many .ensures) (head .loop .inv .1 rows′ groups′ r),
     )
 
 returns : tie.Need-returns Inv-loop μ-loop

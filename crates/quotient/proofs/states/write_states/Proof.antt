@@ -1,8 +1,8 @@
 -- `states::write_states` meets its contract: the fields from state i on are still to be written. Assumes nothing.
 use borrow.Author.Needs.{needs}
 use Rattle.quotient.proofs.StatePieces.{count-low}
-use mathlib.Core.Path.{_≡_, refl, sym, ap, _∙_, subst}
-use mathlib.Core.List.{List, _++_}
+use mathlib.Core.Path.{refl, sym, _∙_, subst}
+use mathlib.Core.List.{List}
 use Prim.Native.Nat.{ℕ, _+_, _-_, _<_, _≤_}
 use native.Mathlib.Omega.{arith}
 use lib.ListN.{length, getD}
@@ -10,7 +10,6 @@ use Rattle.model.specs.Classes.{Word}
 use Rattle.model.specs.Joinings.{treeOf}
 use Rattle.model.specs.Quotients.{metGroups, statesOf}
 use Rattle.model.specs.Tables.{stateFields}
-use Rattle.writing.specs.Writing.{Put}
 use Rattle.quotient.specs.Ready.{Ready}
 use Rattle.quotient.proofs.BytesLeft.{BytesLeft, left-all, left-more, left-length, left-room, left-none}
 use Rattle.quotient.proofs.MetLaws.{met-nth, met-low}
@@ -26,6 +25,10 @@ Inv-loop work next accepting met numbers count out₀ at end₀ i₀ out end i =
 abbrev μ-loop : tie.MeasureT-loop
 μ-loop work next accepting met numbers count out₀ at end₀ i₀ out end i = count - i
 
+-- the function's entry, from the loop's head
+abbrev entry : tie.At-loop Inv-loop μ-loop → tie.Start Inv-loop μ-loop
+entry c = c .before .before .before .before .before .before .before
+
 loop-holds : tie.Need-loop-holds Inv-loop μ-loop
 loop-holds c =
     let at = c .before .before .before .before .before .before in
@@ -38,28 +41,33 @@ loop-holds c =
 
 mul-wide16 : tie.Need-mul-wide16 Inv-loop μ-loop
 mul-wide16 c =
-    let at = c .before .before .before .before .before .before .before .before in
+    let head = c .before in
+    let at = entry head in
     let rows = at .pre .0 in
     let groups = at .pre .1 in
     let ready = at .pre .2 in
     let few = ready .gathered .few in
-    let low = count-low rows groups (at .args .work .now) (at .args .next .now) (at .args .met .now) (at .args .numbers .now)
+    let low =
+    count-low rows groups (at .args .work .now) (at .args .next .now) (at .args .met .now) (at .args .numbers .now)
     (at .args .count) (ready .gathered) (ready .numbered) in
-    let i = c .before .loop .i in
+    let i = head .loop .i in
     let early : i < at .args .count = c .loop-test .taken in
     omega arith
 
 shared-slice-read-wide16 : tie.Need-shared-slice-read-wide16 Inv-loop μ-loop
 shared-slice-read-wide16 c =
-    let at = c .before .before .before .before .before .before .before .before .before in
+    let turn = c .before in
+    let head = turn .before in
+    let at = entry head in
     let rows = at .pre .0 in
     let groups = at .pre .1 in
     let ready = at .pre .2 in
     let few = ready .gathered .few in
-    let low = count-low rows groups (at .args .work .now) (at .args .next .now) (at .args .met .now) (at .args .numbers .now)
+    let low =
+    count-low rows groups (at .args .work .now) (at .args .next .now) (at .args .met .now) (at .args .numbers .now)
     (at .args .count) (ready .gathered) (ready .numbered) in
-    let i = c .before .before .loop .i in
-    let early : i < at .args .count = c .before .loop-test .taken in
+    let i = head .loop .i in
+    let early : i < at .args .count = turn .loop-test .taken in
     omega (arith, ready .numbered .met-size)
 
 wide16-requires : tie.Need-wide16-requires Inv-loop μ-loop
@@ -68,122 +76,153 @@ wide16-requires c κs =
 
 mul-write-state : tie.Need-mul-write-state Inv-loop μ-loop
 mul-write-state c =
-    let at = c .before .before .before .before .before .before .before .before .before .before in
+    let turn = c .before .before in
+    let head = turn .before in
+    let at = entry head in
     let rows = at .pre .0 in
     let groups = at .pre .1 in
     let ready = at .pre .2 in
     let few = ready .gathered .few in
-    let low = count-low rows groups (at .args .work .now) (at .args .next .now) (at .args .met .now) (at .args .numbers .now)
+    let low =
+    count-low rows groups (at .args .work .now) (at .args .next .now) (at .args .met .now) (at .args .numbers .now)
     (at .args .count) (ready .gathered) (ready .numbered) in
-    let i = c .before .before .before .loop .i in
-    let early : i < at .args .count = c .before .before .loop-test .taken in
+    let i = head .loop .i in
+    let early : i < at .args .count = turn .loop-test .taken in
     let g-low = met-low (metGroups (treeOf rows) groups) (ready .numbered) i early in
     let g-is = c .wide16 .ensures in
     omega arith
 
 shared-slice-read-write-state : tie.Need-shared-slice-read-write-state Inv-loop μ-loop
 shared-slice-read-write-state c =
-    let at = c .before .before .before .before .before .before .before .before .before .before .before in
+    let after-wide16 = c .before in
+    let turn = after-wide16 .before .before in
+    let head = turn .before in
+    let at = entry head in
     let rows = at .pre .0 in
     let groups = at .pre .1 in
     let ready = at .pre .2 in
     let few = ready .gathered .few in
-    let low = count-low rows groups (at .args .work .now) (at .args .next .now) (at .args .met .now) (at .args .numbers .now)
+    let low =
+    count-low rows groups (at .args .work .now) (at .args .next .now) (at .args .met .now) (at .args .numbers .now)
     (at .args .count) (ready .gathered) (ready .numbered) in
-    let i = c .before .before .before .before .loop .i in
-    let early : i < at .args .count = c .before .before .before .loop-test .taken in
+    let i = head .loop .i in
+    let early : i < at .args .count = turn .loop-test .taken in
     let g-low = met-low (metGroups (treeOf rows) groups) (ready .numbered) i early in
-    let g-is = c .before .wide16 .ensures in
+    let g-is = after-wide16 .wide16 .ensures in
     omega (arith, ready .gathered .next-size)
 
 shared-slice-read-write-state-2 : tie.Need-shared-slice-read-write-state-2 Inv-loop μ-loop
 shared-slice-read-write-state-2 c =
-    let at = c .before .before .before .before .before .before .before .before .before .before .before .before in
+    let after-wide16 = c .before .before in
+    let turn = after-wide16 .before .before in
+    let head = turn .before in
+    let at = entry head in
     let rows = at .pre .0 in
     let groups = at .pre .1 in
     let ready = at .pre .2 in
     let few = ready .gathered .few in
-    let low = count-low rows groups (at .args .work .now) (at .args .next .now) (at .args .met .now) (at .args .numbers .now)
+    let low =
+    count-low rows groups (at .args .work .now) (at .args .next .now) (at .args .met .now) (at .args .numbers .now)
     (at .args .count) (ready .gathered) (ready .numbered) in
-    let i = c .before .before .before .before .before .loop .i in
-    let early : i < at .args .count = c .before .before .before .before .loop-test .taken in
+    let i = head .loop .i in
+    let early : i < at .args .count = turn .loop-test .taken in
     let g-low = met-low (metGroups (treeOf rows) groups) (ready .numbered) i early in
-    let g-is = c .before .before .wide16 .ensures in
+    let g-is = after-wide16 .wide16 .ensures in
     omega (arith, ready .marked .size)
 
 write-state-requires : tie.Need-write-state-requires Inv-loop μ-loop
 write-state-requires c κs =
-    let at = c .before .before .before .before .before .before .before .before .before .before .before .before .before in
+    let after-wide16 = c .before .before .before in
+    let turn = after-wide16 .before .before in
+    let head = turn .before in
+    let at = entry head in
     let rows = at .pre .0 in
     let groups = at .pre .1 in
     let ready = at .pre .2 in
     let few = ready .gathered .few in
-    let low = count-low rows groups (at .args .work .now) (at .args .next .now) (at .args .met .now) (at .args .numbers .now)
+    let low =
+    count-low rows groups (at .args .work .now) (at .args .next .now) (at .args .met .now) (at .args .numbers .now)
     (at .args .count) (ready .gathered) (ready .numbered) in
-    let i = c .before .before .before .before .before .before .loop .i in
-    let early : i < at .args .count = c .before .before .before .before .before .loop-test .taken in
+    let i = head .loop .i in
+    let early : i < at .args .count = turn .loop-test .taken in
     let g-low = met-low (metGroups (treeOf rows) groups) (ready .numbered) i early in
-    let g-is = c .before .before .before .wide16 .ensures in
-    let g = c .before .before .before .wide16 .result in
-    let next-field = fields-more rows groups (c .before .before .before .before .before .before .loop .i) (c .before .before .before .wide16 .result)
-    (omega (arith, ready .numbered .counted, c .before .before .before .before .before .loop-test .taken))
-    (c .before .before .before .wide16 .ensures ∙ met-nth (metGroups (treeOf rows) groups) (ready .numbered) (c .before .before .before .before .before .before .loop .i) (c .before .before .before .before .before .loop-test .taken)) in
-    (
+    let g-is = after-wide16 .wide16 .ensures in
+    let g = after-wide16 .wide16 .result in
+    let next = at .args .next .now in
+    let accepting = at .args .accepting .now in
+    let state-left =
+    state-ready rows groups (at .args .work .now) next accepting (at .args .met .now) (at .args .numbers .now) (at .args .count)
+    ready i g (getD next g 0) (getD accepting g 0) early g-is refl refl in
+    let next-field =
+    fields-more rows groups i g (omega (arith, ready .numbered .counted))
+    (g-is ∙ met-nth (metGroups (treeOf rows) groups) (ready .numbered) i early) in (
       (ready .gathered .work-size, omega arith),
       (
         fieldOf rows groups g,
-        state-ready rows groups (at .args .work .now) (at .args .next .now) (at .args .accepting .now) (at .args .met .now)
-    (at .args .numbers .now) (at .args .count) ready (c .before .before .before .before .before .before .loop .i) (c .before .before .before .wide16 .result)
-    (getD (at .args .next .now) (c .before .before .before .wide16 .result) 0) (getD (at .args .accepting .now) (c .before .before .before .wide16 .result) 0)
-    (c .before .before .before .before .before .loop-test .taken) (c .before .before .before .wide16 .ensures) refl refl,
-        left-room (c .before .before .before .before .before .before .loop .inv rows groups ready) (fieldOf rows groups g) (fieldsFrom rows groups (i + 1)) next-field (at .pre .3),
+        state-left,
+        left-room (head .loop .inv rows groups ready) (fieldOf rows groups g) (fieldsFrom rows groups (i + 1)) next-field
+            (at .pre .3),
       ),
     )
 
 add-i : tie.Need-add-i Inv-loop μ-loop
 add-i c =
-    let at = c .before .before .before .before .before .before .before .before .before .before .before .before .before .before .before .before in
+    let turn = c .before .before .before .before .before .before .before .before in
+    let head = turn .before in
+    let at = entry head in
     let rows = at .pre .0 in
     let groups = at .pre .1 in
     let ready = at .pre .2 in
     let few = ready .gathered .few in
-    let low = count-low rows groups (at .args .work .now) (at .args .next .now) (at .args .met .now) (at .args .numbers .now)
+    let low =
+    count-low rows groups (at .args .work .now) (at .args .next .now) (at .args .met .now) (at .args .numbers .now)
     (at .args .count) (ready .gathered) (ready .numbered) in
-    let i = c .before .before .before .before .before .before .before .before .before .loop .i in
-    let early : i < at .args .count = c .before .before .before .before .before .before .before .before .loop-test .taken in
+    let i = head .loop .i in
+    let early : i < at .args .count = turn .loop-test .taken in
     omega arith
 
 loop-less : tie.Need-loop-less Inv-loop μ-loop
 loop-less c =
-    let at = c .before .before .before .before .before .before .before .before .before .before .before .before .before .before .before .before in
+    let turn = c .before .before .before .before .before .before .before .before in
+    let head = turn .before in
+    let at = entry head in
     let rows = at .pre .0 in
     let groups = at .pre .1 in
     let ready = at .pre .2 in
     let few = ready .gathered .few in
-    let low = count-low rows groups (at .args .work .now) (at .args .next .now) (at .args .met .now) (at .args .numbers .now)
+    let low =
+    count-low rows groups (at .args .work .now) (at .args .next .now) (at .args .met .now) (at .args .numbers .now)
     (at .args .count) (ready .gathered) (ready .numbered) in
-    let i = c .before .before .before .before .before .before .before .before .before .loop .i in
-    let early : i < at .args .count = c .before .before .before .before .before .before .before .before .loop-test .taken in
+    let i = head .loop .i in
+    let early : i < at .args .count = turn .loop-test .taken in
     omega arith
 
 loop-again : tie.Need-loop-again Inv-loop μ-loop
 loop-again c =
-    let at = c .before .before .before .before .before .before .before .before .before .before .before .before .before .before .before .before in
+    let after-write-state = c .before .before in
+    let after-wide16 = after-write-state .before .before .before .before in
+    let turn = after-wide16 .before .before in
+    let head = turn .before in
+    let at = entry head in
     let fits = at .pre .3 in
     let start-low : at .args .at ≤ length (at .args .out .now) = omega arith in
+    let written = after-write-state .write-state in
+    let i = head .loop .i in
+    let early : i < at .args .count = turn .loop-test .taken in
+    let g = after-wide16 .wide16 .result in
+    let g-is = after-wide16 .wide16 .ensures in
+    let next = at .args .next .now in
+    let accepting = at .args .accepting .now in
     λ rows groups ready.
-    let g = c .before .before .before .before .before .before .wide16 .result in
-    left-more (c .before .before .before .before .before .before .before .before .before .loop .inv rows groups ready) (fieldOf rows groups g) (fieldsFrom rows groups (c .before .before .before .before .before .before .before .before .before .loop .i + 1))
-    (c .before .before .write-state .last .1 .1 .1 .1 .1 .0) (length (fieldOf rows groups g)) (c .before .before .write-state .result)
-    (fields-more rows groups (c .before .before .before .before .before .before .before .before .before .loop .i) (c .before .before .before .before .before .before .wide16 .result)
-    (omega (arith, ready .numbered .counted, c .before .before .before .before .before .before .before .before .loop-test .taken))
-    (c .before .before .before .before .before .before .wide16 .ensures ∙ met-nth (metGroups (treeOf rows) groups) (ready .numbered) (c .before .before .before .before .before .before .before .before .before .loop .i) (c .before .before .before .before .before .before .before .before .loop-test .taken)))
-    (c .before .before .write-state .ensures (fieldOf rows groups g)
-    (state-ready rows groups (at .args .work .now) (at .args .next .now) (at .args .accepting .now) (at .args .met .now)
-    (at .args .numbers .now) (at .args .count) ready (c .before .before .before .before .before .before .before .before .before .loop .i) (c .before .before .before .before .before .before .wide16 .result)
-    (getD (at .args .next .now) (c .before .before .before .before .before .before .wide16 .result) 0) (getD (at .args .accepting .now) (c .before .before .before .before .before .before .wide16 .result) 0)
-    (c .before .before .before .before .before .before .before .before .loop-test .taken) (c .before .before .before .before .before .before .wide16 .ensures) refl refl))
-    start-low
+    let state-left =
+    state-ready rows groups (at .args .work .now) next accepting (at .args .met .now) (at .args .numbers .now) (at .args .count)
+    ready i g (getD next g 0) (getD accepting g 0) early g-is refl refl in
+    let next-field =
+    fields-more rows groups i g (omega (arith, ready .numbered .counted))
+    (g-is ∙ met-nth (metGroups (treeOf rows) groups) (ready .numbered) i early) in
+    left-more (head .loop .inv rows groups ready) (fieldOf rows groups g) (fieldsFrom rows groups (i + 1))
+    (written .last .1 .1 .1 .1 .1 .0) (length (fieldOf rows groups g)) (written .result) next-field
+    (written .ensures (fieldOf rows groups g) state-left) start-low
 
 same-length : tie.Need-same-length Inv-loop μ-loop
 same-length c =
