@@ -8,7 +8,7 @@ use Prim.Native.Nat.{ℕ, _+_, _<_, _≤_}
 use native.Mathlib.Omega.{arith}
 use lib.Dec.{eqb}
 use lib.ListN.{length, getD, set, replicate, length-set, length-replicate, getD-replicate}
-use lib.Seq.{getD-set-same, getD-set-other}
+use lib.Seq.{getD-set-same, getD-set-other, set-getD}
 use borrow.Author.Tests.{eqb-true, eqb-false}
 use Rattle.model.specs.Limits.{when}
 use Rattle.model.specs.Classes.{Word}
@@ -95,11 +95,21 @@ module _ (v : ℕ) (accepts groups accepting : List ℕ) (inside : v < length gr
       kept : (g : ℕ) → (g ≡ getD groups v 0 → ⊥) → getD (set accepting (getD groups v 0) 1) g 0 ≡ getD accepting g 0
       kept g d = getD-set-other accepting (getD groups v 0) g 1 0 d
 
+  -- a mark that stays is no store
+  stored :
+      (b : Bool) →
+      set accepting (getD groups v 0) (cond b 1 (getD accepting (getD groups v 0) 0))
+      ≡ cond b (set accepting (getD groups v 0) 1) accepting
+  stored true = refl
+  stored false = set-getD accepting (getD groups v 0) 0
+
   -- one more state
   pub mark-more :
-      (g b : ℕ) (accepting′ : List ℕ) → g ≡ getD groups v 0 → b ≡ getD accepts v 0 →
-      accepting′ ≡ cond (eqb b 1) (set accepting g 1) accepting → MarkedUpTo (v + 1) accepts groups accepting′
-  mark-more g b accepting′ e f k = rw (k, e, f) (one-more (eqb (getD accepts v 0) 1) refl)
+      (g mark : ℕ) (accepting′ : List ℕ) → g ≡ getD groups v 0 →
+      mark ≡ cond (eqb (getD accepts v 0) 1) 1 (getD accepting g 0) → accepting′ ≡ set accepting g mark →
+      MarkedUpTo (v + 1) accepts groups accepting′
+  mark-more g mark accepting′ e f k =
+      rw (k, f, e, stored (eqb (getD accepts v 0) 1)) (one-more (eqb (getD accepts v 0) 1) refl)
 
 -- a number below 2 that is 1 exactly if the test holds
 told-byte : (b : Bool) {P : Type 0} → Tells b P → (x : ℕ) → x < 2 → (x ≡ 1) ↔ P → x ≡ when b 1
