@@ -61,7 +61,7 @@ fn put_states(out: &mut [u8; ROOM], from: usize, count: usize) -> usize
 fn line(tried: &[u8], number: u8) {
     io::write_all(STDOUT_FILENO, tried);
     io::write_all(STDOUT_FILENO, b": ");
-    io::number::print_decimal(STDOUT_FILENO, number as u64);
+    io::print_decimal(STDOUT_FILENO, number as u64);
     io::write_all(STDOUT_FILENO, b"\n");
 }
 
@@ -71,6 +71,13 @@ fn table(tried: &[u8], bytes: &[u8]) {
     let mut out = io::buffer();
     let built = plans::rewrite_table(bytes, &mut work, &mut out);
     line(tried, built.number);
+}
+
+// The table that the buffer holds before `end`.
+fn table_in(tried: &[u8], buffer: &[u8; ROOM], end: usize)
+    requires { ⌜ end ≤ 4096 ⌝ }
+{
+    table(tried, &buffer[..end]);
 }
 
 // A row walked over the good table.
@@ -143,13 +150,13 @@ fn limits() {
     let names = put_names(&mut out, 64);
     let class = put(&mut out, names, &CLASS);
     let end = put_states(&mut out, class, 1);
-    table(b"64 names", &out[..end]);
+    table_in(b"64 names", &out, end);
     let more = put_names(&mut out, 65);
-    table(b"65 names", &out[..more]);
+    table_in(b"65 names", &out, more);
     let name = put(&mut out, 0, &NAME);
     let only = put(&mut out, name, &CLASS);
     let states = put_states(&mut out, only, 513);
-    table(b"513 states", &out[..states]);
+    table_in(b"513 states", &out, states);
 }
 
 // Rows: 9, and what just passes.

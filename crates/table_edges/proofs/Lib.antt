@@ -1,0 +1,1 @@
+-- The proofs of table_edges: its two loops. Assumes nothing.
