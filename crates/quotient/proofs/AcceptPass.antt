@@ -73,7 +73,9 @@ module _ (v : ℕ) (accepts groups accepting : List ℕ) (inside : v < length gr
   one-more true t =
       record {
         size = omega (arith, length-set accepting (getD groups v 0) 1, before .size);
-        small = λ g h. ⊎-elim (λ e. omega (arith, marked g e)) (λ d. omega (arith, kept g d, before .small g h)) (eq-dec g (getD groups v 0));
+        small = λ g h.
+            ⊎-elim (λ e. omega (arith, marked g e)) (λ d. omega (arith, kept g d, before .small g h))
+            (eq-dec g (getD groups v 0));
         each = λ g h. (
           λ b. ⊎-elim
               (λ e. (v, omega arith, sym e, eqb-true (getD accepts v 0) 1 t))
@@ -128,7 +130,8 @@ mark-end rows accepts groups accepting v told labels end r =
       each = λ g h.
           let size : length groups ≡ length (treeOf rows) = labels .size in
           let low : g < length groups = omega arith in
-          told-byte (groupAccepts rows (treeOf rows) groups g) (tells-accepting rows accepts groups told labels g) (getD accepting g 0) (r .small g low) (
+          let tells = tells-accepting rows accepts groups told labels g in
+          told-byte (groupAccepts rows (treeOf rows) groups g) tells (getD accepting g 0) (r .small g low) (
             λ b. let s = r .each g low .0 b in (s .0, omega (arith, s .1), s .2, s .3),
             λ s. r .each g low .1 (s .0, omega (arith, s .1), s .2, s .3),
           );

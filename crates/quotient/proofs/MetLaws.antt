@@ -333,7 +333,13 @@ module _ (rows : List Word) (groups work next : List ℕ) (gathered : Gathered r
   look-at met numbers i count g r h e zero k =
       let counted : count ≡ length (r .seen) = r .so-far .counted in
       let z : ⊥ =
-      omega (arith, r .enough, every-few, ap length (r .comes-to), metFrom-adds (r .looks) i (transitionsOf (treeOf rows) groups) (r .seen)) in
+      omega (
+        arith,
+        r .enough,
+        every-few,
+        ap length (r .comes-to),
+        metFrom-adds (r .looks) i (transitionsOf (treeOf rows) groups) (r .seen),
+      ) in
       absurd z
   look-at met numbers i count g r h e (suc looks) k =
       let ts = transitionsOf (treeOf rows) groups in

@@ -203,7 +203,8 @@ put-requires c κs =
 
 add-v : tie.Need-add-v Inv-loop μ-loop
 add-v c =
-    let turn = c .before .before .before .before .before .before .before .before .before .before .before .before .before .before .before .before in
+    let after-put = c .before .before in
+    let turn = after-put .before .before .before .before .before .before .before .before .before .before .before .before .before .before in
     let head = turn .before in
     let at = entry head in
     let joined = at .pre .0 .1 in
@@ -216,7 +217,8 @@ add-v c =
 
 loop-less : tie.Need-loop-less Inv-loop μ-loop
 loop-less c =
-    let turn = c .before .before .before .before .before .before .before .before .before .before .before .before .before .before .before .before in
+    let after-put = c .before .before in
+    let turn = after-put .before .before .before .before .before .before .before .before .before .before .before .before .before .before in
     let head = turn .before in
     let at = entry head in
     let joined = at .pre .0 .1 in

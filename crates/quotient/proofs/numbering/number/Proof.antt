@@ -78,7 +78,8 @@ loop-holds c =
         λ rows gathered.
             let met =
             root-meeting rows groups work next gathered (at .args .met .now) (at .args .numbers .now) (after-none-met .none-met .last .0)
-            (after-wide16 .wide16 .result) (at .pre .1 .0) (at .pre .1 .1) (after-none-met .none-met .ensures) (after-wide16 .wide16 .ensures) in
+            (after-wide16 .wide16 .result) (at .pre .1 .0) (at .pre .1 .1) (after-none-met .none-met .ensures)
+            (after-wide16 .wide16 .ensures) in
             numbering-start rows groups work next gathered (first .last .0) (first .last .1 .0) (after-wide16 .wide16 .result)
             (first .result) (after-wide16 .wide16 .ensures) (first .ensures (length (treeOf rows)) (after-wide16 .wide16 .result ∷ []) met),
       ),
