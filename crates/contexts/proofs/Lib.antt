@@ -1,2 +1,3 @@
 -- Why climbing gives what the context rule asks for. Assumes nothing.
+pub mod BitLaws
 pub mod ClimbLaws

@@ -1,2 +1,3 @@
 -- What climbing from states with the same last names promises. Assumes nothing.
+pub mod Bits
 pub mod Climbs

@@ -1,5 +1,7 @@
 // The joining of a book's prefix tree by the context rule: states with the same last h names out of whose groups k - h names lead
 // in common are in one group, and no group has arcs of one name to two groups.
+pub mod bits;
+
 use cells::numbers::wide16;
 ghost use mathlib.Core.Path.{_≡_};
 ghost use Prim.Native.Nat.{_+_, _<_, _≤_};
