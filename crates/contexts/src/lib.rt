@@ -4,7 +4,9 @@ pub mod bits;
 
 use cells::numbers::wide16;
 ghost use mathlib.Core.Path.{_≡_};
-ghost use Prim.Native.Nat.{_+_, _<_, _≤_};
+ghost use mathlib.Core.Bool.{true};
+ghost use mathlib.Core.Logic.{_↔_};
+ghost use Prim.Native.Nat.{ℕ, _+_, _<_, _≤_};
 ghost use lib.ListN.{length, getD};
 ghost use Rattle.cells.specs.Cells.{work-bytes};
 ghost use Rattle.model.specs.Limits.{setting-limit, state-limit};
@@ -12,6 +14,10 @@ ghost use Rattle.indexed.specs.Trees.{Arrays};
 ghost use Rattle.indexed.specs.Partitions.{Labelled};
 ghost use Rattle.indexed.specs.Passes.{ContextJoined};
 ghost use Rattle.contexts.specs.Climbs.{Above, Climbed, ClimbedBelow};
+ghost use Rattle.contexts.specs.Sweeps.{Pairing, Pair, PairMarked, Marking, RowMarked};
+
+// The class of a state with too few names.
+const NONE: u16 = 512;
 
 // Joins the groups of the ancestors of v and w, the first of each, the second, and so on up to the m-th.
 fn climb(m: usize, parents: &[u16], groups: &mut [u16], v: usize, w: usize)
@@ -78,6 +84,87 @@ fn climb_starts(m: usize, parents: &[u16], groups: &mut [u16])
     let mut starts = [0u16; 512];
     suffixes::copy(groups, &mut starts[..n]);
     climb_all(m, parents, &starts[..n], groups);
+}
+
+// Whether e and f are arcs of one class and the groups of their targets are in a matrix.
+fn is_pair(classes: &[u16], old: &[u16], work: &[u8], matrix: usize, e: usize, f: usize) -> bool
+    requires sizes { ⌜ (length (now classes) ≡ length (now old)) × (length (now old) ≤ state-limit) ⌝ }
+    requires below { ⌜ ((v : ℕ) → v < length (now old) → getD (now old) v 0 < state-limit) ⌝ }
+    requires matrix_two { ⌜ matrix ≤ 1 ⌝ }
+    requires e_inside { ⌜ e < length (now old) ⌝ }
+    requires f_inside { ⌜ f < length (now old) ⌝ }
+    requires room { ⌜ work-bytes ≤ length (now work) ⌝ }
+    ensures { λ r. ⌜ (r ≡ true) ↔ Pair (now (classes .entry)) (now (old .entry)) (now (work .entry)) matrix e f ⌝ }
+{
+    let class = classes[e];
+    if NONE <= class {
+        return false;
+    }
+    if class != classes[f] {
+        return false;
+    }
+    bits::has_bit(work, bits::place_of(matrix, wide16(old[e]), wide16(old[f])))
+}
+
+// Where e and f are a pair, puts the groups of their sources into the other matrix.
+fn mark_pair(
+    parents: &[u16],
+    classes: &[u16],
+    old: &[u16],
+    work: &mut [u8],
+    matrix: usize,
+    e: usize,
+    f: usize,
+)
+    requires ready { ⌜ Pairing (length (now old)) (now parents) (now classes) (now old) ⌝ }
+    requires matrix_two { ⌜ matrix ≤ 1 ⌝ }
+    requires e_inside { ⌜ e < length (now old) ⌝ }
+    requires f_inside { ⌜ f < length (now old) ⌝ }
+    requires room { ⌜ work-bytes ≤ length (now work) ⌝ }
+    ensures { λ _.
+        ⌜ PairMarked (now (parents .entry)) (now (classes .entry)) (now (old .entry)) matrix e f (now (work .entry))
+        (now (work .exit)) ⌝ }
+{
+    if is_pair(classes, old, work, matrix, e, f) {
+        let x = suffixes::class_above(old, parents, e);
+        let y = suffixes::class_above(old, parents, f);
+        bits::set_bit(work, bits::place_of(1 - matrix, x, y));
+        return;
+    }
+}
+
+// The pairs of e with every arc.
+fn mark_row(parents: &[u16], classes: &[u16], old: &[u16], work: &mut [u8], matrix: usize, e: usize)
+    requires ready { ⌜ Pairing (length (now old)) (now parents) (now classes) (now old) ⌝ }
+    requires matrix_two { ⌜ matrix ≤ 1 ⌝ }
+    requires e_inside { ⌜ e < length (now old) ⌝ }
+    requires room { ⌜ work-bytes ≤ length (now work) ⌝ }
+    ensures { λ _.
+        ⌜ RowMarked (length (now (old .entry))) e matrix (now (parents .entry)) (now (classes .entry)) (now (old .entry))
+        (now (work .entry)) (now (work .exit)) ⌝ }
+{
+    let mut f = 0;
+    while f < old.len() {
+        mark_pair(parents, classes, old, work, matrix, e, f);
+        f += 1;
+    }
+}
+
+// One level more: the other matrix has the groups of the sources of all pairs, and nothing else.
+fn mark_level(parents: &[u16], classes: &[u16], old: &[u16], work: &mut [u8], matrix: usize)
+    requires ready { ⌜ Pairing (length (now old)) (now parents) (now classes) (now old) ⌝ }
+    requires matrix_two { ⌜ matrix ≤ 1 ⌝ }
+    requires room { ⌜ work-bytes ≤ length (now work) ⌝ }
+    ensures { λ _.
+        ⌜ Marking (length (now (old .entry))) (length (now (old .entry))) 0 matrix (now (parents .entry)) (now (classes .entry))
+        (now (old .entry)) (now (work .entry)) (now (work .exit)) ⌝ }
+{
+    bits::fill_matrix(work, 1 - matrix, 0);
+    let mut e = 0;
+    while e < old.len() {
+        mark_row(parents, classes, old, work, matrix, e);
+        e += 1;
+    }
 }
 
 // Joins by the context rule until it applies no more. What the lent area holds at first is all the same.
