@@ -2,3 +2,4 @@
 pub mod BitLaws
 pub mod ClimbLaws
 pub mod MarkLaws
+pub mod SweepLaws

@@ -14,7 +14,7 @@ use Rattle.indexed.specs.Passes.{SuffixClasses}
 use Rattle.indexed.proofs.Suffixes.{parent-below, suffix-refl, suffix-sym, suffix-trans, suffix-fewer}
 use Rattle.suffixes.specs.Rounds.{above}
 use Rattle.contexts.specs.Bits.{bitAt, withBit, place, Marked, FilledHalf}
-use Rattle.contexts.specs.Sweeps.{Pairing, Pair, PairMarked, no-pair, put, Done, Source, Marking, RowMarked, LevelIs}
+use Rattle.contexts.specs.Sweeps.{Pairing, Pair, PairMarked, no-pair, put, Done, Source, Marking, RowMarked, LevelIs, LevelsMarked}
 use Rattle.contexts.proofs.BitLaws.{length-withBit, bit-same, bit-other, filled-all, filled-none, filled-kept}
 
 -- one place more in a row
@@ -187,31 +187,13 @@ module _ (n h : ℕ) (parents names classes old : List ℕ) (arrays : Arrays n p
         subst (λ (x : ℕ). SameSuffix parents names h x v) (sym e) (suffix-refl n parents names arrays h v w s)
     like u v w s (inr t) = t
 
-    module _ (by : SuffixClasses n (suc h) parents names classes) (j matrix : ℕ) (work work′ : List ℕ)
-        (level : LevelIs n h j matrix parents names old work)
-        (marking : Marking n n 0 matrix parents classes old work work′) where
-      level-sound :
-          (v w : ℕ) → v < n → w < n → Marked work′ (1 - matrix) (getD old v 0) (getD old w 0) →
-          Share n parents names old (suc j) v w
-      level-sound v w hv hw marked =
-          let s = marking .sound (getD old v 0) (getD old w 0) (pairing .old-below v hv) (pairing .old-below w hw) marked in
-          let arcs = by .alike (s .e) (s .f) (s .e-below) (s .f-below) .0 (s .pair .classed, s .pair .one-class) in (
-            s .e,
-            s .f,
-            arcs .0,
-            arcs .1,
-            s .e-below,
-            s .f-below,
-            arcs .2,
-            s .at-x,
-            s .at-y,
-            level .sound (s .e) (s .f) (s .e-below) (s .f-below) (s .pair .marked),
-          )
-
-      level-complete :
+    module _ (by : SuffixClasses n (suc h) parents names classes) (j matrix : ℕ) (work : List ℕ)
+        (level : LevelIs n h j matrix parents names old work) where
+      -- two arcs that one name more leaves in common are a pair
+      pub shared-pair :
           SuffixAgree n h parents names old → (v w : ℕ) → v < n → w < n → SameSuffix parents names h v w →
-          Share n parents names old (suc j) v w → Marked work′ (1 - matrix) (getD old v 0) (getD old w 0)
-      level-complete agree v w hv hw s shared =
+          (shared : Share n parents names old (suc j) v w) → Pair classes old work matrix (shared .0) (shared .1)
+      shared-pair agree v w hv hw s shared =
           let x = shared .0 in
           let y = shared .1 in
           let hx : x < n = shared .4 in
@@ -230,11 +212,62 @@ module _ (n h : ℕ) (parents names classes old : List ℕ) (arrays : Arrays n p
           let arcs : SameSuffix parents names (suc h) x y = (shared .2, shared .3, shared .6, sources) in
           let targets : SameSuffix parents names h x y = suffix-fewer n parents names arrays (suc h) h x y (omega arith) arcs in
           let class = by .alike x y hx hy .1 arcs in
-          let pair : Pair classes old work matrix x y =
-          record { classed = class .0; one-class = class .1; marked = level .complete agree x y hx hy targets (shared .9) } in
-          subst (λ (a : ℕ). Marked work′ (1 - matrix) a (getD old w 0)) (shared .7)
-          (subst (λ (b : ℕ). Marked work′ (1 - matrix) (above old parents x) b) (shared .8)
-          (marking .complete x y hx hy (inl hx) pair))
+          record { classed = class .0; one-class = class .1; marked = level .complete agree x y hx hy targets (shared .9) }
 
-      pub level-more : LevelIs n h (suc j) (1 - matrix) parents names old work′
-      level-more = record { sound = level-sound; complete = level-complete }
+      -- the sources of a pair have the same last h names, and one name more in common
+      pub pair-suffix :
+          (e f : ℕ) → e < n → f < n → Pair classes old work matrix e f → SameSuffix parents names (suc h) e f
+      pair-suffix e f he hf pair = by .alike e f he hf .0 (pair .classed, pair .one-class)
+
+      pub pair-share :
+          (e f v w : ℕ) → e < n → f < n → Pair classes old work matrix e f → above old parents e ≡ getD old v 0 →
+          above old parents f ≡ getD old w 0 → Share n parents names old (suc j) v w
+      pair-share e f v w he hf pair at-v at-w =
+          let arcs = pair-suffix e f he hf pair in
+          (e, f, arcs .0, arcs .1, he, hf, arcs .2, at-v, at-w, level .sound e f he hf (pair .marked))
+
+      module _ (work′ : List ℕ) (marking : Marking n n 0 matrix parents classes old work work′) where
+        level-sound :
+            (v w : ℕ) → v < n → w < n → Marked work′ (1 - matrix) (getD old v 0) (getD old w 0) →
+            Share n parents names old (suc j) v w
+        level-sound v w hv hw marked =
+            let s = marking .sound (getD old v 0) (getD old w 0) (pairing .old-below v hv) (pairing .old-below w hw) marked in
+            pair-share (s .e) (s .f) v w (s .e-below) (s .f-below) (s .pair) (s .at-x) (s .at-y)
+
+        level-complete :
+            SuffixAgree n h parents names old → (v w : ℕ) → v < n → w < n → SameSuffix parents names h v w →
+            Share n parents names old (suc j) v w → Marked work′ (1 - matrix) (getD old v 0) (getD old w 0)
+        level-complete agree v w hv hw s shared =
+            subst (λ (a : ℕ). Marked work′ (1 - matrix) a (getD old w 0)) (shared .7)
+            (subst (λ (b : ℕ). Marked work′ (1 - matrix) (above old parents (shared .0)) b) (shared .8)
+            (marking .complete (shared .0) (shared .1) (shared .4) (shared .5) (inl (shared .4))
+            (shared-pair agree v w hv hw s shared)))
+
+        pub level-more : LevelIs n h (suc j) (1 - matrix) parents names old work′
+        level-more = record { sound = level-sound; complete = level-complete }
+
+module _ (n : ℕ) (parents classes old : List ℕ) (pairing : Pairing n parents classes old) where
+  pub levels-none :
+      (work work′ : List ℕ) → FilledHalf 0 255 work work′ → LevelsMarked n 1 0 parents classes old work′
+  levels-none work work′ filled =
+      record {
+        two = omega arith;
+        level = λ h names arrays by j e.
+            let none : 0 ≡ j = omega arith in
+            subst (λ (i : ℕ). LevelIs n h i 0 parents names old work′) none
+            (level-zero n h parents names classes old arrays pairing work work′ filled);
+      }
+
+  pub levels-more :
+      (m matrix : ℕ) (work work′ : List ℕ) → 0 < m → LevelsMarked n m matrix parents classes old work →
+      Marking n n 0 matrix parents classes old work work′ → LevelsMarked n (suc m) (1 - matrix) parents classes old work′
+  levels-more m matrix work work′ some levels marking =
+      record {
+        two = omega arith;
+        level = λ h names arrays by j e.
+            let last : suc (m - 1) ≡ m = omega arith in
+            let next : suc (m - 1) ≡ j = omega arith in
+            subst (λ (i : ℕ). LevelIs n h i (1 - matrix) parents names old work′) next
+            (level-more n h parents names classes old arrays pairing by (m - 1) matrix work
+            (levels .level h names arrays by (m - 1) last) work′ marking);
+      }

@@ -8,8 +8,9 @@ use mathlib.Core.List.{List}
 use Prim.Native.Nat.{ℕ, suc, _-_, _<_, _≤_}
 use lib.ListN.{length, getD}
 use Rattle.model.specs.Limits.{state-limit}
-use Rattle.indexed.specs.Trees.{SameSuffix}
+use Rattle.indexed.specs.Trees.{Arrays, SameSuffix}
 use Rattle.indexed.specs.Partitions.{Refines, Labelled, Share, SuffixAgree, sum}
+use Rattle.indexed.specs.Passes.{SuffixClasses, Swept}
 use Rattle.suffixes.specs.Rounds.{above}
 use Rattle.contexts.specs.Bits.{bitAt, withBit, place, Marked}
 use Rattle.contexts.specs.Climbs.{ParentsJoined}
@@ -72,3 +73,49 @@ pub record LevelIs (n h j matrix : ℕ) (parents names old work : List ℕ) : Ty
   pub complete :
       SuffixAgree n h parents names old → (v w : ℕ) → v < n → w < n → SameSuffix parents names h v w →
       Share n parents names old j v w → Marked work matrix (getD old v 0) (getD old w 0)
+
+-- the levels below m are done, and the last of them is in this matrix
+pub record LevelsMarked (n m matrix : ℕ) (parents classes old work : List ℕ) : Type 0 where
+  pub two : matrix ≤ 1
+  pub level :
+      (h : ℕ) (names : List ℕ) → Arrays n parents names → SuffixClasses n (suc h) parents names classes → (j : ℕ) → suc j ≡ m →
+      LevelIs n h j matrix parents names old work
+
+-- the sources of e and f are joined where e and f are a pair; true where they were in two groups
+pub record PairJoined (n : ℕ) (parents classes old work : List ℕ) (matrix e f : ℕ) (groups groups′ : List ℕ) (joined : Bool) : Type 0
+  where
+    pub labelled : Labelled n groups′
+    pub coarser : Refines n groups groups′
+    pub sound :
+        (others : List ℕ) → (Pair classes old work matrix e f → ParentsJoined parents others e f) → Refines n groups others →
+        Refines n groups′ others
+    pub together : Pair classes old work matrix e f → ParentsJoined parents groups′ e f
+    pub none : joined ≡ false → groups′ ≡ groups
+    pub some : joined ≡ true → sum groups′ < sum groups
+
+-- the sources of the pairs done, and nothing else, are joined
+pub record Joining (n i j : ℕ) (parents classes old work : List ℕ) (matrix : ℕ) (groups groups′ : List ℕ) (joined : Bool) : Type 0
+  where
+    pub labelled : Labelled n groups′
+    pub coarser : Refines n groups groups′
+    pub sound :
+        (others : List ℕ) →
+        ((e f : ℕ) → e < n → f < n → Pair classes old work matrix e f → ParentsJoined parents others e f) →
+        Refines n groups others → Refines n groups′ others
+    pub complete :
+        (e f : ℕ) → e < n → f < n → Done i j e f → Pair classes old work matrix e f → ParentsJoined parents groups′ e f
+    pub none : joined ≡ false → groups′ ≡ groups
+    pub some : joined ≡ true → sum groups′ < sum groups
+
+-- a row of pairs joined
+pub record RowJoined (n e : ℕ) (parents classes old work : List ℕ) (matrix : ℕ) (groups groups′ : List ℕ) (joined : Bool) : Type 0
+  where
+    pub row :
+        (base : List ℕ) (before : Bool) → Joining n e 0 parents classes old work matrix base groups before →
+        Joining n (suc e) 0 parents classes old work matrix base groups′ (before || joined)
+
+-- all levels and the joins of the last, by classes of the last h + 1 names and the groups as they were at first
+pub record SweptBy (n m : ℕ) (parents classes groups groups′ : List ℕ) (joined : Bool) : Type 0 where
+  pub swept :
+      (h : ℕ) (names : List ℕ) → Arrays n parents names → SuffixClasses n (suc h) parents names classes →
+      SuffixAgree n h parents names groups → Swept n h m parents names groups groups′ joined

@@ -14,7 +14,8 @@ ghost use Rattle.indexed.specs.Trees.{Arrays};
 ghost use Rattle.indexed.specs.Partitions.{Labelled};
 ghost use Rattle.indexed.specs.Passes.{ContextJoined};
 ghost use Rattle.contexts.specs.Climbs.{Above, Climbed, ClimbedBelow};
-ghost use Rattle.contexts.specs.Sweeps.{Pairing, Pair, PairMarked, Marking, RowMarked};
+ghost use Rattle.contexts.specs.Sweeps.{Pairing, Pair, PairMarked, Marking, RowMarked, LevelsMarked};
+ghost use Rattle.contexts.specs.Sweeps.{PairJoined, RowJoined, Joining, SweptBy};
 
 // The class of a state with too few names.
 const NONE: u16 = 512;
@@ -165,6 +166,136 @@ fn mark_level(parents: &[u16], classes: &[u16], old: &[u16], work: &mut [u8], ma
         mark_row(parents, classes, old, work, matrix, e);
         e += 1;
     }
+}
+
+// All levels below m, from every pair at the lowest: which matrix has the last of them.
+fn mark_levels(m: usize, parents: &[u16], classes: &[u16], old: &[u16], work: &mut [u8]) -> usize
+    requires ready { ⌜ Pairing (length (now old)) (now parents) (now classes) (now old) ⌝ }
+    requires some { ⌜ 0 < m ⌝ }
+    requires room { ⌜ work-bytes ≤ length (now work) ⌝ }
+    ensures { λ r.
+        ⌜ LevelsMarked (length (now (old .entry))) m r (now (parents .entry)) (now (classes .entry)) (now (old .entry))
+        (now (work .exit)) ⌝ }
+{
+    bits::fill_matrix(work, 0, 255);
+    let mut matrix = 0;
+    let mut j = 1;
+    while j < m {
+        mark_level(parents, classes, old, work, matrix);
+        matrix = 1 - matrix;
+        j += 1;
+    }
+    matrix
+}
+
+// Where e and f are a pair, joins the groups of their sources; true where they were two.
+fn join_pair(
+    parents: &[u16],
+    classes: &[u16],
+    old: &[u16],
+    work: &[u8],
+    matrix: usize,
+    groups: &mut [u16],
+    e: usize,
+    f: usize,
+) -> bool
+    requires ready { ⌜ Pairing (length (now old)) (now parents) (now classes) (now old) ⌝ }
+    requires matrix_two { ⌜ matrix ≤ 1 ⌝ }
+    requires e_inside { ⌜ e < length (now old) ⌝ }
+    requires f_inside { ⌜ f < length (now old) ⌝ }
+    requires room { ⌜ work-bytes ≤ length (now work) ⌝ }
+    requires size { ⌜ length (now groups) ≡ length (now old) ⌝ }
+    requires labelled { ⌜ Labelled (length (now old)) (now groups) ⌝ }
+    ensures { λ r.
+        ⌜ PairJoined (length (now (old .entry))) (now (parents .entry)) (now (classes .entry)) (now (old .entry))
+        (now (work .entry)) matrix e f (now (groups .entry)) (now (groups .exit)) r ⌝ }
+{
+    if is_pair(classes, old, work, matrix, e, f) {
+        let x = wide16(parents[e]);
+        let y = wide16(parents[f]);
+        return partition::join_states(groups, x, y);
+    }
+    false
+}
+
+// The pairs of e with every arc, joined; true where any were in two groups.
+fn join_row(
+    parents: &[u16],
+    classes: &[u16],
+    old: &[u16],
+    work: &[u8],
+    matrix: usize,
+    groups: &mut [u16],
+    e: usize,
+) -> bool
+    requires ready { ⌜ Pairing (length (now old)) (now parents) (now classes) (now old) ⌝ }
+    requires matrix_two { ⌜ matrix ≤ 1 ⌝ }
+    requires e_inside { ⌜ e < length (now old) ⌝ }
+    requires room { ⌜ work-bytes ≤ length (now work) ⌝ }
+    requires size { ⌜ length (now groups) ≡ length (now old) ⌝ }
+    requires labelled { ⌜ Labelled (length (now old)) (now groups) ⌝ }
+    ensures { λ r.
+        ⌜ RowJoined (length (now (old .entry))) e (now (parents .entry)) (now (classes .entry)) (now (old .entry))
+        (now (work .entry)) matrix (now (groups .entry)) (now (groups .exit)) r ⌝ }
+{
+    let mut joined = false;
+    let mut f = 0;
+    while f < old.len() {
+        let joins = join_pair(parents, classes, old, work, matrix, groups, e, f);
+        joined = joined | joins;
+        f += 1;
+    }
+    joined
+}
+
+// All pairs joined; true where any were in two groups.
+fn join_pairs(
+    parents: &[u16],
+    classes: &[u16],
+    old: &[u16],
+    work: &[u8],
+    matrix: usize,
+    groups: &mut [u16],
+) -> bool
+    requires ready { ⌜ Pairing (length (now old)) (now parents) (now classes) (now old) ⌝ }
+    requires matrix_two { ⌜ matrix ≤ 1 ⌝ }
+    requires room { ⌜ work-bytes ≤ length (now work) ⌝ }
+    requires size { ⌜ length (now groups) ≡ length (now old) ⌝ }
+    requires labelled { ⌜ Labelled (length (now old)) (now groups) ⌝ }
+    ensures { λ r.
+        ⌜ Joining (length (now (old .entry))) (length (now (old .entry))) 0 (now (parents .entry)) (now (classes .entry))
+        (now (old .entry)) (now (work .entry)) matrix (now (groups .entry)) (now (groups .exit)) r ⌝ }
+{
+    let mut joined = false;
+    let mut e = 0;
+    while e < old.len() {
+        let joins = join_row(parents, classes, old, work, matrix, groups, e);
+        joined = joined | joins;
+        e += 1;
+    }
+    joined
+}
+
+// The sweep by classes of arcs, with the groups as they are at first in `old` too; true where anything was joined.
+fn sweep_by(
+    m: usize,
+    parents: &[u16],
+    classes: &[u16],
+    old: &[u16],
+    groups: &mut [u16],
+    work: &mut [u8],
+) -> bool
+    requires ready { ⌜ Pairing (length (now old)) (now parents) (now classes) (now old) ⌝ }
+    requires some { ⌜ 0 < m ⌝ }
+    requires room { ⌜ work-bytes ≤ length (now work) ⌝ }
+    requires same { ⌜ now groups ≡ now old ⌝ }
+    requires labelled { ⌜ Labelled (length (now old)) (now old) ⌝ }
+    ensures { λ r.
+        ⌜ SweptBy (length (now (old .entry))) m (now (parents .entry)) (now (classes .entry)) (now (old .entry))
+        (now (groups .exit)) r ⌝ }
+{
+    let matrix = mark_levels(m, parents, classes, old, work);
+    join_pairs(parents, classes, old, work, matrix, groups)
 }
 
 // Joins by the context rule until it applies no more. What the lent area holds at first is all the same.
