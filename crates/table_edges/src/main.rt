@@ -73,11 +73,16 @@ fn table(tried: &[u8], bytes: &[u8]) {
     line(tried, built.number);
 }
 
-// The table that the buffer holds before `end`.
-fn table_in(tried: &[u8], buffer: &[u8; ROOM], end: usize)
-    requires { ⌜ end ≤ 4096 ⌝ }
-{
-    table(tried, &buffer[..end]);
+// The table that stands before `end`.
+fn table_before(tried: &[u8], bytes: &[u8], end: usize) {
+    if end <= bytes.len() {
+        table(tried, &bytes[..end]);
+    }
+}
+
+// The same in a buffer. (Of an array behind a reference the prover lends only the whole.)
+fn table_in(tried: &[u8], buffer: &[u8; ROOM], end: usize) {
+    table_before(tried, buffer, end);
 }
 
 // A row walked over the good table.
