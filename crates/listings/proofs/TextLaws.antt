@@ -27,12 +27,12 @@ module _ {text₀ : List ℕ} {at : ℕ} {whole text : List ℕ} {next : ℕ} wh
   parts {left} w = sym (length-append (w .done) left) ∙ ap length (w .all)
 
   -- the text is as long as it was
-  pub same-length : {left : List ℕ} → Writing text₀ at whole text next left → length text ≡ length text₀
-  same-length w = written-length (w .written) (omega (arith, parts w, w .fits))
+  pub keeps-length : {left : List ℕ} → Writing text₀ at whole text next left → length text ≡ length text₀
+  keeps-length w = written-length (w .written) (omega (arith, parts w, w .fits))
 
   -- there is room for what is left
   pub room-left : {left : List ℕ} → Writing text₀ at whole text next left → Fits text next left
-  room-left w = omega (arith, parts w, w .fits, w .ends, same-length w)
+  room-left w = omega (arith, parts w, w .fits, w .ends, keeps-length w)
 
   -- and so for the first piece of it
   pub room : (piece left : List ℕ) → Writing text₀ at whole text next (piece ++ left) → Fits text next piece

@@ -21,9 +21,8 @@ ghost use Rattle.tables.specs.Accepting.{StateField};
 ghost use Rattle.listings.specs.Texts.{Fits, Puts, namesAt, nameAt, stateAt};
 
 // Where the n-th name's field begins, names being the first fields of a table.
-fn name_offset(table: &[u8], place: Place, n: u8) -> usize
-    requires { ⌜ Sound (now table) place ⌝ }
-    requires { ⌜ n < place .names ⌝ }
+fn name_offset(table: &[u8], n: u8) -> usize
+    requires { ⌜ offsetAt (now table) 0 n ≤ length (now table) ⌝ }
     ensures { λ r. ⌜ r ≡ offsetAt (now (table .entry)) 0 n ⌝ }
 {
     let mut at = 0;
@@ -44,7 +43,7 @@ fn put_name(table: &[u8], place: Place, n: u8, text: &mut [u8], at: usize) -> us
     if place.names <= n {
         return at;
     }
-    let from = name_offset(table, place, n);
+    let from = name_offset(table, n);
     copy_in(text, at, body(table, from))
 }
 
