@@ -1,8 +1,10 @@
 // The listing of a table as text, written once into a lent slice: a first line with the number of states and of joins, then a line
-// for each state. Each function writes its bytes from an offset on, leaves the rest as it was, and returns the offset after them.
-pub mod arcs;
-pub mod words;
+// for each state; and the text of a refusal. Each function writes its bytes from an offset on, or at the front, leaves the rest of
+// the slice as it was, and returns the offset after them.
+mod arcs;
+mod words;
 
+use cells::numbers::wide8;
 use fields::Place;
 use fields::offsets::next_field;
 use tables::accepts;
@@ -10,9 +12,10 @@ use words::NEWLINE;
 use words::SPACE;
 use words::put_byte;
 use words::put_first_line;
+use writing::copy_in;
 use writing::decimals::put_decimal;
 ghost use Prim.Native.Nat.{_<_};
-ghost use Rattle.model.specs.Listing.{stateLine, stateLines, listing};
+ghost use Rattle.model.specs.Listing.{stateLine, stateLines, listing, refusalText};
 ghost use Rattle.model.specs.Calls.{tableOf, tableStates};
 ghost use Rattle.fields.specs.Places.{Sound};
 ghost use Rattle.tables.specs.Accepting.{TableRead, StateField};
@@ -70,4 +73,14 @@ pub fn list_table(table: &[u8], place: Place, joins: usize, text: &mut [u8]) -> 
 {
     let next = put_first_line(place.items, joins, text);
     put_states(table, place, text, next)
+}
+
+// `refused N`, at the front; its length.
+pub fn refusal_text(number: u8, text: &mut [u8]) -> usize
+    requires { ⌜ Fits (now text) 0 (refusalText number) ⌝ }
+    ensures { λ r. ⌜ Puts (now (text .entry)) (now (text .exit)) 0 (refusalText number) r ⌝ }
+{
+    let mut next = copy_in(text, 0, b"refused ");
+    next = put_decimal(text, next, wide8(number));
+    put_byte(text, next, NEWLINE)
 }

@@ -1,12 +1,10 @@
-// The words and marks of a listing, its first line, and the text of a refusal.
-use cells::numbers::wide8;
+// The words and marks of a listing, and its first line.
 use writing::copy_in;
 use writing::decimals::put_decimal;
 ghost use mathlib.Core.Path.{_≡_};
 ghost use mathlib.Core.Bool.{cond};
 ghost use mathlib.Core.List.{[], _∷_};
 ghost use Prim.Native.Nat.{_<_};
-ghost use Rattle.model.specs.Listing.{refusalText};
 ghost use Rattle.listings.specs.Texts.{Fits, Puts, firstLine};
 
 // Between a line's parts, at its end, and between an arc's name and target.
@@ -43,15 +41,5 @@ pub fn put_first_line(states: usize, joins: usize, text: &mut [u8]) -> usize
     next = put_decimal(text, next, states);
     next = copy_in(text, next, b" joins ");
     next = put_decimal(text, next, joins);
-    put_byte(text, next, NEWLINE)
-}
-
-// `refused N`, at the front; its length.
-pub fn refusal_text(number: u8, text: &mut [u8]) -> usize
-    requires { ⌜ Fits (now text) 0 (refusalText number) ⌝ }
-    ensures { λ r. ⌜ Puts (now (text .entry)) (now (text .exit)) 0 (refusalText number) r ⌝ }
-{
-    let mut next = copy_in(text, 0, b"refused ");
-    next = put_decimal(text, next, wide8(number));
     put_byte(text, next, NEWLINE)
 }

@@ -1,4 +1,4 @@
--- `words::refusal_text` meets its contract: the word, the number and the newline are written one after the other. Assumes nothing.
+-- `refusal_text` meets its contract: the word, the number and the newline are written one after the other. Assumes nothing.
 use borrow.Author.Needs.{needs}
 use mathlib.Core.Path.{_≡_, sym, subst}
 use mathlib.Core.List.{List, _++_}
@@ -7,8 +7,8 @@ use native.Mathlib.Omega.{arith}
 use Rattle.model.specs.Listing.{refusalText, refused-word, decimal, newline}
 use Rattle.listings.specs.Texts.{Fits, Puts}
 use Rattle.listings.proofs.TextLaws.{Writing, begins, room, room-left, goes, ends-with}
-use Rattle.listings.proofs.words.refusal_text.Statement.{statement}
-use Rattle.listings.proofs.words.refusal_text.Tie as tie
+use Rattle.listings.proofs.refusal_text.Statement.{statement}
+use Rattle.listings.proofs.refusal_text.Tie as tie
 
 -- what is left of the text
 abbrev Left : tie.Start → List ℕ → ℕ → List ℕ → Type 0
