@@ -127,7 +127,8 @@ round-joining n parents names numbers keys more groups g₁ g₂ g₃ a b c size
     let j₁ = pass-joining n (length groups) parents numbers names groups g₁ a size p₁ in
     let j₂ = pass-joining n (length g₁) numbers parents keys g₁ g₂ b (j₁ .labelled .size) p₂ in
     let j₃ = pass-joining n (length g₂) numbers parents more g₂ g₃ c (j₂ .labelled .size) p₃ in
-    then-joining (TwoClosed n parents names numbers keys) (KeyClosed n numbers parents more) (RoundClosed n parents names numbers keys more) n groups g₂ g₃ (a || b) c
+    then-joining (TwoClosed n parents names numbers keys) (KeyClosed n numbers parents more)
+    (RoundClosed n parents names numbers keys more) n groups g₂ g₃ (a || b) c
     (λ l e. (e .forks, e .backs)) (λ l e. e .others) (λ l t e. record { forks = t .0; backs = t .1; others = e })
     (then-joining (KeyClosed n parents numbers names) (KeyClosed n numbers parents keys)
     (TwoClosed n parents names numbers keys) n groups g₁ g₂ a b

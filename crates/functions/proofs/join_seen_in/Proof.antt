@@ -9,41 +9,48 @@ use borrow.Author.Needs.{needs}
 use Rattle.functions.proofs.join_seen_in.Statement.{statement}
 use Rattle.functions.proofs.join_seen_in.Tie as tie
 
+-- the entry and the sets, seen from the places that the facts below are about
+abbrev from-sets : tie.After-seen-sets → tie.Start
+from-sets c = c .before .before .before .before .before .before .before .before .before .before .before .before
+
+abbrev sets-of : tie.After-keys-where → tie.After-seen-sets
+sets-of c = c .before .before .before .before .before .before .before .before .before .before
+
 -- the sets, the classes and the keys, by the number of states
 sets-here :
-    (c : tie.After-seen-sets) → let at = c .before .before .before .before .before .before .before .before .before .before .before .before in
+    (c : tie.After-seen-sets) → let at = from-sets c in
     SeenSets (length (at .args .groups .now)) (at .args .parents .now) (at .args .names .now) (c .seen-sets .last .1 .1 .0)
 sets-here c =
-    let at = c .before .before .before .before .before .before .before .before .before .before .before .before in
+    let at = from-sets c in
     subst (λ (m : ℕ). SeenSets m (at .args .parents .now) (at .args .names .now) (c .seen-sets .last .1 .1 .0))
     (at .pre .1 .0) (c .seen-sets .ensures)
 
 by-seen-here :
-    (c : tie.After-classes-by-seen) → let seen = c .before .before .before .before .before in let at = seen .before .before .before .before .before .before .before .before .before .before .before .before in
+    (c : tie.After-classes-by-seen) → let seen = c .before .before .before .before .before in let at = from-sets seen in
     BySeen (length (at .args .groups .now)) (seen .seen-sets .last .1 .1 .0) (c .classes-by-seen .last .1 .0)
 by-seen-here c =
     let seen = c .before .before .before .before .before in
-    let at = seen .before .before .before .before .before .before .before .before .before .before .before .before in
+    let at = from-sets seen in
     subst (λ (m : ℕ). BySeen m (seen .seen-sets .last .1 .1 .0) (c .classes-by-seen .last .1 .0)) (at .pre .1 .1 .0)
     (c .classes-by-seen .ensures)
 
 enlarging-here :
-    (c : tie.After-keys-where) → let seen = c .before .before .before .before .before .before .before .before .before .before in let at = seen .before .before .before .before .before .before .before .before .before .before .before .before in
+    (c : tie.After-keys-where) → let seen = sets-of c in let at = from-sets seen in
     KeysWhere (length (at .args .groups .now)) true (at .args .parents .now) (at .args .names .now)
     (seen .seen-sets .last .1 .1 .0) (c .keys-where .last .1 .1 .1 .1 .0)
 enlarging-here c =
-    let seen = c .before .before .before .before .before .before .before .before .before .before in
-    let at = seen .before .before .before .before .before .before .before .before .before .before .before .before in
+    let seen = sets-of c in
+    let at = from-sets seen in
     subst (λ (m : ℕ). KeysWhere m true (at .args .parents .now) (at .args .names .now) (seen .seen-sets .last .1 .1 .0)
     (c .keys-where .last .1 .1 .1 .1 .0)) (at .pre .1 .1 .1 .0) (c .keys-where .ensures)
 
 others-here :
-    (c : tie.After-keys-where2) → let seen = c .before .before .before .before .before .before .before .before .before .before .before .before .before .before .before in let at = seen .before .before .before .before .before .before .before .before .before .before .before .before in
+    (c : tie.After-keys-where2) → let seen = sets-of (c .before .before .before .before .before) in let at = from-sets seen in
     KeysWhere (length (at .args .groups .now)) false (at .args .parents .now) (at .args .names .now)
     (seen .seen-sets .last .1 .1 .0) (c .keys-where2 .last .1 .1 .1 .1 .0)
 others-here c =
-    let seen = c .before .before .before .before .before .before .before .before .before .before .before .before .before .before .before in
-    let at = seen .before .before .before .before .before .before .before .before .before .before .before .before in
+    let seen = sets-of (c .before .before .before .before .before) in
+    let at = from-sets seen in
     subst (λ (m : ℕ). KeysWhere m false (at .args .parents .now) (at .args .names .now) (seen .seen-sets .last .1 .1 .0)
     (c .keys-where2 .last .1 .1 .1 .1 .0)) (at .pre .1 .1 .1 .1 .0) (c .keys-where2 .ensures)
 
@@ -58,18 +65,20 @@ classes-by-seen-requires c κs = search needs
 
 keys-where-requires : tie.Need-keys-where-requires
 keys-where-requires c κs =
-    let at = c .before .before .before .before .before .before .before .before .before .before .before .before .before .before .before .before .before .before .before .before .before in (
+    let sets = c .before .before .before .before .before .before .before .before .before in
+    let at = from-sets sets in (
       arrays-for (length (at .args .groups .now)) (length (at .args .enlarging .now)) (at .args .parents .now) (at .args .names .now)
           (at .pre .1 .1 .1 .0) (at .pre .0 .arrays),
-      c .before .before .before .before .before .before .before .before .before .seen-sets .kept .1 .1 .0 ∙ at .pre .1 .0 ∙ sym (at .pre .1 .1 .1 .0),
+      sets .seen-sets .kept .1 .1 .0 ∙ at .pre .1 .0 ∙ sym (at .pre .1 .1 .1 .0),
     )
 
 keys-where-requires-2 : tie.Need-keys-where-requires-2
 keys-where-requires-2 c κs =
-    let at = c .before .before .before .before .before .before .before .before .before .before .before .before .before .before .before .before .before .before .before .before .before .before .before .before .before .before in (
+    let sets = sets-of (c .before .before .before .before) in
+    let at = from-sets sets in (
       arrays-for (length (at .args .groups .now)) (length (at .args .others .now)) (at .args .parents .now) (at .args .names .now)
           (at .pre .1 .1 .1 .1 .0) (at .pre .0 .arrays),
-      c .before .before .before .before .before .before .before .before .before .before .before .before .before .before .seen-sets .kept .1 .1 .0 ∙ at .pre .1 .0 ∙ sym (at .pre .1 .1 .1 .1 .0),
+      sets .seen-sets .kept .1 .1 .0 ∙ at .pre .1 .0 ∙ sym (at .pre .1 .1 .1 .1 .0),
     )
 
 finish-requires : tie.Need-finish-requires
@@ -77,7 +86,7 @@ finish-requires c κs =
     let others = c .before .before .before .before .before .before .before .before in
     let enlarging = others .before .before .before .before .before in
     let classed = enlarging .before .before .before .before .before in
-    let at = classed .before .before .before .before .before .before .before .before .before .before .before .before .before .before .before .before .before in (
+    let at = from-sets (classed .before .before .before .before .before) in (
       record {
         arrays = at .pre .0 .arrays;
         accepts-size = at .pre .0 .accepts-size;
@@ -89,7 +98,10 @@ finish-requires c κs =
     )
 
 same-length : tie.Need-same-length
-same-length c = c .before .before .before .before .before .before .before .before .before .before .before .before .before .before .before .before .before .before .before .before .before .before .before .before .before .before .before .before .before .before .seen-sets .kept .1 .1 .0
+same-length c =
+    let finishes = c .before .before .before .before .before .before in
+    let others = finishes .before .before .before .before .before .before .before .before .before in
+    sets-of (others .before .before .before .before .before) .seen-sets .kept .1 .1 .0
 
 same-length-2 : tie.Need-same-length-2
 same-length-2 c = search needs
@@ -116,7 +128,7 @@ returns c =
     let enlarging = others .before .before .before .before .before in
     let classed = enlarging .before .before .before .before .before in
     let seen = classed .before .before .before .before .before in
-    let at = seen .before .before .before .before .before .before .before .before .before .before .before .before in
+    let at = from-sets seen in
     joined-by-seen (length (at .args .groups .now)) (at .args .parents .now) (at .args .names .now) (at .args .accepts .now)
     (seen .seen-sets .last .1 .1 .0) (classed .classes-by-seen .last .1 .0) (enlarging .keys-where .last .1 .1 .1 .1 .0)
     (others .keys-where2 .last .1 .1 .1 .1 .0) (finishes .finish .last .1 .1 .1 .1 .1 .1 .1 .0) (at .pre .0 .arrays)

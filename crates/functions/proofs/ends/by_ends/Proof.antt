@@ -34,7 +34,12 @@ narrow16-requires : tie.Need-narrow16-requires Inv-loop μ-loop
 narrow16-requires c κs =
     let here = c .before .before in
     let at = here .before .before .before .before in
-    omega (arith, label-low (at .args .accepts .now) (at .args .classes .now) (here .loop .v) (c .end-label .result) (c .end-label .ensures), at .pre .0)
+    omega (
+      arith,
+      label-low (at .args .accepts .now) (at .args .classes .now) (here .loop .v) (c .end-label .result)
+          (c .end-label .ensures),
+      at .pre .0,
+    )
 
 mul-groups : tie.Need-mul-groups Inv-loop μ-loop
 mul-groups c = omega arith

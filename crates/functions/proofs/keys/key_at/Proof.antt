@@ -48,7 +48,8 @@ returns-2 : tie.Need-returns-2
 returns-2 c =
     let at = c .before .before .before .before .before .before .before .before .before .before in
     key-arc (at .args .enlarge) (at .args .parents .now) (at .args .names .now) (at .args .seen .now) (at .args .v)
-    (c .before .before .before .before .wide16 .result) (c .key-where .result) (λ e. omega arith) (c .before .before .before .before .wide16 .ensures) (c .key-where .ensures)
+    (c .before .before .before .before .wide16 .result) (c .key-where .result) (λ e. omega arith)
+    (c .before .before .before .before .wide16 .ensures) (c .key-where .ensures)
 
 pub key-at-spec : {M : Type 1} → statement M
 key-at-spec =

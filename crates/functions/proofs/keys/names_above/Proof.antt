@@ -26,7 +26,9 @@ ancestor-requires c κs =
     )
 
 shared-slice-read-keys : tie.Need-shared-slice-read-keys Inv-loop μ-loop
-shared-slice-read-keys c = omega (arith, c .before .ancestor .ensures .inside, c .before .before .before .before .before .before .before .pre .parents-size, c .before .before .before .before .before .before .before .pre .names-size)
+shared-slice-read-keys c =
+    let at = c .before .before .before .before .before .before .before in
+    omega (arith, c .before .ancestor .ensures .inside, at .pre .parents-size, at .pre .names-size)
 
 slice-write-keys : tie.Need-slice-write-keys Inv-loop μ-loop
 slice-write-keys c = omega arith

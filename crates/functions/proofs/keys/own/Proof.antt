@@ -46,7 +46,8 @@ returns : tie.Need-returns Inv-loop μ-loop
 returns c =
     let here = c .before in
     let at = here .before .before in
-    own-all (here .loop .v) (at .args .numbers .now) (here .loop .numbers) (omega (arith, here .loop .inv .1 .size)) (here .loop .inv .1)
+    own-all (here .loop .v) (at .args .numbers .now) (here .loop .numbers) (omega (arith, here .loop .inv .1 .size))
+    (here .loop .inv .1)
 
 pub own-spec : {M : Type 1} → statement M
 own-spec =

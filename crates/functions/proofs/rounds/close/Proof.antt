@@ -10,14 +10,16 @@ use Rattle.functions.proofs.rounds.close.Statement.{statement}
 use Rattle.functions.proofs.rounds.close.Tie as tie
 
 abbrev Inv-loop : tie.InvT-loop
-Inv-loop parents names numbers keys more groups₀ work₀ joined₀ groups work joined = (length work ≡ length work₀) × RoundsTo (RoundClosed (length groups₀) parents names numbers keys more) (length groups₀) groups₀ groups joined
+Inv-loop parents names numbers keys more groups₀ work₀ joined₀ groups work joined = (length work ≡ length work₀) × RoundsTo
+    (RoundClosed (length groups₀) parents names numbers keys more) (length groups₀) groups₀ groups joined
 
 abbrev μ-loop : tie.MeasureT-loop
 μ-loop parents names numbers keys more groups₀ work₀ joined₀ groups work joined = due groups joined
 
 -- what the round promises, by the number of states at the start
 round-here :
-    (c : tie.After-round Inv-loop μ-loop) → let here = c .before .before .before .before in let at = here .before .before .before .before .before .before .before .before in
+    (c : tie.After-round Inv-loop μ-loop) → let here = c .before .before .before .before in
+    let at = here .before .before .before .before .before .before .before .before in
     Joining (RoundClosed (length (at .args .groups .now)) (at .args .parents .now) (at .args .names .now) (at .args .numbers .now)
     (at .args .keys .now) (at .args .more .now))
     (length (at .args .groups .now)) (here .loop .groups) (c .round .last .1 .1 .1 .1 .1 .0) (c .round .result)
@@ -42,7 +44,8 @@ round-requires c κs =
     let here = c .before .before .before in
     let at = here .before .before .before .before .before .before .before .before in (
       ready-again (length (at .args .groups .now)) (at .args .parents .now) (at .args .names .now) (at .args .numbers .now)
-          (at .args .keys .now) (at .args .more .now) (at .args .groups .now) (at .pre .0) (here .loop .groups) (here .loop .inv .1 .labelled),
+          (at .args .keys .now) (at .args .more .now) (at .args .groups .now) (at .pre .0) (here .loop .groups)
+          (here .loop .inv .1 .labelled),
       omega (arith, here .loop .inv .0, at .pre .1),
     )
 
@@ -54,7 +57,8 @@ loop-less c =
     subst (λ (b : Bool). due (joins .round .last .1 .1 .1 .1 .1 .0) (joins .round .result) < due (here .loop .groups) b)
     (sym (joins .before .before .before .loop-test .taken))
     (due-less (RoundClosed (length (at .args .groups .now)) (at .args .parents .now) (at .args .names .now) (at .args .numbers .now)
-    (at .args .keys .now) (at .args .more .now)) (length (at .args .groups .now)) (at .args .groups .now) (here .loop .groups) (joins .round .last .1 .1 .1 .1 .1 .0)
+    (at .args .keys .now) (at .args .more .now)) (length (at .args .groups .now)) (at .args .groups .now) (here .loop .groups)
+    (joins .round .last .1 .1 .1 .1 .1 .0)
     (joins .round .result) (round-here joins))
 
 loop-again : tie.Need-loop-again Inv-loop μ-loop
@@ -79,7 +83,8 @@ returns c =
     let here = c .before in
     let at = here .before .before .before .before .before .before .before .before in
     rounds-all (RoundClosed (length (at .args .groups .now)) (at .args .parents .now) (at .args .names .now) (at .args .numbers .now)
-    (at .args .keys .now) (at .args .more .now)) (length (at .args .groups .now)) (at .args .groups .now) (here .loop .groups) (here .loop .joined)
+    (at .args .keys .now) (at .args .more .now)) (length (at .args .groups .now)) (at .args .groups .now) (here .loop .groups)
+    (here .loop .joined)
     (c .loop-test .left) (here .loop .inv .1)
 
 pub close-spec : {M : Type 1} → statement M

@@ -8,11 +8,15 @@ use borrow.Author.Needs.{needs}
 use Rattle.functions.proofs.rounds.finish.Statement.{statement}
 use Rattle.functions.proofs.rounds.finish.Tie as tie
 
+-- the entry, seen from the place after the own numbers
+abbrev from-own : tie.After-own → tie.Start
+from-own c = c .before .before .before .before .before .before .before .before .before .before .before
+
 -- the own numbers, by the number of states
 own-here :
-    (c : tie.After-own) → let at = c .before .before .before .before .before .before .before .before .before .before .before in
+    (c : tie.After-own) → let at = from-own c in
     c .own .last .0 ≡ numbersFrom (length (at .args .groups .now)) 0
-own-here c = c .own .ensures ∙ ap (λ (m : ℕ). numbersFrom m 0) (c .before .before .before .before .before .before .before .before .before .before .before .pre .1 .0)
+own-here c = c .own .ensures ∙ ap (λ (m : ℕ). numbersFrom m 0) (from-own c .pre .1 .0)
 
 own-requires : tie.Need-own-requires
 own-requires c κs = search needs
@@ -24,9 +28,10 @@ close-requires : tie.Need-close-requires
 close-requires c κs =
     let ends = c .before .before .before .before .before in
     let own = ends .before .before .before .before in
-    let at = own .before .before .before .before .before .before .before .before .before .before .before in (
+    let at = from-own own in (
       finish-ready (length (at .args .groups .now)) (at .args .parents .now) (at .args .names .now) (at .args .accepts .now)
-          (at .args .classes .now) (at .args .keys .now) (at .args .more .now) (own .own .last .0) (ends .by-ends .last .1 .1 .0) (at .pre .0)
+          (at .args .classes .now) (at .args .keys .now) (at .args .more .now) (own .own .last .0) (ends .by-ends .last .1 .1 .0)
+          (at .pre .0)
           (own-here own) (ends .by-ends .ensures .labelled),
       at .pre .1 .1,
     )
@@ -45,7 +50,7 @@ returns c =
     let closes = c .before .before .before .before in
     let ends = closes .before .before .before .before .before .before in
     let own = ends .before .before .before .before in
-    let at = own .before .before .before .before .before .before .before .before .before .before .before in
+    let at = from-own own in
     finished (length (at .args .groups .now)) (at .args .parents .now) (at .args .names .now) (at .args .accepts .now)
     (at .args .classes .now) (at .args .keys .now) (at .args .more .now) (own .own .last .0) (ends .by-ends .last .1 .1 .0)
     (closes .close .last .1 .1 .1 .1 .1 .0) (own-here own) (ends .by-ends .ensures) (closes .close .ensures)

@@ -11,7 +11,8 @@ pass-requires : tie.Need-pass-requires
 pass-requires c κs =
     let at = c .before .before .before .before .before .before .before .before .before in (
       ready-forks (length (at .args .groups .now)) (at .args .parents .now) (at .args .names .now) (at .args .numbers .now)
-          (at .args .keys .now) (at .args .more .now) (at .args .groups .now) (at .pre .0) (at .args .groups .now) (at .pre .0 .labelled),
+          (at .args .keys .now) (at .args .more .now) (at .args .groups .now) (at .pre .0) (at .args .groups .now)
+          (at .pre .0 .labelled),
       at .pre .1,
     )
 
@@ -20,7 +21,8 @@ pass-requires-2 c κs =
     let forks = c .before .before .before .before .before .before in
     let at = forks .before .before .before .before .before .before .before .before .before .before in (
       ready-backs (length (at .args .groups .now)) (at .args .parents .now) (at .args .names .now) (at .args .numbers .now)
-          (at .args .keys .now) (at .args .more .now) (at .args .groups .now) (at .pre .0) (at .args .keys .now) (forks .pass .last .1 .1 .1 .0) (at .pre .0 .keys-size)
+          (at .args .keys .now) (at .args .more .now) (at .args .groups .now) (at .pre .0) (at .args .keys .now)
+          (forks .pass .last .1 .1 .1 .0) (at .pre .0 .keys-size)
           (forks .pass .ensures .labelled),
       omega (arith, forks .pass .kept .1 .1 .1 .1 .0, at .pre .1),
     )
@@ -31,7 +33,8 @@ pass-requires-3 c κs =
     let forks = backs .before .before .before .before .before .before .before in
     let at = forks .before .before .before .before .before .before .before .before .before .before in (
       ready-backs (length (at .args .groups .now)) (at .args .parents .now) (at .args .names .now) (at .args .numbers .now)
-          (at .args .keys .now) (at .args .more .now) (at .args .groups .now) (at .pre .0) (at .args .more .now) (backs .pass2 .last .1 .1 .1 .0) (at .pre .0 .more-size)
+          (at .args .keys .now) (at .args .more .now) (at .args .groups .now) (at .pre .0) (at .args .more .now)
+          (backs .pass2 .last .1 .1 .1 .0) (at .pre .0 .more-size)
           (labelled-then (length (at .args .groups .now)) (forks .pass .last .1 .1 .1 .0) (backs .pass2 .last .1 .1 .1 .0)
           (forks .pass .ensures .labelled) (backs .pass2 .ensures .labelled)),
       omega (arith, forks .pass .kept .1 .1 .1 .1 .0, backs .pass2 .kept .1 .1 .1 .1 .0, at .pre .1),

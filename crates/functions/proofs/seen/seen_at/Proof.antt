@@ -45,7 +45,8 @@ returns-2 : tie.Need-returns-2
 returns-2 c =
     let at = c .before .before .before .before .before .before .before .before .before in
     seen-arc (at .args .parents .now) (at .args .names .now) (at .args .seen .now) (at .args .v)
-    (c .before .before .before .wide16 .result) (c .with-name .result) (λ e. omega arith) (c .before .before .before .wide16 .ensures) (c .with-name .ensures)
+    (c .before .before .before .wide16 .result) (c .with-name .result) (λ e. omega arith)
+    (c .before .before .before .wide16 .ensures) (c .with-name .ensures)
 
 pub seen-at-spec : {M : Type 1} → statement M
 seen-at-spec =
