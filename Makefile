@@ -1,6 +1,6 @@
 # Targets: see `make help`. The toolchain is the Rattle kit; its command is rt.
 .DEFAULT_GOAL := help
-.PHONY: help run test check lib example fmt
+.PHONY: help run test check lib example bench-walk fmt
 
 help:
 	@echo "make run      what is proved so far, in one line"
@@ -8,6 +8,7 @@ help:
 	@echo "make check    prove what changed since the last check"
 	@echo "make lib      target/staticlib/libplans.a, for C; its header is include/plans.h"
 	@echo "make example  build examples/walk.c over it with gcc, run it, and compare what it prints"
+	@echo "make bench-walk  what a walk costs as a multiple of one memset of 65,536 bytes, and the stack that calls use"
 	@echo "make fmt      put every .rt and .antt file into the layout"
 
 # Every target that needs the kit asks for it here, so that a newcomer reads what is missing.
@@ -29,6 +30,9 @@ lib: kit
 
 example: lib
 	@scripts/example
+
+bench-walk: lib
+	@scripts/bench-walk
 
 fmt: kit
 	@rt fmt
