@@ -12,7 +12,7 @@ use Rattle.model.specs.Lists.{all}
 use Rattle.model.specs.Limits.{name-bytes}
 use Rattle.model.specs.Fields.{nameOk, startsName, continuesName}
 use Rattle.model.specs.Tables.{Arc, State}
-use Rattle.model.specs.Listing.{decimal, newline, arcText, stateLine, stateLines, listing, refusalText}
+use Rattle.model.specs.Listing.{decimal, arcText, stateLine, stateLines, listing, refusalText}
 use Rattle.model.specs.Calls.{bookOf}
 use Rattle.model.specs.Claims.{Accepted}
 use Rattle.model.proofs.Books.{NamesOk, accepted-book}

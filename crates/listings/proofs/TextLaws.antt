@@ -1,12 +1,12 @@
 -- Texts written piece by piece: what is left of a whole text, from its begin over one piece after the other to its end. Assumes
 -- nothing.
 use mathlib.Core.Path.{_≡_, refl, sym, ap, _∙_, subst}
-use mathlib.Core.List.{List, [], _∷_, _++_, append-nil, append-assoc}
+use mathlib.Core.List.{List, [], _++_, append-nil, append-assoc}
 use Prim.Native.Nat.{ℕ, _+_, _≤_}
 use native.Mathlib.Nat.{add-zero}
 use native.Mathlib.Omega.{arith}
 use lib.ListN.{length, length-append}
-use Rattle.writing.specs.Writing.{Written, Put}
+use Rattle.writing.specs.Writing.{Written}
 use Rattle.writing.proofs.WritingLaws.{none-written, written-append, written-length}
 use Rattle.listings.specs.Texts.{Fits, Puts}
 

@@ -5,8 +5,7 @@ use mathlib.Core.List.{List, _++_}
 use Prim.Native.Nat.{ℕ, _+_, _-_, _≤_, _<_}
 use native.Mathlib.Numerals.{add-one}
 use native.Mathlib.Omega.{arith}
-use lib.ListN.{length, getD, drop}
-use Rattle.model.specs.Tables.{State, no-state}
+use lib.ListN.{length, drop}
 use Rattle.model.specs.Listing.{stateLine, stateLines}
 use Rattle.model.specs.Calls.{tableStates}
 use Rattle.fields.specs.Offsets.{nextAt, offsetAt}

@@ -1,6 +1,6 @@
 -- `arcs::put_arcs` meets its contract. The loop's invariant: the arcs from i on are left, and they are those of a field that passed
 -- the reader's test. Assumes nothing.
-use mathlib.Core.Path.{_≡_, sym, subst}
+use mathlib.Core.Path.{sym, subst}
 use mathlib.Core.List.{List, _++_, flatMap}
 use Prim.Native.Nat.{ℕ, _+_, _-_, _≤_}
 use native.Mathlib.Omega.{arith}

@@ -5,7 +5,7 @@ use mathlib.Core.List.{List, []}
 use Prim.Native.Nat.{ℕ, _≤_}
 use native.Mathlib.Omega.{arith}
 use lib.ListN.{length, List·getD-eq-default}
-use Rattle.fields.specs.Offsets.{bodyAt, nextAt, offsetAt}
+use Rattle.fields.specs.Offsets.{bodyAt, nextAt}
 use Rattle.fields.proofs.OffsetLaws.{length-fields}
 use Rattle.fields.proofs.Parts.{name-at, name-within}
 use Rattle.writing.proofs.WritingLaws.{put-none}

@@ -1,7 +1,7 @@
 -- `arcs::target_at` meets its contract: the two bytes are below 256. Assumes nothing.
 use borrow.Author.Needs.{needs}
 use mathlib.Core.Path.{_≡_, _∙_}
-use Prim.Native.Nat.{ℕ, _+_}
+use Prim.Native.Nat.{_+_}
 use native.Mathlib.Omega.{arith}
 use Rattle.tables.specs.Arcs.{targetAt}
 use Rattle.fields.proofs.OffsetLaws.{length-at}

@@ -1,7 +1,6 @@
 -- `words::put_byte` meets its contract. Assumes nothing.
 use borrow.Author.Needs.{needs}
 use mathlib.Core.List.{[]}
-use native.Mathlib.Omega.{arith}
 use Rattle.writing.proofs.WritingLaws.{stores-put}
 use Rattle.listings.proofs.words.put_byte.Statement.{statement}
 use Rattle.listings.proofs.words.put_byte.Tie as tie

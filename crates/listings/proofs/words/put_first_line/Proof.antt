@@ -1,8 +1,7 @@
 -- `words::put_first_line` meets its contract: words, numbers and the newline are written one after the other. Assumes nothing.
 use borrow.Author.Needs.{needs}
-use mathlib.Core.List.{List, [], _∷_, _++_}
+use mathlib.Core.List.{List, _++_}
 use Prim.Native.Nat.{ℕ}
-use native.Mathlib.Omega.{arith}
 use Rattle.model.specs.Listing.{decimal, newline, states-word, joins-word}
 use Rattle.listings.specs.Texts.{firstLine}
 use Rattle.listings.proofs.TextLaws.{Writing, begins, room, room-left, goes, ends-with}
