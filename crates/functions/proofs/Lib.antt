@@ -1,0 +1,6 @@
+-- Laws that the functions of this crate rest on. Assumes nothing.
+pub mod FillLaws
+pub mod SeenLaws
+pub mod EndLaws
+pub mod RoundLaws
+pub mod FLaws

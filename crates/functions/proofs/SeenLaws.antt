@@ -1,0 +1,124 @@
+-- Laws of seen sets: one name more, sets filled in from the root on, the first state with a set, and classes of states with the same
+-- set. Assumes nothing.
+use mathlib.Core.Path.{_≡_, refl, sym, ap, _∙_, subst}
+use mathlib.Core.List.{List}
+use Prim.Native.Nat.{ℕ, _+_, _*_, _%_, _^_, _<_, _≤_}
+use native.Mathlib.Nat.{mod-eq-of-lt}
+use native.Mathlib.Omega.{arith}
+use lib.Bits.{bitOr}
+use lib.Pow.{pow-lt}
+use lib.ListN.{length, getD, set, length-set}
+use lib.Seq.{getD-set-same, getD-set-other}
+use borrow.Author.Count.{below-more}
+use Rattle.model.specs.Limits.{name-limit}
+use Rattle.indexed.specs.Trees.{Arrays}
+use Rattle.indexed.specs.Passes.{SeenSets, BySeen}
+use Rattle.functions.specs.Parts.{SeenAt, FirstSeen}
+use Rattle.functions.proofs.FillLaws.{Filled}
+
+-- one bit more: the shift loses nothing
+pub with-bit : (seen name : ℕ) → name < name-limit → bitOr seen ((1 * 2 ^ name) % 2 ^ 64) ≡ bitOr seen (2 ^ name)
+with-bit seen name small =
+    let single : 1 * 2 ^ name ≡ 2 ^ name = omega arith in
+    let fits : 2 ^ name < 2 ^ 64 = pow-lt small in
+    ap (bitOr seen) (ap (λ (x : ℕ). x % 2 ^ 64) single ∙ mod-eq-of-lt fits)
+
+pub seen-root : (parents names seen : List ℕ) (v : ℕ) → v ≡ 0 → SeenAt parents names seen v 0
+seen-root parents names seen v e = record { root = λ q. refl; arc = λ h. absurd (omega arith) }
+
+pub seen-arc :
+    (parents names seen : List ℕ) (v parent x : ℕ) → (v ≡ 0 → ⊥) → parent ≡ getD parents v 0 →
+    x ≡ bitOr (getD seen parent 0) (2 ^ getD names v 0) → SeenAt parents names seen v x
+seen-arc parents names seen v parent x d is e =
+    record {
+      root = λ q. absurd (d q);
+      arc = λ h. e ∙ ap (λ (p : ℕ). bitOr (getD seen p 0) (2 ^ getD names v 0)) is;
+    }
+
+-- the sets of the first i states are right
+pub record SeenTo (parents names : List ℕ) (i : ℕ) (seen₀ seen : List ℕ) : Type 0 where
+  pub size : length seen ≡ length seen₀
+  pub done : (k : ℕ) → k < i → SeenAt parents names seen k (getD seen k 0)
+
+pub seen-none : (parents names seen₀ : List ℕ) → SeenTo parents names 0 seen₀ seen₀
+seen-none parents names seen₀ = record { size = refl; done = λ k h. absurd (omega arith) }
+
+-- a set depends on an earlier one only
+seen-kept :
+    (n : ℕ) (parents names seen : List ℕ) (i k x y : ℕ) → Arrays n parents names → k ≤ i → i < n →
+    SeenAt parents names seen k y → SeenAt parents names (set seen i x) k y
+seen-kept n parents names seen i k x y arrays low inside at = record { root = at .root; arc = arc }
+  where
+    arc : 0 < k → y ≡ bitOr (getD (set seen i x) (getD parents k 0) 0) (2 ^ getD names k 0)
+    arc h =
+        let apart : getD parents k 0 ≡ i → ⊥ = λ e. omega (arith, arrays .parent-before k h (omega arith)) in
+        at .arc h
+        ∙ ap (λ (s : ℕ). bitOr s (2 ^ getD names k 0)) (sym (getD-set-other seen i (getD parents k 0) x 0 apart))
+
+pub seen-more :
+    (parents names : List ℕ) (i x : ℕ) (seen₀ seen : List ℕ) → Arrays (length seen₀) parents names → i < length seen₀ →
+    SeenAt parents names seen i x → SeenTo parents names i seen₀ seen → SeenTo parents names (i + 1) seen₀ (set seen i x)
+seen-more parents names i x seen₀ seen arrays inside here so-far =
+    record {
+      size = length-set seen i x ∙ so-far .size;
+      done = below-more (λ (k : ℕ). SeenAt parents names (set seen i x) k (getD (set seen i x) k 0)) i earlier last;
+    }
+  where
+    earlier : (k : ℕ) → k < i → SeenAt parents names (set seen i x) k (getD (set seen i x) k 0)
+    earlier k h =
+        let apart : k ≡ i → ⊥ = λ e. omega arith in
+        subst (SeenAt parents names (set seen i x) k) (sym (getD-set-other seen i k x 0 apart))
+        (seen-kept (length seen₀) parents names seen i k x (getD seen k 0) arrays (omega arith) inside (so-far .done k h))
+
+    last : SeenAt parents names (set seen i x) i (getD (set seen i x) i 0)
+    last =
+        let in-seen : i < length seen = omega (arith, so-far .size) in
+        subst (SeenAt parents names (set seen i x) i) (sym (getD-set-same seen i x 0 in-seen))
+        (seen-kept (length seen₀) parents names seen i i x x arrays (omega arith) inside here)
+
+pub seen-all :
+    (parents names : List ℕ) (i : ℕ) (seen₀ seen : List ℕ) → Arrays (length seen₀) parents names → length seen₀ ≤ i →
+    SeenTo parents names i seen₀ seen → SeenSets (length seen₀) parents names seen
+seen-all parents names i seen₀ seen arrays all so-far =
+    record {
+      size = so-far .size;
+      root-seen = so-far .done 0 (omega (arith, arrays .some-state)) .root refl;
+      arc-seen = λ v p h. so-far .done v (omega arith) .arc p;
+    }
+
+-- the search among earlier states: found, and not found
+pub first-found :
+    (seen : List ℕ) (v u : ℕ) → u < v → getD seen u 0 ≡ getD seen v 0 →
+    ((k : ℕ) → k < u → getD seen k 0 ≡ getD seen v 0 → ⊥) → FirstSeen seen v u
+first-found seen v u lower alike none = record { low = omega arith; alike = alike; first = none }
+
+pub first-itself :
+    (seen : List ℕ) (v u : ℕ) → v ≤ u → ((k : ℕ) → k < u → getD seen k 0 ≡ getD seen v 0 → ⊥) → FirstSeen seen v v
+first-itself seen v u all none = record { low = omega arith; alike = refl; first = λ k h. none k (omega arith) }
+
+-- first states of equal sets are equal
+first-same : (seen : List ℕ) (v w x y : ℕ) → getD seen v 0 ≡ getD seen w 0 → FirstSeen seen v x → FirstSeen seen w y → x ≡ y
+first-same seen v w x y one at-v at-w =
+    let not-lower : x < y → ⊥ = λ h. at-w .first x h (at-v .alike ∙ one) in
+    let not-higher : y < x → ⊥ = λ h. at-v .first y h (at-w .alike ∙ sym one) in
+    omega (arith)
+
+pub by-seen-all :
+    (i : ℕ) (seen out₀ out : List ℕ) → length out₀ ≤ i → Filled (FirstSeen seen) i out₀ out → BySeen (length out₀) seen out
+by-seen-all i seen out₀ out all filled =
+    record {
+      labelled = record { size = filled .size; low = λ v h. at v h .low; own = own };
+      alike = λ v w hv hw. (
+        λ e. sym (at v hv .alike) ∙ ap (λ (x : ℕ). getD seen x 0) e ∙ at w hw .alike,
+        λ one. first-same seen v w (getD out v 0) (getD out w 0) one (at v hv) (at w hw),
+      );
+    }
+  where
+    at : (v : ℕ) → v < length out₀ → FirstSeen seen v (getD out v 0)
+    at v h = filled .done v (omega arith)
+
+    own : (v : ℕ) → v < length out₀ → getD out (getD out v 0) 0 ≡ getD out v 0
+    own v h =
+        let below : getD out v 0 < length out₀ = omega (arith, at v h .low) in
+        first-same seen (getD out v 0) v (getD out (getD out v 0) 0) (getD out v 0) (at v h .alike) (at (getD out v 0) below)
+        (at v h)
