@@ -8,16 +8,19 @@ use native.Mathlib.Omega.{arith}
 use lib.ListN.{length, getD, take}
 use lib.Seq.{ext-getD}
 use Rattle.model.specs.Lists.{numbersFrom}
+use Rattle.model.specs.Limits.{setting-limit}
 use Rattle.indexed.specs.Trees.{Arrays}
 use Rattle.indexed.specs.Partitions.{Refines, Labelled, ForkClosed, ContextClosed, SuffixAgree, sum}
-use Rattle.indexed.specs.Passes.{Passed, Swept, SuffixClasses, ContextJoined}
+use Rattle.indexed.specs.Passes.{Passed, Swept, SuffixClasses, BySuffix, ContextJoined}
 use Rattle.indexed.proofs.Keys.{number-at, numbers-length, forks-keys, keys-forks}
 use Rattle.indexed.proofs.Suffixes.{parent-below}
 use Rattle.indexed.proofs.Contexts.{joined-suffix-agree}
 use Rattle.partition.specs.Steps.{Ready}
 use Rattle.suffixes.proofs.FillLaws.{front-length}
+use Rattle.contexts.specs.Climbs.{ClimbedBelow}
 use Rattle.contexts.specs.Sweeps.{Pairing, SweptBy}
 use Rattle.contexts.specs.Rounds.{ContextSound, ForksJoined, RoundReady}
+use Rattle.contexts.proofs.ClimbLaws.{climbs-sound}
 
 -- a list of which each element is its place
 pub own-all :
@@ -30,6 +33,11 @@ own-all out₀ out size own =
     each k h =
         let inside : k < length out₀ = omega (arith, size) in
         own k inside ∙ sym (number-at (length out₀) k inside)
+
+-- the own numbers of a front
+pub own-front :
+    (n : ℕ) (list out : List ℕ) → n ≤ length list → out ≡ numbersFrom (length (take n list)) 0 → out ≡ numbersFrom n 0
+own-front n list out fits own = own ∙ ap (λ (m : ℕ). numbersFrom m 0) (front-length n list fits)
 
 -- what falls with each round
 abbrev pub due : List ℕ → Bool → ℕ
@@ -210,3 +218,26 @@ module _ (h m : ℕ) (parents names front groups classes old : List ℕ) (arrays
       subst (λ (l : List ℕ). SweptBy (length groups) m parents l groups groups′ joined) classes-same
       (subst (λ (l : List ℕ). SweptBy (length l) m parents classes l groups′ joined) old-same swept-by)
       .swept h names arrays by agree
+
+-- the rounds start from the climbs
+pub climbs-ready :
+    (n h m k : ℕ) (parents names starts groups : List ℕ) → Arrays n parents names → 0 < h → 0 < m → h + m ≡ k → k ≤ setting-limit →
+    BySuffix n k parents names starts → ClimbedBelow n n m parents starts starts groups →
+    RoundReady (length groups) h m parents names groups
+climbs-ready n h m k parents names starts groups arrays some-names some-steps sum-is limit by climbed =
+    subst (λ (l : ℕ). RoundReady l h m parents names groups) (sym (climbed .labelled .size))
+    (record {
+      arrays = arrays;
+      some-names = some-names;
+      some-steps = some-steps;
+      limit = omega arith;
+      labelled = climbed .labelled;
+      sound = climbs-sound n h m k parents names starts groups arrays some-names sum-is by climbed;
+    })
+
+pub rounds-joined :
+    (n h m k : ℕ) (parents names groups groups′ : List ℕ) → length groups ≡ n → h + m ≡ k →
+    ContextJoined (length groups) (h + m) h parents names groups′ → ContextJoined n k h parents names groups′
+rounds-joined n h m k parents names groups groups′ size sum-is joined =
+    subst (λ (j : ℕ). ContextJoined n j h parents names groups′) sum-is
+    (subst (λ (l : ℕ). ContextJoined l (h + m) h parents names groups′) size joined)

@@ -384,7 +384,6 @@ pub fn join_by_context(
     requires some { ⌜ 0 < h ⌝ }
     requires within { ⌜ h ≤ k ⌝ }
     requires limit { ⌜ k ≤ setting-limit ⌝ }
-    requires step { ⌜ k ≤ h + 1 ⌝ }
     requires room { ⌜ work-bytes ≤ length (now work) ⌝ }
     ensures { λ _. ⌜ ContextJoined (length (now (groups .entry))) k h (now (parents .entry)) (now (names .entry)) (now (groups .exit)) ⌝ }
 {
@@ -394,4 +393,8 @@ pub fn join_by_context(
         return;
     }
     climb_starts(m, parents, groups);
+    if m == 1 {
+        return;
+    }
+    run_rounds(h, m, parents, names, groups, work);
 }
