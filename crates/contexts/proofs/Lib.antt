@@ -2,4 +2,5 @@
 pub mod BitLaws
 pub mod ClimbLaws
 pub mod MarkLaws
+pub mod RoundLaws
 pub mod SweepLaws

@@ -1,6 +1,7 @@
 // The joining of a book's prefix tree by the context rule: states with the same last h names out of whose groups k - h names lead
 // in common are in one group, and no group has arcs of one name to two groups.
 pub mod bits;
+pub mod forks;
 
 use cells::numbers::wide16;
 ghost use mathlib.Core.Path.{_≡_};
@@ -10,10 +11,12 @@ ghost use Prim.Native.Nat.{ℕ, _+_, _<_, _≤_};
 ghost use lib.ListN.{length, getD};
 ghost use Rattle.cells.specs.Cells.{work-bytes};
 ghost use Rattle.model.specs.Limits.{setting-limit, state-limit};
+ghost use Rattle.model.specs.Lists.{numbersFrom};
 ghost use Rattle.indexed.specs.Trees.{Arrays};
-ghost use Rattle.indexed.specs.Partitions.{Labelled};
-ghost use Rattle.indexed.specs.Passes.{ContextJoined};
+ghost use Rattle.indexed.specs.Partitions.{Labelled, SuffixAgree};
+ghost use Rattle.indexed.specs.Passes.{ContextJoined, Swept};
 ghost use Rattle.contexts.specs.Climbs.{Above, Climbed, ClimbedBelow};
+ghost use Rattle.contexts.specs.Rounds.{RoundReady};
 ghost use Rattle.contexts.specs.Sweeps.{Pairing, Pair, PairMarked, Marking, RowMarked, LevelsMarked};
 ghost use Rattle.contexts.specs.Sweeps.{PairJoined, RowJoined, Joining, SweptBy};
 
@@ -298,6 +301,76 @@ fn sweep_by(
     join_pairs(parents, classes, old, work, matrix, groups)
 }
 
+// The sweep for m names; true where anything was joined.
+fn sweep(
+    h: usize,
+    m: usize,
+    parents: &[u16],
+    names: &[u8],
+    groups: &mut [u16],
+    work: &mut [u8],
+) -> bool
+    requires arrays { ⌜ Arrays (length (now groups)) (now parents) (now names) ⌝ }
+    requires some { ⌜ 0 < m ⌝ }
+    requires limit { ⌜ h + 1 ≤ setting-limit ⌝ }
+    requires labelled { ⌜ Labelled (length (now groups)) (now groups) ⌝ }
+    requires agree { ⌜ SuffixAgree (length (now groups)) h (now parents) (now names) (now groups) ⌝ }
+    requires room { ⌜ work-bytes ≤ length (now work) ⌝ }
+    ensures { λ r.
+        ⌜ Swept (length (now (groups .entry))) h m (now (parents .entry)) (now (names .entry)) (now (groups .entry))
+        (now (groups .exit)) r ⌝ }
+{
+    let n = groups.len();
+    let mut classes = [0u16; 512];
+    suffixes::suffix_classes(h + 1, parents, names, &mut classes[..n], work);
+    let mut old = [0u16; 512];
+    suffixes::copy(groups, &mut old[..n]);
+    sweep_by(m, parents, &classes[..n], &old[..n], groups, work)
+}
+
+// Rounds of forks and a sweep, until a sweep joins nothing.
+fn close_contexts(
+    h: usize,
+    m: usize,
+    parents: &[u16],
+    names: &[u8],
+    numbers: &[u16],
+    groups: &mut [u16],
+    work: &mut [u8],
+)
+    requires ready { ⌜ RoundReady (length (now groups)) h m (now parents) (now names) (now groups) ⌝ }
+    requires own_numbers { ⌜ now numbers ≡ numbersFrom (length (now groups)) 0 ⌝ }
+    requires room { ⌜ work-bytes ≤ length (now work) ⌝ }
+    ensures { λ _.
+        ⌜ ContextJoined (length (now (groups .entry))) (h + m) h (now (parents .entry)) (now (names .entry)) (now (groups .exit)) ⌝ }
+{
+    let mut joined = true;
+    while joined {
+        forks::close_forks(parents, names, numbers, groups, work);
+        joined = sweep(h, m, parents, names, groups, work);
+    }
+}
+
+// The rounds, with the states' own numbers.
+fn run_rounds(
+    h: usize,
+    m: usize,
+    parents: &[u16],
+    names: &[u8],
+    groups: &mut [u16],
+    work: &mut [u8],
+)
+    requires ready { ⌜ RoundReady (length (now groups)) h m (now parents) (now names) (now groups) ⌝ }
+    requires room { ⌜ work-bytes ≤ length (now work) ⌝ }
+    ensures { λ _.
+        ⌜ ContextJoined (length (now (groups .entry))) (h + m) h (now (parents .entry)) (now (names .entry)) (now (groups .exit)) ⌝ }
+{
+    let n = groups.len();
+    let mut numbers = [0u16; 512];
+    forks::own(&mut numbers[..n]);
+    close_contexts(h, m, parents, names, &numbers[..n], groups, work);
+}
+
 // Joins by the context rule until it applies no more. What the lent area holds at first is all the same.
 pub fn join_by_context(
     k: usize,
@@ -311,7 +384,6 @@ pub fn join_by_context(
     requires some { ⌜ 0 < h ⌝ }
     requires within { ⌜ h ≤ k ⌝ }
     requires limit { ⌜ k ≤ setting-limit ⌝ }
-    requires step { ⌜ k ≤ h + 1 ⌝ }
     requires room { ⌜ work-bytes ≤ length (now work) ⌝ }
     ensures { λ _. ⌜ ContextJoined (length (now (groups .entry))) k h (now (parents .entry)) (now (names .entry)) (now (groups .exit)) ⌝ }
 {
@@ -321,4 +393,8 @@ pub fn join_by_context(
         return;
     }
     climb_starts(m, parents, groups);
+    if m == 1 {
+        return;
+    }
+    run_rounds(h, m, parents, names, groups, work);
 }

@@ -1,0 +1,243 @@
+-- Laws of rounds: the states' own numbers, passes along the arcs until none joins, and rounds of forks and a sweep until a sweep
+-- joins nothing. Assumes nothing.
+use mathlib.Core.Path.{_≡_, refl, sym, ap, _∙_, subst}
+use mathlib.Core.Bool.{Bool, true, false, cond, true≢false}
+use mathlib.Core.List.{List}
+use Prim.Native.Nat.{ℕ, zero, suc, _+_, _<_, _≤_}
+use native.Mathlib.Omega.{arith}
+use lib.ListN.{length, getD, take}
+use lib.Seq.{ext-getD}
+use Rattle.model.specs.Lists.{numbersFrom}
+use Rattle.model.specs.Limits.{setting-limit}
+use Rattle.indexed.specs.Trees.{Arrays}
+use Rattle.indexed.specs.Partitions.{Refines, Labelled, ForkClosed, ContextClosed, SuffixAgree, sum}
+use Rattle.indexed.specs.Passes.{Passed, Swept, SuffixClasses, BySuffix, ContextJoined}
+use Rattle.indexed.proofs.Keys.{number-at, numbers-length, forks-keys, keys-forks}
+use Rattle.indexed.proofs.Suffixes.{parent-below}
+use Rattle.indexed.proofs.Contexts.{joined-suffix-agree}
+use Rattle.partition.specs.Steps.{Ready}
+use Rattle.suffixes.proofs.FillLaws.{front-length}
+use Rattle.contexts.specs.Climbs.{ClimbedBelow}
+use Rattle.contexts.specs.Sweeps.{Pairing, SweptBy}
+use Rattle.contexts.specs.Rounds.{ContextSound, ForksJoined, RoundReady}
+use Rattle.contexts.proofs.ClimbLaws.{climbs-sound}
+
+-- a list of which each element is its place
+pub own-all :
+    (out₀ out : List ℕ) → length out ≡ length out₀ → ((v : ℕ) → v < length out₀ → getD out v 0 ≡ v) →
+    out ≡ numbersFrom (length out₀) 0
+own-all out₀ out size own =
+    ext-getD 0 out (numbersFrom (length out₀) 0) (size ∙ sym (numbers-length (length out₀) 0)) each
+  where
+    each : (k : ℕ) → k < length out → getD out k 0 ≡ getD (numbersFrom (length out₀) 0) k 0
+    each k h =
+        let inside : k < length out₀ = omega (arith, size) in
+        own k inside ∙ sym (number-at (length out₀) k inside)
+
+-- the own numbers of a front
+pub own-front :
+    (n : ℕ) (list out : List ℕ) → n ≤ length list → out ≡ numbersFrom (length (take n list)) 0 → out ≡ numbersFrom n 0
+own-front n list out fits own = own ∙ ap (λ (m : ℕ). numbersFrom m 0) (front-length n list fits)
+
+-- what falls with each round
+abbrev pub due : List ℕ → Bool → ℕ
+due groups joined = sum groups + cond joined 1 0
+
+-- a step that joins lowers the sum, one that does not leaves the partition as it was
+pub due-less :
+    (groups groups′ : List ℕ) (joined : Bool) → (joined ≡ false → groups′ ≡ groups) → (joined ≡ true → sum groups′ < sum groups) →
+    due groups′ joined < due groups true
+due-less groups groups′ true none some = omega (arith, some refl)
+due-less groups groups′ false none some =
+    let same : sum groups′ ≡ sum groups = ap sum (none refl) in
+    omega arith
+
+pub sum-fewer :
+    (groups groups′ : List ℕ) (joined : Bool) → (joined ≡ false → groups′ ≡ groups) → (joined ≡ true → sum groups′ < sum groups) →
+    sum groups′ ≤ sum groups
+sum-fewer groups groups′ true none some = omega (arith, some refl)
+sum-fewer groups groups′ false none some =
+    let same : sum groups′ ≡ sum groups = ap sum (none refl) in
+    omega arith
+
+-- passes so far: joined says whether another is due
+pub record ForksTo (n : ℕ) (parents names groups₀ groups : List ℕ) (joined : Bool) : Type 0 where
+  pub labelled : Labelled n groups
+  pub sound : (others : List ℕ) → ForkClosed n parents names others → Refines n groups₀ others → Refines n groups others
+  pub closed : joined ≡ false → ForkClosed n parents names groups
+  pub fewer : sum groups ≤ sum groups₀
+
+module _ (n : ℕ) (parents names : List ℕ) (arrays : Arrays n parents names) where
+  pub forks-ready :
+      (numbers groups : List ℕ) → numbers ≡ numbersFrom n 0 → Labelled n groups →
+      Ready (length groups) parents numbers names groups
+  forks-ready numbers groups own labelled =
+      subst (λ (m : ℕ). Ready m parents numbers names groups) (sym (labelled .size))
+      (record {
+        few = arrays .few-states;
+        ins-size = arrays .parents-size;
+        outs-size = ap length own ∙ numbers-length n 0;
+        keys-size = arrays .names-size;
+        ins-below = parent-below n parents names arrays;
+        outs-below = λ v h. subst (λ (x : ℕ). x < n) (sym (ap (λ (l : List ℕ). getD l v 0) own ∙ number-at n v h)) h;
+        labelled = labelled;
+      })
+
+  module _ (groups₀ : List ℕ) where
+    pub forks-none : Labelled n groups₀ → ForksTo n parents names groups₀ groups₀ true
+    forks-none labelled =
+        record {
+          labelled = labelled;
+          sound = λ others closed refines. refines;
+          closed = λ e. absurd (true≢false e);
+          fewer = omega arith;
+        }
+
+    pub forks-more :
+        (groups groups′ : List ℕ) (before joined : Bool) → ForksTo n parents names groups₀ groups before →
+        Passed n parents (numbersFrom n 0) names groups groups′ joined → ForksTo n parents names groups₀ groups′ joined
+    forks-more groups groups′ before joined so-far passed =
+        record {
+          labelled = passed .labelled;
+          sound = λ others closed refines.
+              passed .sound others (forks-keys n parents names others arrays closed) (so-far .sound others closed refines);
+          closed = λ e.
+              subst (λ (l : List ℕ). ForkClosed n parents names l) (sym (passed .none e .0))
+              (keys-forks n parents names groups arrays (passed .none e .1));
+          fewer = omega (arith, so-far .fewer, sum-fewer groups groups′ joined (λ e. passed .none e .0) (passed .some));
+        }
+
+    pub forks-all :
+        (groups : List ℕ) (joined : Bool) → joined ≡ false → ForksTo n parents names groups₀ groups joined →
+        ForksJoined n parents names groups₀ groups
+    forks-all groups joined done so-far =
+        record { labelled = so-far .labelled; sound = so-far .sound; closed = so-far .closed done; fewer = so-far .fewer }
+
+-- a pass of a partition with as many states, with the states' own numbers
+pub pass-of :
+    (n : ℕ) (parents names numbers groups groups′ : List ℕ) (joined : Bool) → length groups ≡ n → numbers ≡ numbersFrom n 0 →
+    Passed (length groups) parents numbers names groups groups′ joined →
+    Passed n parents (numbersFrom n 0) names groups groups′ joined
+pass-of n parents names numbers groups groups′ joined size own passed =
+    subst (λ (l : List ℕ). Passed n parents l names groups groups′ joined) own
+    (subst (λ (m : ℕ). Passed m parents numbers names groups groups′ joined) size passed)
+
+-- rounds so far: joined says whether another is due
+pub record RoundsTo (n h m : ℕ) (parents names groups : List ℕ) (joined : Bool) : Type 0 where
+  pub labelled : Labelled n groups
+  pub sound : ContextSound n h m parents names groups
+  pub forks : joined ≡ false → ForkClosed n parents names groups
+  pub contexts : joined ≡ false → ContextClosed n h m parents names groups
+
+pub rounds-none : (n h m : ℕ) (parents names groups : List ℕ) → RoundReady n h m parents names groups →
+    RoundsTo n h m parents names groups true
+rounds-none n h m parents names groups ready =
+    record {
+      labelled = ready .labelled;
+      sound = ready .sound;
+      forks = λ e. absurd (true≢false e);
+      contexts = λ e. absurd (true≢false e);
+    }
+
+-- one round: forks, then a sweep
+module _ (n h m : ℕ) (parents names groups forked : List ℕ) (before : Bool) (arrays : Arrays n parents names)
+    (so-far : RoundsTo n h m parents names groups before) (forks : ForksJoined n parents names groups forked) where
+  forked-sound : ContextSound n h m parents names forked
+  forked-sound others fork context = forks .sound others fork (so-far .sound others fork context)
+
+  pub forked-agree : 0 < h → SuffixAgree n h parents names forked
+  forked-agree pos = joined-suffix-agree n parents names arrays h m forked pos (forks .labelled .size) forked-sound
+
+  module _ (groups′ : List ℕ) (joined : Bool) (swept : Swept n h m parents names forked groups′ joined) where
+    pub rounds-more : RoundsTo n h m parents names groups′ joined
+    rounds-more =
+        record {
+          labelled = swept .labelled;
+          sound = λ others fork context. swept .sound others context (forked-sound others fork context);
+          forks = λ e.
+              subst (λ (l : List ℕ). ForkClosed n parents names l) (sym (swept .none e (forks .closed) .0)) (forks .closed);
+          contexts = λ e.
+              subst (λ (l : List ℕ). ContextClosed n h m parents names l) (sym (swept .none e (forks .closed) .0))
+              (swept .none e (forks .closed) .1);
+        }
+
+    pub rounds-less : due groups′ joined < due groups true
+    rounds-less =
+        omega (arith, forks .fewer, due-less forked groups′ joined (λ e. swept .none e (forks .closed) .0) (swept .some))
+
+pub rounds-all :
+    (n h m : ℕ) (parents names groups : List ℕ) (joined : Bool) → joined ≡ false → RoundsTo n h m parents names groups joined →
+    ContextJoined n (h + m) h parents names groups
+rounds-all n h m parents names groups joined done so-far =
+    record {
+      labelled = so-far .labelled;
+      sound = λ j e others fork context.
+          so-far .sound others fork (subst (λ (i : ℕ). ContextClosed n h i parents names others) (is-m j e) context);
+      fork-closed = so-far .forks done;
+      context-closed = λ j e.
+          subst (λ (i : ℕ). ContextClosed n h i parents names groups) (sym (is-m j e)) (so-far .contexts done);
+    }
+  where
+    is-m : (j : ℕ) → h + j ≡ h + m → j ≡ m
+    is-m j e = omega arith
+
+-- a front of an array, as long as it says
+pub arrays-front :
+    (n : ℕ) (list parents names : List ℕ) → n ≤ length list → Arrays n parents names → Arrays (length (take n list)) parents names
+arrays-front n list parents names fits arrays =
+    subst (λ (m : ℕ). Arrays m parents names) (sym (front-length n list fits)) arrays
+
+pub classes-front :
+    (n h : ℕ) (list parents names classes : List ℕ) → n ≤ length list →
+    SuffixClasses (length (take n list)) (h + 1) parents names classes → SuffixClasses n (suc h) parents names classes
+classes-front n h list parents names classes fits by =
+    let one : h + 1 ≡ suc h = omega arith in
+    subst (λ (i : ℕ). SuffixClasses n i parents names classes) one
+    (subst (λ (m : ℕ). SuffixClasses m (h + 1) parents names classes) (front-length n list fits) by)
+
+-- the sweep by classes and groups that were written and read again
+module _ (h m : ℕ) (parents names front groups classes old : List ℕ) (arrays : Arrays (length groups) parents names)
+    (by : SuffixClasses (length groups) (suc h) parents names front) (classes-same : classes ≡ front) (old-same : old ≡ groups) where
+  pub sweep-pairing : Labelled (length groups) groups → Pairing (length old) parents classes old
+  sweep-pairing labelled =
+      subst (λ (l : List ℕ). Pairing (length l) parents classes l) (sym old-same)
+      (subst (λ (l : List ℕ). Pairing (length groups) parents l groups) (sym classes-same)
+      (record {
+        few = arrays .few-states;
+        parents-size = arrays .parents-size;
+        parents-below = parent-below (length groups) parents names arrays;
+        classes-size = by .size;
+        old-size = refl;
+        old-below = λ v h. omega (arith, labelled .low v h, arrays .few-states);
+      }))
+
+  pub sweep-swept :
+      (groups′ : List ℕ) (joined : Bool) → SuffixAgree (length groups) h parents names groups →
+      SweptBy (length old) m parents classes old groups′ joined → Swept (length groups) h m parents names groups groups′ joined
+  sweep-swept groups′ joined agree swept-by =
+      subst (λ (l : List ℕ). SweptBy (length groups) m parents l groups groups′ joined) classes-same
+      (subst (λ (l : List ℕ). SweptBy (length l) m parents classes l groups′ joined) old-same swept-by)
+      .swept h names arrays by agree
+
+-- the rounds start from the climbs
+pub climbs-ready :
+    (n h m k : ℕ) (parents names starts groups : List ℕ) → Arrays n parents names → 0 < h → 0 < m → h + m ≡ k → k ≤ setting-limit →
+    BySuffix n k parents names starts → ClimbedBelow n n m parents starts starts groups →
+    RoundReady (length groups) h m parents names groups
+climbs-ready n h m k parents names starts groups arrays some-names some-steps sum-is limit by climbed =
+    subst (λ (l : ℕ). RoundReady l h m parents names groups) (sym (climbed .labelled .size))
+    (record {
+      arrays = arrays;
+      some-names = some-names;
+      some-steps = some-steps;
+      limit = omega arith;
+      labelled = climbed .labelled;
+      sound = climbs-sound n h m k parents names starts groups arrays some-names sum-is by climbed;
+    })
+
+pub rounds-joined :
+    (n h m k : ℕ) (parents names groups groups′ : List ℕ) → length groups ≡ n → h + m ≡ k →
+    ContextJoined (length groups) (h + m) h parents names groups′ → ContextJoined n k h parents names groups′
+rounds-joined n h m k parents names groups groups′ size sum-is joined =
+    subst (λ (j : ℕ). ContextJoined n j h parents names groups′) sum-is
+    (subst (λ (l : ℕ). ContextJoined l (h + m) h parents names groups′) size joined)

@@ -1,0 +1,150 @@
+-- `contexts::close_contexts` meets its contract. The invariant of its loop: what holds after some rounds. Assumes nothing.
+use mathlib.Core.Path.{_≡_, refl, sym, ap, _∙_, subst}
+use mathlib.Core.Bool.{Bool}
+use mathlib.Core.List.{List}
+use Prim.Native.Nat.{ℕ, _<_, _≤_}
+use native.Mathlib.Omega.{arith}
+use lib.ListN.{length}
+use Rattle.model.specs.Lists.{numbersFrom}
+use Rattle.indexed.specs.Trees.{Arrays}
+use Rattle.indexed.specs.Partitions.{Labelled, SuffixAgree}
+use Rattle.indexed.specs.Passes.{Swept}
+use Rattle.contexts.specs.Rounds.{ForksJoined}
+use Rattle.contexts.proofs.RoundLaws.{RoundsTo, due, rounds-none, forked-agree, rounds-more, rounds-less, rounds-all}
+use Rattle.contexts.proofs.close_contexts.Statement.{statement}
+use Rattle.contexts.proofs.close_contexts.Tie as tie
+
+abbrev Inv-loop : tie.InvT-loop
+Inv-loop h m parents names numbers groups₀ work₀ joined₀ groups work joined =
+    (length work ≡ length work₀) × RoundsTo (length groups₀) h m parents names groups joined
+
+abbrev μ-loop : tie.MeasureT-loop
+μ-loop h m parents names numbers groups₀ work₀ joined₀ groups work joined = due groups joined
+
+-- what the forks promise, by the number of states at the start
+forks-here :
+    (c : tie.After-close-forks Inv-loop μ-loop) → let here = c .before .before .before .before in
+    let at = here .before .before .before .before .before .before in
+    ForksJoined (length (at .args .groups .now)) (at .args .parents .now) (at .args .names .now) (here .loop .groups)
+    (c .close-forks .last .1 .1 .1 .0)
+forks-here c =
+    let here = c .before .before .before .before in
+    let at = here .before .before .before .before .before .before in
+    subst (λ (k : ℕ). ForksJoined k (at .args .parents .now) (at .args .names .now) (here .loop .groups)
+    (c .close-forks .last .1 .1 .1 .0)) (here .loop .inv .1 .labelled .size) (c .close-forks .ensures)
+
+-- what the sweep promises, by the number of states at the start
+swept-here :
+    (c : tie.After-sweep Inv-loop μ-loop) → let forks = c .before .before .before .before .before .before .before in
+    let at = forks .before .before .before .before .before .before .before .before .before .before in
+    Swept (length (at .args .groups .now)) (at .args .h) (at .args .m) (at .args .parents .now) (at .args .names .now)
+    (forks .close-forks .last .1 .1 .1 .0) (c .sweep .last .1 .1 .1 .1 .0) (c .sweep .result)
+swept-here c =
+    let forks = c .before .before .before .before .before .before .before in
+    let at = forks .before .before .before .before .before .before .before .before .before .before in
+    subst (λ (k : ℕ). Swept k (at .args .h) (at .args .m) (at .args .parents .now) (at .args .names .now)
+    (forks .close-forks .last .1 .1 .1 .0) (c .sweep .last .1 .1 .1 .1 .0) (c .sweep .result)) (forks-here forks .labelled .size)
+    (c .sweep .ensures)
+
+loop-holds : tie.Need-loop-holds Inv-loop μ-loop
+loop-holds c =
+    let at = c .before .before .before .before .before in (
+      refl,
+      rounds-none (length (at .args .groups .now)) (at .args .h) (at .args .m) (at .args .parents .now) (at .args .names .now)
+          (at .args .groups .now) (at .pre .0),
+    )
+
+close-forks-requires : tie.Need-close-forks-requires Inv-loop μ-loop
+close-forks-requires c κs =
+    let here = c .before .before .before in
+    let at = here .before .before .before .before .before .before in
+    let size = sym (here .loop .inv .1 .labelled .size) in (
+      subst (λ (k : ℕ). Arrays k (at .args .parents .now) (at .args .names .now)) size (at .pre .0 .arrays),
+      (
+        at .pre .1 .0 ∙ ap (λ (k : ℕ). numbersFrom k 0) size,
+        (
+          subst (λ (k : ℕ). Labelled k (here .loop .groups)) size (here .loop .inv .1 .labelled),
+          omega (arith, here .loop .inv .0, at .pre .1 .1),
+        ),
+      ),
+    )
+
+sweep-requires : tie.Need-sweep-requires Inv-loop μ-loop
+sweep-requires c κs =
+    let forks = c .before .before .before .before .before .before in
+    let here = forks .before .before .before .before in
+    let at = here .before .before .before .before .before .before in
+    let n = length (at .args .groups .now) in
+    let forked = forks .close-forks .last .1 .1 .1 .0 in
+    let done = forks-here forks in
+    let size = sym (done .labelled .size) in
+    let agree =
+    forked-agree n (at .args .h) (at .args .m) (at .args .parents .now) (at .args .names .now) (here .loop .groups) forked
+    (here .loop .joined) (at .pre .0 .arrays) (here .loop .inv .1) done (at .pre .0 .some-names) in (
+      subst (λ (k : ℕ). Arrays k (at .args .parents .now) (at .args .names .now)) size (at .pre .0 .arrays),
+      (
+        at .pre .0 .some-steps,
+        (
+          at .pre .0 .limit,
+          (
+            subst (λ (k : ℕ). Labelled k forked) size (done .labelled),
+            (
+              subst (λ (k : ℕ). SuffixAgree k (at .args .h) (at .args .parents .now) (at .args .names .now) forked) size agree,
+              omega (arith, forks .close-forks .kept .1 .1 .1 .1 .0, here .loop .inv .0, at .pre .1 .1),
+            ),
+          ),
+        ),
+      ),
+    )
+
+loop-less : tie.Need-loop-less Inv-loop μ-loop
+loop-less c =
+    let sweeps = c .before .before .before .before in
+    let forks = sweeps .before .before .before .before .before .before .before in
+    let here = forks .before .before .before .before in
+    let at = here .before .before .before .before .before .before in
+    subst (λ (b : Bool). due (sweeps .sweep .last .1 .1 .1 .1 .0) (sweeps .sweep .result) < due (here .loop .groups) b)
+    (sym (forks .before .before .before .loop-test .taken))
+    (rounds-less (length (at .args .groups .now)) (at .args .h) (at .args .m) (at .args .parents .now) (at .args .names .now)
+    (here .loop .groups) (forks .close-forks .last .1 .1 .1 .0) (here .loop .joined) (at .pre .0 .arrays) (here .loop .inv .1)
+    (forks-here forks) (sweeps .sweep .last .1 .1 .1 .1 .0) (sweeps .sweep .result) (swept-here sweeps))
+
+loop-again : tie.Need-loop-again Inv-loop μ-loop
+loop-again c =
+    let sweeps = c .before .before .before .before in
+    let forks = sweeps .before .before .before .before .before .before .before in
+    let here = forks .before .before .before .before in
+    let at = here .before .before .before .before .before .before in (
+      sweeps .sweep .kept .1 .1 .1 .1 .1 .0 ∙ forks .close-forks .kept .1 .1 .1 .1 .0 ∙ here .loop .inv .0,
+      rounds-more (length (at .args .groups .now)) (at .args .h) (at .args .m) (at .args .parents .now) (at .args .names .now)
+          (here .loop .groups) (forks .close-forks .last .1 .1 .1 .0) (here .loop .joined) (at .pre .0 .arrays) (here .loop .inv .1)
+          (forks-here forks) (sweeps .sweep .last .1 .1 .1 .1 .0) (sweeps .sweep .result) (swept-here sweeps),
+    )
+
+same-length : tie.Need-same-length Inv-loop μ-loop
+same-length c = c .before .loop .inv .1 .labelled .size
+
+same-length-2 : tie.Need-same-length-2 Inv-loop μ-loop
+same-length-2 c = c .before .loop .inv .0
+
+returns : tie.Need-returns Inv-loop μ-loop
+returns c =
+    let here = c .before in
+    let at = here .before .before .before .before .before .before in
+    rounds-all (length (at .args .groups .now)) (at .args .h) (at .args .m) (at .args .parents .now) (at .args .names .now)
+    (here .loop .groups) (here .loop .joined) (c .loop-test .left) (here .loop .inv .1)
+
+pub close-contexts-spec : {M : Type 1} → statement M
+close-contexts-spec =
+    tie.close
+    (tie.spec
+    Inv-loop
+    μ-loop
+    loop-holds
+    close-forks-requires
+    sweep-requires
+    loop-less
+    loop-again
+    same-length
+    same-length-2
+    returns)

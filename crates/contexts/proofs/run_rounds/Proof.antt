@@ -1,0 +1,78 @@
+-- `contexts::run_rounds` meets its contract: the numbers that are read are those written. Assumes nothing.
+use mathlib.Core.Path.{_≡_, refl, sym, ap, _∙_}
+use mathlib.Core.List.{List}
+use Prim.Native.Nat.{ℕ, _≤_}
+use native.Mathlib.Omega.{arith}
+use lib.ListN.{length, replicate, take}
+use borrow.Author.Needs.{needs}
+use Rattle.model.specs.Lists.{numbersFrom}
+use Rattle.indexed.proofs.Keys.{numbers-length}
+use Rattle.suffixes.proofs.FillLaws.{front-length, front-again, front-fits}
+use Rattle.contexts.proofs.RoundLaws.{own-front}
+use Rattle.contexts.proofs.run_rounds.Statement.{statement}
+use Rattle.contexts.proofs.run_rounds.Tie as tie
+
+array-borrow-prefix-numbers : tie.Need-array-borrow-prefix-numbers
+array-borrow-prefix-numbers c = search needs
+
+slice-aggregate-own : tie.Need-slice-aggregate-own
+slice-aggregate-own c = sym (front-length _ _ (c .before .before .before .before .before .pre .0 .arrays .few-states))
+
+-- the own numbers, by the number of states
+own-here :
+    (c : tie.After-own) → let start = c .before .before .before .before .before .before in
+    c .own .last .0 ≡ numbersFrom (length (start .args .groups .now)) 0
+own-here c =
+    let start = c .before .before .before .before .before .before in
+    own-front (length (start .args .groups .now)) (replicate 512 0) (c .own .last .0) (start .pre .0 .arrays .few-states)
+    (c .own .ensures)
+
+own-requires : tie.Need-own-requires
+own-requires c κs =
+    let start = c .before .before .before .before .before in
+    let few = start .pre .0 .arrays .few-states in
+    omega (arith, few, front-length (length (start .args .groups .now)) (replicate 512 0) few)
+
+array-share-prefix-numbers : tie.Need-array-share-prefix-numbers
+array-share-prefix-numbers c =
+    let own = c .before in
+    let n = length (own .before .before .before .before .before .before .args .groups .now) in
+    front-fits n (numbersFrom n 0) (own .own .last .0) _ (own-here own) (numbers-length n 0)
+
+slice-aggregate-close-contexts : tie.Need-slice-aggregate-close-contexts
+slice-aggregate-close-contexts c =
+    let own = c .before .before in
+    let n = length (own .before .before .before .before .before .before .args .groups .now) in
+    sym (ap length (front-again n (numbersFrom n 0) (own .own .last .0) _ (own-here own) (numbers-length n 0)) ∙ numbers-length n 0)
+
+close-contexts-requires : tie.Need-close-contexts-requires
+close-contexts-requires c κs =
+    let own = c .before .before .before .before in
+    let start = own .before .before .before .before .before .before in
+    let n = length (start .args .groups .now) in (
+      start .pre .0,
+      (front-again n (numbersFrom n 0) (own .own .last .0) _ (own-here own) (numbers-length n 0), start .pre .1),
+    )
+
+same-length : tie.Need-same-length
+same-length c = search needs
+
+same-length-2 : tie.Need-same-length-2
+same-length-2 c = search needs
+
+returns : tie.Need-returns
+returns c = search needs
+
+pub run-rounds-spec : {M : Type 1} → statement M
+run-rounds-spec =
+    tie.close
+    (tie.spec
+    array-borrow-prefix-numbers
+    slice-aggregate-own
+    own-requires
+    array-share-prefix-numbers
+    slice-aggregate-close-contexts
+    close-contexts-requires
+    same-length
+    same-length-2
+    returns)

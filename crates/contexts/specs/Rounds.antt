@@ -1,0 +1,30 @@
+-- Rounds of joins: what is joined by the context rule and no more, forks joined until none is left, and what the rounds start
+-- from. Assumes nothing.
+use mathlib.Core.Path.{_≡_}
+use mathlib.Core.List.{List}
+use Prim.Native.Nat.{ℕ, _+_, _<_, _≤_}
+use lib.ListN.{length}
+use Rattle.model.specs.Limits.{setting-limit}
+use Rattle.indexed.specs.Trees.{Arrays}
+use Rattle.indexed.specs.Partitions.{Refines, Labelled, ForkClosed, ContextClosed, sum}
+
+-- every partition that is closed under forks and the context rule joins as much
+abbrev pub ContextSound : ℕ → ℕ → ℕ → List ℕ → List ℕ → List ℕ → Type 0
+ContextSound n h m parents names groups =
+    (others : List ℕ) → ForkClosed n parents names others → ContextClosed n h m parents names others → Refines n groups others
+
+-- forks joined until none is left
+pub record ForksJoined (n : ℕ) (parents names groups groups′ : List ℕ) : Type 0 where
+  pub labelled : Labelled n groups′
+  pub sound : (others : List ℕ) → ForkClosed n parents names others → Refines n groups others → Refines n groups′ others
+  pub closed : ForkClosed n parents names groups′
+  pub fewer : sum groups′ ≤ sum groups
+
+-- what the rounds of the context rule start from, and are at each time
+pub record RoundReady (n h m : ℕ) (parents names groups : List ℕ) : Type 0 where
+  pub arrays : Arrays n parents names
+  pub some-names : 0 < h
+  pub some-steps : 0 < m
+  pub limit : h + 1 ≤ setting-limit
+  pub labelled : Labelled n groups
+  pub sound : ContextSound n h m parents names groups
