@@ -26,6 +26,10 @@ unless fault none value = cond (eqb fault 0) value none
 abbrev pub over : List ℕ → List ℕ → List ℕ
 over bytes out = bytes ++ drop (length bytes) out
 
+-- what is given back with a refusal
+abbrev pub refusal : ℕ → Inferred
+refusal number = record { number = number; length = 0; states = 0; joins = 0 }
+
 -- what is given back for a book, with the output before and after; a refusal leaves the output as it was
 pub record Gives (f : File) (out out′ : List ℕ) (r : Inferred) : Type 0 where
   pub number-is : r .number ≡ inferFault f out
