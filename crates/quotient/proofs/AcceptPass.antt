@@ -8,7 +8,7 @@ use Prim.Native.Nat.{ℕ, _+_, _<_, _≤_}
 use native.Mathlib.Omega.{arith}
 use lib.Dec.{eqb}
 use lib.ListN.{length, getD, set, replicate, length-set, length-replicate, getD-replicate}
-use lib.Seq.{getD-set-same, getD-set-other}
+use lib.Seq.{getD-set-same, getD-set-other, set-getD}
 use borrow.Author.Tests.{eqb-true, eqb-false}
 use Rattle.model.specs.Limits.{when}
 use Rattle.model.specs.Classes.{Word}
@@ -73,7 +73,9 @@ module _ (v : ℕ) (accepts groups accepting : List ℕ) (inside : v < length gr
   one-more true t =
       record {
         size = omega (arith, length-set accepting (getD groups v 0) 1, before .size);
-        small = λ g h. ⊎-elim (λ e. omega (arith, marked g e)) (λ d. omega (arith, kept g d, before .small g h)) (eq-dec g (getD groups v 0));
+        small = λ g h.
+            ⊎-elim (λ e. omega (arith, marked g e)) (λ d. omega (arith, kept g d, before .small g h))
+            (eq-dec g (getD groups v 0));
         each = λ g h. (
           λ b. ⊎-elim
               (λ e. (v, omega arith, sym e, eqb-true (getD accepts v 0) 1 t))
@@ -95,11 +97,21 @@ module _ (v : ℕ) (accepts groups accepting : List ℕ) (inside : v < length gr
       kept : (g : ℕ) → (g ≡ getD groups v 0 → ⊥) → getD (set accepting (getD groups v 0) 1) g 0 ≡ getD accepting g 0
       kept g d = getD-set-other accepting (getD groups v 0) g 1 0 d
 
+  -- a mark that stays is no store
+  stored :
+      (b : Bool) →
+      set accepting (getD groups v 0) (cond b 1 (getD accepting (getD groups v 0) 0))
+      ≡ cond b (set accepting (getD groups v 0) 1) accepting
+  stored true = refl
+  stored false = set-getD accepting (getD groups v 0) 0
+
   -- one more state
   pub mark-more :
-      (g b : ℕ) (accepting′ : List ℕ) → g ≡ getD groups v 0 → b ≡ getD accepts v 0 →
-      accepting′ ≡ cond (eqb b 1) (set accepting g 1) accepting → MarkedUpTo (v + 1) accepts groups accepting′
-  mark-more g b accepting′ e f k = rw (k, e, f) (one-more (eqb (getD accepts v 0) 1) refl)
+      (g mark : ℕ) (accepting′ : List ℕ) → g ≡ getD groups v 0 →
+      mark ≡ cond (eqb (getD accepts v 0) 1) 1 (getD accepting g 0) → accepting′ ≡ set accepting g mark →
+      MarkedUpTo (v + 1) accepts groups accepting′
+  mark-more g mark accepting′ e f k =
+      rw (k, f, e, stored (eqb (getD accepts v 0) 1)) (one-more (eqb (getD accepts v 0) 1) refl)
 
 -- a number below 2 that is 1 exactly if the test holds
 told-byte : (b : Bool) {P : Type 0} → Tells b P → (x : ℕ) → x < 2 → (x ≡ 1) ↔ P → x ≡ when b 1
@@ -118,7 +130,8 @@ mark-end rows accepts groups accepting v told labels end r =
       each = λ g h.
           let size : length groups ≡ length (treeOf rows) = labels .size in
           let low : g < length groups = omega arith in
-          told-byte (groupAccepts rows (treeOf rows) groups g) (tells-accepting rows accepts groups told labels g) (getD accepting g 0) (r .small g low) (
+          let tells = tells-accepting rows accepts groups told labels g in
+          told-byte (groupAccepts rows (treeOf rows) groups g) tells (getD accepting g 0) (r .small g low) (
             λ b. let s = r .each g low .0 b in (s .0, omega (arith, s .1), s .2, s .3),
             λ s. r .each g low .1 (s .0, omega (arith, s .1), s .2, s .3),
           );

@@ -2,9 +2,9 @@
 use mathlib.Core.Path.{_≡_, refl, sym, ap, _∙_, subst}
 use mathlib.Core.Logic.{_⊎_, inl, inr, ⊎-elim}
 use mathlib.Core.Bool.{Bool, true, false, cond}
-use mathlib.Core.List.{List, [], _∷_, _++_, append-assoc, append-nil, List·Memᴰ as In, List·Memᴰ·head as here}
-use mathlib.Core.List.{List·Memᴰ·tail as there, List·Memᴰ·not-nil, List·Memᴰ·cases-cons, List·Memᴰ·append-cases}
-use mathlib.Core.List.{List·Memᴰ·eq-of-singleton, Memᴰ·append-left, Memᴰ·append-right, Memᴰ·cast}
+use mathlib.Core.List.{List, [], _∷_, _++_, List·Memᴰ as In, List·Memᴰ·head as here}
+use mathlib.Core.List.{List·Memᴰ·not-nil, List·Memᴰ·cases-cons, List·Memᴰ·append-cases}
+use mathlib.Core.List.{List·Memᴰ·eq-of-singleton, Memᴰ·append-left, Memᴰ·append-right}
 use Prim.Native.Nat.{ℕ, zero, suc, _+_, _-_, _^_, _<_, _≤_}
 use native.Mathlib.Numerals.{add-one}
 use native.Mathlib.Omega.{arith}
@@ -13,11 +13,11 @@ use lib.Dec.{ltb}
 use lib.ListN.{length, getD, set, take, replicate, length-append, length-set, length-replicate, getD-replicate}
 use lib.Seq.{take-suc-set, getD-set-same, getD-set-other, getD-take}
 use borrow.Author.Tests.{lt-ltb, le-ltb}
-use Rattle.model.specs.Limits.{name-limit, state-limit, work-bytes}
+use Rattle.model.specs.Limits.{name-limit, state-limit}
 use Rattle.model.specs.Lists.{any, isIn, indexIn}
 use Rattle.model.specs.Classes.{Word}
 use Rattle.model.specs.Tables.{Arc}
-use Rattle.model.specs.Joinings.{Transition, treeOf, groupAt, transitionsOf}
+use Rattle.model.specs.Joinings.{Transition, treeOf, transitionsOf}
 use Rattle.model.specs.Quotients.{arcsOutOf, metWith, metFrom, metGroups}
 use Rattle.model.proofs.Tests.{tells-isIn, not-told, eq-dec}
 use Rattle.model.proofs.Places.{nth-in, index-here, index-there, nth-of-index, index-after}
@@ -27,7 +27,7 @@ use Rattle.model.proofs.FirstMet.{met-few}
 use Rattle.cells.specs.Cells.{cellAt}
 use Rattle.quotient.specs.Gathered.{ArcsAt, Gathered}
 use Rattle.quotient.specs.Numbered.{MetAs, MeetingOne, Meeting}
-use Rattle.quotient.proofs.ArcSets.{ArcsMore, arcs-more, arcs-done}
+use Rattle.quotient.proofs.ArcSets.{arcs-more, arcs-done}
 use Rattle.quotient.proofs.TreeArcs.{labels-fit, label-low, root-group, tree-some}
 
 -- ---- one target
@@ -333,7 +333,13 @@ module _ (rows : List Word) (groups work next : List ℕ) (gathered : Gathered r
   look-at met numbers i count g r h e zero k =
       let counted : count ≡ length (r .seen) = r .so-far .counted in
       let z : ⊥ =
-      omega (arith, r .enough, every-few, ap length (r .comes-to), metFrom-adds (r .looks) i (transitionsOf (treeOf rows) groups) (r .seen)) in
+      omega (
+        arith,
+        r .enough,
+        every-few,
+        ap length (r .comes-to),
+        metFrom-adds (r .looks) i (transitionsOf (treeOf rows) groups) (r .seen),
+      ) in
       absurd z
   look-at met numbers i count g r h e (suc looks) k =
       let ts = transitionsOf (treeOf rows) groups in
@@ -364,6 +370,18 @@ module _ (rows : List Word) (groups work next : List ℕ) (gathered : Gathered r
               comes-to = goes-on ∙ ap (λ (j : ℕ). metFrom looks j ts (metWith seen (arcsOutOf g ts))) (sym (add-one i));
             };
       }
+
+  -- no more are met than there are states
+  pub numbering-few :
+      (met numbers : List ℕ) (i count : ℕ) → Numbering rows groups met numbers i count → count ≤ length (treeOf rows)
+  numbering-few met numbers i count r =
+      omega (
+        arith,
+        every-few,
+        ap length (r .comes-to),
+        metFrom-adds (r .looks) i (transitionsOf (treeOf rows) groups) (r .seen),
+        r .so-far .counted,
+      )
 
   pub numbering-more :
       (met numbers : List ℕ) (i count g set : ℕ) → Numbering rows groups met numbers i count → i < count → g ≡ getD met i 0 →

@@ -1,17 +1,16 @@
 -- Sets of names in 64 bits: the set of ascending arcs has as many bits as there are arcs, its lowest bit is the first arc's name, and
 -- without that bit it is the set of the others; and a name has its bit exactly if an arc has that name. Assumes nothing.
 use mathlib.Core.Path.{_≡_, refl, sym, ap, _∙_}
-use mathlib.Core.Logic.{_⊎_, inl, inr, ⊎-elim, _↔_}
+use mathlib.Core.Logic.{inl, inr, ⊎-elim, _↔_}
 use mathlib.Core.List.{List, [], _∷_, List·Memᴰ as In, List·Memᴰ·head as here, List·Memᴰ·tail as there}
 use mathlib.Core.List.{List·Memᴰ·not-nil, List·Memᴰ·cases-cons}
 use Prim.Native.Nat.{ℕ, zero, suc, _+_, _*_, _-_, _/_, _%_, _^_, _≤_, _<_}
-use native.Mathlib.Nat.{add-zero, zero-mul, mul-one, one-mul, pow-suc, mul-assoc, mul-comm, add-comm, mod-eq-of-lt}
-use native.Mathlib.Numerals.{add-one}
+use native.Mathlib.Nat.{add-zero, zero-mul, mul-one, one-mul, pow-suc, mul-assoc, add-comm, mod-eq-of-lt}
 use native.Mathlib.Omega.{arith}
 use lib.Bits.{bitOr, shifted-even, shifted-half, or-shifted}
 use lib.Count.{ones, ones-cat, trailingZeros, under}
 use lib.ListN.{length}
-use lib.Pow.{pow-pos, pow-mono, pow-lt, pow-add}
+use lib.Pow.{pow-pos, pow-lt, pow-add}
 use Rattle.model.specs.Tables.{Arc, arc, nameSet}
 use Rattle.model.proofs.Arcs.{Ascending}
 use Rattle.indexed.proofs.Bits.{bit, bit-zero, bit-of-set}

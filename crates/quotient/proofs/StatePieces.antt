@@ -17,16 +17,16 @@ use Rattle.model.specs.Tables.{Arc, arc, State, state, fieldBytes, arcBytes, st
 use Rattle.model.specs.Joinings.{treeOf, transitionsOf, groupAccepts}
 use Rattle.model.specs.Quotients.{arcsOutOf, metGroups, renumbered, stateOf, statesOf}
 use Rattle.model.proofs.Arcs.{arcsOutOf-in}
-use Rattle.model.proofs.FirstMet.{met-closed}
+use Rattle.model.proofs.FirstMet.{met-closed, met-few}
 use Rattle.model.proofs.Places.{nth-in}
 use Rattle.model.proofs.Trees.{treeOf-tree}
 use Rattle.cells.specs.Cells.{cellAt}
 use Rattle.writing.specs.Writing.{stateHead, arcPart}
 use Rattle.writing.proofs.Pieces.{state-bytes, state-bytes-length, arc-bytes-cons}
-use Rattle.quotient.specs.Gathered.{ArcsAt, Gathered, Accepting}
+use Rattle.quotient.specs.Gathered.{ArcsAt, Gathered}
 use Rattle.quotient.specs.Numbered.{MetAs}
 use Rattle.quotient.specs.Ready.{Ready, Sized, ArcsToWrite, StateToWrite}
-use Rattle.quotient.proofs.ArcSets.{ArcsMore, arcs-more, arcs-done, arcs-counted}
+use Rattle.quotient.proofs.ArcSets.{arcs-more, arcs-done, arcs-counted}
 use Rattle.quotient.proofs.MetLaws.{met-nth, met-low}
 use Rattle.quotient.proofs.TreeArcs.{labels-fit}
 
@@ -195,6 +195,35 @@ field-length rows groups work next gathered g low =
       state-bytes-length (state (groupAccepts rows (treeOf rows) groups g) (renumbered every arcs)),
       renumbered-length every arcs,
       arcs-counted arcs (gathered .arcs-at g low),
+    )
+
+-- there are no more states than the tree has
+pub count-low :
+    (rows : List Word) (groups work next met numbers : List ℕ) (count : ℕ) → Gathered rows groups work next →
+    MetAs (length (treeOf rows)) met numbers count (metGroups (treeOf rows) groups) → count ≤ length (treeOf rows)
+count-low rows groups work next met numbers count r m =
+    omega (
+      arith,
+      met-few (treeOf rows) groups (treeOf-tree rows) (labels-fit rows groups (r .labels)),
+      m .counted,
+    )
+
+-- one more state counted
+pub sized-more :
+    (rows : List Word) (groups next met : List ℕ) (count : ℕ) → Sized rows groups next met count → (i g total many : ℕ) →
+    i < count → g ≡ getD met i 0 → many ≡ ones (getD next g 0) →
+    total + length (fieldsFrom rows groups i) ≡ length (stateFields (statesOf rows (treeOf rows) groups)) →
+    total + (4 + 3 * many) + length (fieldsFrom rows groups (i + 1)) ≡ length (stateFields (statesOf rows (treeOf rows) groups))
+sized-more rows groups next met count r i g total many h e f before =
+    let every = metGroups (treeOf rows) groups in
+    let counted : count ≡ length every = r .numbered .counted in
+    let g-is : g ≡ getD every i 0 = e ∙ met-nth every (r .numbered) i h in
+    let g-low : g < length (treeOf rows) = omega (arith, met-low every (r .numbered) i h) in
+    omega (
+      arith,
+      ap length (fields-more rows groups i g (omega arith) g-is),
+      length-append (fieldOf rows groups g) (fieldsFrom rows groups (i + 1)),
+      field-length rows groups (r .work) next (r .gathered) g g-low,
     )
 
 -- the state of the i-th group met, ready to be written

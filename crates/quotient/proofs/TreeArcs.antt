@@ -1,14 +1,13 @@
 -- The arcs between groups by state number: each comes from a tree arc, each tree arc gives one, no group has two of one name, and a group
 -- accepts if the number of some accepting state is in it. Assumes nothing.
-use mathlib.Core.Path.{_≡_, refl, sym, ap, ap₂, _∙_, subst}
+use mathlib.Core.Path.{_≡_, sym, ap, ap₂, _∙_, subst}
 use mathlib.Core.List.{List, [], List·Memᴰ as In, Memᴰ·cast}
-use Prim.Native.Nat.{ℕ, _<_, _≤_}
+use Prim.Native.Nat.{ℕ, _<_}
 use native.Mathlib.Omega.{arith}
 use lib.ListN.{length, getD}
-use Rattle.model.specs.Limits.{name-limit}
 use Rattle.model.specs.Classes.{Word}
 use Rattle.model.specs.Joinings.{transition, treeOf, transitionsOf, groupAt, groupAccepts}
-use Rattle.model.proofs.Notions.{Fits, Deterministic, _▸_}
+use Rattle.model.proofs.Notions.{Fits, Deterministic}
 use Rattle.model.proofs.Tests.{Tells, tells-by}
 use Rattle.model.proofs.Groups.{tells-accepts}
 use Rattle.model.proofs.Transitions.{in-transitions, arc-node}
@@ -16,7 +15,7 @@ use Rattle.model.proofs.Trees.{treeOf-tree}
 use Rattle.indexed.specs.Trees.{wordAt, AcceptsArray}
 use Rattle.indexed.specs.Partitions.{Labelled}
 use Rattle.indexed.proofs.Words.{wordAt-in, number-of, root-word, groupAt-number}
-use Rattle.indexed.proofs.Kernels.{ArcNumber, arc-into, arc-number, parent-below}
+use Rattle.indexed.proofs.Kernels.{arc-into, arc-number, parent-below}
 use Rattle.quotient.specs.Gathered.{Joined}
 
 -- a tree arc, by the number of the state that it leads to, from group x by name a to group y

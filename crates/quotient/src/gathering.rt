@@ -6,9 +6,9 @@ use cells::set_cell;
 ghost use mathlib.Core.Path.{_≡_};
 ghost use mathlib.Core.Bool.{cond};
 ghost use mathlib.Core.List.{List};
-ghost use Prim.Native.Nat.{ℕ, _<_, _≤_};
+ghost use Prim.Native.Nat.{_≤_};
 ghost use lib.Dec.{eqb};
-ghost use lib.ListN.{length, set};
+ghost use lib.ListN.{length};
 ghost use Rattle.model.specs.Classes.{Word};
 ghost use Rattle.model.specs.Joinings.{treeOf};
 ghost use Rattle.model.specs.Limits.{work-bytes};
@@ -35,14 +35,11 @@ pub fn gather(parents: &[u16], names: &[u8], groups: &[u16], work: &mut [u8], ne
     }
 }
 
-// Marks a group that a state is in, if the state accepts.
-fn mark(accepting: &mut [u8], group: usize, accepts: u8)
-    requires { ⌜ group < length (now accepting) ⌝ }
-    ensures { λ _. ⌜ now (accepting .exit) ≡ cond (eqb accepts 1) (set (now (accepting .entry)) group 1) (now (accepting .entry)) ⌝ }
+// A group's mark with one more of its states.
+fn marked(before: u8, accepts: u8) -> u8
+    ensures { λ r. ⌜ r ≡ cond (eqb accepts 1) 1 before ⌝ }
 {
-    if accepts == 1 {
-        accepting[group] = 1;
-    }
+    if accepts == 1 { 1 } else { before }
 }
 
 // A group accepts if one of its states does.
@@ -55,7 +52,8 @@ pub fn mark_accepting(accepts: &[u8], groups: &[u16], accepting: &mut [u8])
     cells::clear(accepting);
     let mut v = 0;
     while v < groups.len() {
-        mark(accepting, wide16(groups[v]), accepts[v]);
+        let g = wide16(groups[v]);
+        accepting[g] = marked(accepting[g], accepts[v]);
         v += 1;
     }
 }

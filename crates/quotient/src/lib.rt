@@ -6,7 +6,7 @@ pub mod sets;
 pub mod states;
 
 ghost use mathlib.Core.List.{List};
-ghost use Prim.Native.Nat.{ℕ, _≤_};
+ghost use Prim.Native.Nat.{_≤_};
 ghost use lib.ListN.{length};
 ghost use Rattle.model.specs.Classes.{Word};
 ghost use Rattle.model.specs.Limits.{work-bytes};

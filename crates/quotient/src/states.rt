@@ -8,7 +8,7 @@ use writing::put_state;
 ghost use mathlib.Core.Path.{_≡_};
 ghost use mathlib.Core.List.{List};
 ghost use Prim.Native.Nat.{ℕ, _+_, _<_, _≤_};
-ghost use lib.ListN.{length};
+ghost use lib.ListN.{length, getD};
 ghost use Rattle.model.specs.Classes.{Word};
 ghost use Rattle.model.specs.Joinings.{treeOf};
 ghost use Rattle.model.specs.Limits.{state-limit, work-bytes};
@@ -34,6 +34,14 @@ pub fn bytes_of(next: &[u64], met: &[u16], count: usize) -> usize
     total
 }
 
+// The number of a group.
+fn number_of(numbers: &[u16], group: usize) -> usize
+    requires { ⌜ group < length (now numbers) ⌝ }
+    ensures { λ r. ⌜ r ≡ getD (now (numbers .entry)) group 0 ⌝ }
+{
+    wide16(numbers[group])
+}
+
 // Writes the arcs out of a group, in ascending name. Returns the offset after them.
 fn write_arcs(
     work: &[u8],
@@ -52,8 +60,8 @@ fn write_arcs(
     let mut end = at;
     while 0 < left {
         let name = sets::lowest(left);
-        let target = cell(work, row, name);
-        end = put_arc(out, end, narrow8(name), wide16(numbers[target]));
+        let target = number_of(numbers, cell(work, row, name));
+        end = put_arc(out, end, narrow8(name), target);
         left -= sets::only(name);
     }
     end

@@ -10,7 +10,8 @@ use Rattle.quotient.proofs.numbering.none_met.Statement.{statement}
 use Rattle.quotient.proofs.numbering.none_met.Tie as tie
 
 abbrev Inv-loop : tie.InvT-loop
-Inv-loop numbers₀ i₀ numbers i = (i ≤ length numbers₀) × ((length numbers ≡ length numbers₀) × (numbers ≡ replicate i 512 ++ drop i numbers₀))
+Inv-loop numbers₀ i₀ numbers i =
+    (i ≤ length numbers₀) × ((length numbers ≡ length numbers₀) × (numbers ≡ replicate i 512 ++ drop i numbers₀))
 
 abbrev μ-loop : tie.MeasureT-loop
 μ-loop numbers₀ i₀ numbers i = length numbers₀ - i

@@ -10,7 +10,8 @@ use Rattle.quotient.proofs.sets.clear.Statement.{statement}
 use Rattle.quotient.proofs.sets.clear.Tie as tie
 
 abbrev Inv-loop : tie.InvT-loop
-Inv-loop sets₀ i₀ sets i = (i ≤ length sets₀) × ((length sets ≡ length sets₀) × (sets ≡ replicate i 0 ++ drop i sets₀))
+Inv-loop sets₀ i₀ sets i =
+    (i ≤ length sets₀) × ((length sets ≡ length sets₀) × (sets ≡ replicate i 0 ++ drop i sets₀))
 
 abbrev μ-loop : tie.MeasureT-loop
 μ-loop sets₀ i₀ sets i = length sets₀ - i

@@ -6,9 +6,6 @@ use lib.ListN.{getD, set}
 use borrow.Author.Needs.{needs}
 use Rattle.quotient.proofs.sets.put.Statement.{statement}
 use Rattle.quotient.proofs.sets.put.Tie as tie
-use Rattle.quotient.proofs.sets.put.Reads as reads
-use Rattle.quotient.proofs.sets.put.Lts as lts
-use Rattle.quotient.proofs.sets.only.Reads as only-reads
 
 mul-sets : tie.Need-mul-sets
 mul-sets c = search needs

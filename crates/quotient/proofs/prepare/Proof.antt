@@ -1,0 +1,99 @@
+-- `prepare` meets its contract: what each step leaves is what the next needs. Assumes nothing.
+use mathlib.Core.Path.{sym, _∙_}
+use Rattle.model.specs.Joinings.{treeOf}
+use Rattle.model.proofs.Trees.{treeOf-tree}
+use Rattle.model.proofs.FirstMet.{states-length}
+use Rattle.quotient.proofs.TreeArcs.{labels-fit}
+use borrow.Author.Needs.{needs}
+use Rattle.quotient.proofs.prepare.Statement.{statement}
+use Rattle.quotient.proofs.prepare.Tie as tie
+
+gather-requires : tie.Need-gather-requires
+gather-requires c κs = search needs
+
+mark-accepting-requires : tie.Need-mark-accepting-requires
+mark-accepting-requires c κs = search needs
+
+number-requires : tie.Need-number-requires
+number-requires c κs =
+    let early = c .before .before .before .before .before .before .before .before .before .before .before .before in
+    let gathered = early .gather in
+    let at = early .before .before .before .before .before .before .before .before .before .before .before .before in
+    ((at .pre .0 .0, gathered .ensures (at .pre .0 .0) (at .pre .0 .1)), at .pre .1 .1 .1)
+
+bytes-of-requires : tie.Need-bytes-of-requires
+bytes-of-requires c κs =
+    let numbered = c .before .before .before .before .before .before in
+    let after-gather = numbered .before .before .before .before .before .before .before .before .before .before .before .before .before in
+    let at = after-gather .before .before .before .before .before .before .before .before .before .before .before .before in
+    let rows = at .pre .0 .0 in
+    let gathered = after-gather .gather .ensures rows (at .pre .0 .1) in (
+      rows,
+      at .args .groups .now,
+      record {
+        work = after-gather .gather .last .1 .1 .1 .0;
+        numbers = numbered .number .last .1 .1 .1 .1 .0;
+        gathered = gathered;
+        numbered = numbered .number .ensures rows gathered;
+      },
+    )
+
+same-length : tie.Need-same-length
+same-length c = search needs
+
+same-length-2 : tie.Need-same-length-2
+same-length-2 c = search needs
+
+same-length-3 : tie.Need-same-length-3
+same-length-3 c = search needs
+
+same-length-4 : tie.Need-same-length-4
+same-length-4 c = search needs
+
+same-length-5 : tie.Need-same-length-5
+same-length-5 c = search needs
+
+returns : tie.Need-returns
+returns c =
+    let after-number = c .before .before .before .before .before .before .before in
+    let after-marking = after-number .before .before .before .before .before .before .before in
+    let after-gather = after-marking .before .before .before .before .before .before in
+    let at = after-gather .before .before .before .before .before .before .before .before .before .before .before .before in
+    let groups = at .args .groups .now in
+    λ rows joined told.
+    let gathered = after-gather .gather .ensures rows joined in
+    let numbered = after-number .number .ensures rows gathered in
+    record {
+      ready =
+          record {
+            gathered = gathered;
+            marked = after-marking .mark-accepting .ensures rows told (joined .labels);
+            numbered = numbered;
+          };
+      counted =
+          numbered .counted
+          ∙ sym (states-length (treeOf rows) groups (treeOf-tree rows) (labels-fit rows groups (joined .labels)) rows);
+      sized =
+          c .bytes-of .ensures rows groups
+          (record {
+            work = after-gather .gather .last .1 .1 .1 .0;
+            numbers = after-number .number .last .1 .1 .1 .1 .0;
+            gathered = gathered;
+            numbered = numbered;
+          });
+    }
+
+pub prepare-spec : {M : Type 1} → statement M
+prepare-spec =
+    tie.close
+    (tie.spec
+    gather-requires
+    mark-accepting-requires
+    number-requires
+    bytes-of-requires
+    same-length
+    same-length-2
+    same-length-3
+    same-length-4
+    same-length-5
+    returns)
