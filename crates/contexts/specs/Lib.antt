@@ -1,2 +1,4 @@
 -- What climbing from states with the same last names promises. Assumes nothing.
+pub mod Bits
 pub mod Climbs
+pub mod Sweeps

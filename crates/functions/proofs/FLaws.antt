@@ -1,20 +1,20 @@
 -- The rule of f from rounds: joined until closed, from the partition by ends on, is joined by the rule of f. One law over what it is
 -- to be closed against the arcs, then last names and seen sets. Assumes nothing.
-use mathlib.Core.Path.{_≡_, refl, sym, ap, _∙_, subst}
+use mathlib.Core.Path.{_≡_, sym, ap, subst}
 use mathlib.Core.Logic.{_⊎_, inl, inr}
-use mathlib.Core.Bool.{Bool, true, false}
+use mathlib.Core.Bool.{true, false}
 use mathlib.Core.List.{List}
-use Prim.Native.Nat.{ℕ, _+_, _<_, _≤_}
+use Prim.Native.Nat.{ℕ, _<_}
 use native.Mathlib.Omega.{arith}
-use lib.ListN.{length, getD}
+use lib.ListN.{getD}
 use Rattle.model.specs.Limits.{name-limit}
 use Rattle.model.specs.Lists.{numbersFrom}
 use Rattle.indexed.specs.Trees.{Arrays}
-use Rattle.indexed.specs.Partitions.{Refines, Labelled, KeyClosed, ForkClosed, EndsClosed, BackClosed}
+use Rattle.indexed.specs.Partitions.{Refines, KeyClosed, ForkClosed, EndsClosed, BackClosed}
 use Rattle.indexed.specs.Passes.{BySuffix, ByEnds, NamesAbove, SeenSets, BySeen, KeysWhere, FJoined}
 use Rattle.indexed.proofs.Keys.{forks-keys, keys-forks}
 use Rattle.indexed.proofs.Functions.{last-forks, seen-forks, last-back, last-keys, seen-back, seen-keys}
-use Rattle.functions.specs.Rounds.{RoundClosed, JoinedUntil}
+use Rattle.functions.specs.Rounds.{RoundClosed, JoinedUntil, Finished}
 use Rattle.functions.specs.Results.{JoinedByLast, JoinedBySeen}
 
 module _ (n : ℕ) (parents names accepts classes : List ℕ) (arrays : Arrays n parents names) where
@@ -67,46 +67,48 @@ module _ (n : ℕ) (parents names accepts classes : List ℕ) (arrays : Arrays n
           (round-closed classes (λ a b ha hb e. e) class-forks (λ v w pv pw hv hw same-name one same. one))
           (ends-inside ends classes by (λ v w hv hw in-v in-w alike. alike))
 
+-- the tree's arrays, by the length of another array of as many states
+pub arrays-for : (n m : ℕ) (parents names : List ℕ) → m ≡ n → Arrays n parents names → Arrays m parents names
+arrays-for n m parents names size arrays = subst (λ (k : ℕ). Arrays k parents names) (sym size) arrays
+
 -- keys of none but 64 ask nothing
 none-closed :
     (n : ℕ) (ins outs none groups : List ℕ) → ((v : ℕ) → v < n → getD none v 0 ≡ name-limit) → KeyClosed n ins outs none groups
 none-closed n ins outs none groups is v w hv hw below same-key same-row = absurd (omega (arith, is v hv))
 
 pub joined-by-last :
-    (n j : ℕ) (parents names accepts classes numbers keys none ends groups : List ℕ) → Arrays n parents names →
-    BySuffix n j parents names classes → NamesAbove n j parents names keys → numbers ≡ numbersFrom n 0 →
-    ((v : ℕ) → v < n → getD none v 0 ≡ name-limit) → ByEnds n accepts classes ends →
-    JoinedUntil (RoundClosed n parents names numbers keys none) n ends groups → JoinedByLast n j parents names accepts groups
-joined-by-last n j parents names accepts classes numbers keys none ends groups arrays by above own is ends-by until =
+    (n j : ℕ) (parents names accepts classes keys none groups : List ℕ) → Arrays n parents names →
+    BySuffix n j parents names classes → NamesAbove n j parents names keys →
+    ((v : ℕ) → v < n → getD none v 0 ≡ name-limit) → Finished n parents names accepts classes keys none groups →
+    JoinedByLast n j parents names accepts groups
+joined-by-last n j parents names accepts classes keys none groups arrays by above is finished =
     record {
       classes = classes;
       by-suffix = by;
       joined =
-          f-joined n parents names accepts classes arrays keys none ends groups (last-forks n j parents names classes arrays by)
-          ends-by
+          f-joined n parents names accepts classes arrays keys none (finished .ends) groups
+          (last-forks n j parents names classes arrays by) (finished .by-ends)
           (λ l agree shut more. last-back n parents names arrays j classes keys l by above agree shut)
           (λ l agree back. last-keys n parents names arrays j classes keys l by above agree back)
-          (λ l agree back. none-closed n (numbersFrom n 0) parents none l is)
-          (subst (λ (m : List ℕ). JoinedUntil (RoundClosed n parents names m keys none) n ends groups) own until);
+          (λ l agree back. none-closed n (numbersFrom n 0) parents none l is) (finished .until);
     }
 
 pub joined-by-seen :
-    (n : ℕ) (parents names accepts seen classes numbers enlarging others ends groups : List ℕ) → Arrays n parents names →
+    (n : ℕ) (parents names accepts seen classes enlarging others groups : List ℕ) → Arrays n parents names →
     SeenSets n parents names seen → BySeen n seen classes → KeysWhere n true parents names seen enlarging →
-    KeysWhere n false parents names seen others → numbers ≡ numbersFrom n 0 → ByEnds n accepts classes ends →
-    JoinedUntil (RoundClosed n parents names numbers enlarging others) n ends groups →
+    KeysWhere n false parents names seen others → Finished n parents names accepts classes enlarging others groups →
     JoinedBySeen n parents names accepts groups
-joined-by-seen n parents names accepts seen classes numbers enlarging others ends groups arrays sets by keys keys′ own ends-by until =
+joined-by-seen n parents names accepts seen classes enlarging others groups arrays sets by keys keys′ finished =
     record {
       seen = seen;
       classes = classes;
       sets = sets;
       by-seen = by;
       joined =
-          f-joined n parents names accepts classes arrays enlarging others ends groups
-          (seen-forks n parents names seen classes arrays sets by) ends-by
+          f-joined n parents names accepts classes arrays enlarging others (finished .ends) groups
+          (seen-forks n parents names seen classes arrays sets by) (finished .by-ends)
           (λ l agree shut more. seen-back n parents names arrays seen classes enlarging others l sets by keys keys′ agree shut more)
           (λ l agree back. seen-keys n parents names arrays true seen classes enlarging l sets by keys agree back)
           (λ l agree back. seen-keys n parents names arrays false seen classes others l sets by keys′ agree back)
-          (subst (λ (m : List ℕ). JoinedUntil (RoundClosed n parents names m enlarging others) n ends groups) own until);
+          (finished .until);
     }

@@ -6,8 +6,8 @@ use mathlib.Core.List.{List}
 use Prim.Native.Nat.{ℕ, zero, suc, _+_, _-_, _<_, _≤_}
 use native.Mathlib.Omega.{arith}
 use lib.Dec.{eqb}
-use lib.ListN.{length, getD, set, length-set}
-use lib.Seq.{getD-set-same, getD-set-other, ext-getD}
+use lib.ListN.{length, getD, set, take, replicate, length-set, length-replicate, getD-replicate}
+use lib.Seq.{getD-set-same, getD-set-other, getD-take, length-take-le, ext-getD}
 use borrow.Author.Count.{below-more}
 use Rattle.model.specs.Limits.{name-limit}
 use Rattle.model.specs.Lists.{numbersFrom}
@@ -15,7 +15,8 @@ use Rattle.indexed.specs.Trees.{Arrays, up}
 use Rattle.indexed.specs.Passes.{NamesAbove, KeysWhere}
 use Rattle.indexed.proofs.Keys.{number-at, numbers-length}
 use Rattle.indexed.proofs.Suffixes.{parent-below}
-use Rattle.functions.specs.Parts.{Ancestor, KeyAt}
+use Rattle.partition.proofs.StepLaws.{no-truth, no-falsehood}
+use Rattle.functions.specs.Parts.{KeyAt}
 
 -- each of the first i elements is as it should be
 pub record Filled (P : ℕ → ℕ → Type 0) (i : ℕ) (out₀ out : List ℕ) : Type 0 where
@@ -59,10 +60,6 @@ own-all i out₀ out all filled =
         filled .done k (omega arith) ∙ sym (number-at (length out₀) k inside)
 
 -- one ancestor further
-pub ancestor-start : (n j : ℕ) (parents : List ℕ) (v : ℕ) → v < n → Ancestor n 0 parents v v
-unfolding up
-ancestor-start n j parents v inside = record { value = refl; inside = inside }
-
 pub up-step :
     (parents : List ℕ) (left at next : ℕ) → 0 < left → next ≡ getD parents at 0 → up parents (left - 1) next ≡ up parents left at
 unfolding up
@@ -85,6 +82,15 @@ pub above-all :
     NamesAbove (length out₀) j parents names out
 above-all j i parents names out₀ out all filled =
     record { size = filled .size; above = λ v h. filled .done v (omega arith) }
+
+-- a key that is none, and one that is the name
+pub key-none : (b : Bool) (name : ℕ) → b ≡ true → name-limit ≡ cond b name-limit name
+key-none true name e = refl
+key-none false name e = absurd (no-truth e)
+
+pub key-name : (b : Bool) (name : ℕ) → b ≡ false → name ≡ cond b name-limit name
+key-name true name e = absurd (no-falsehood e)
+key-name false name e = refl
 
 -- keys by the seen set
 pub key-root : (enlarge : Bool) (parents names seen : List ℕ) (v : ℕ) → v ≡ 0 → KeyAt enlarge parents names seen v name-limit
@@ -115,3 +121,12 @@ pub parent-inside :
     (n : ℕ) (parents names : List ℕ) (v parent : ℕ) → Arrays n parents names → v < n → parent ≡ getD parents v 0 → parent < n
 parent-inside n parents names v parent arrays inside is =
     subst (λ (x : ℕ). x < n) (sym is) (parent-below n parents names arrays v inside)
+
+-- a local array of 512 elements cut to n: its length, and what it holds where nothing was written
+pub cut : (n x : ℕ) → n ≤ 512 → n ≡ length (take n (replicate 512 x))
+cut n x h = sym (length-take-le n (replicate 512 x) (subst (λ (m : ℕ). n ≤ m) (sym (length-replicate 512 x)) h))
+
+pub cut-at : (n x v : ℕ) → n ≤ 512 → v < n → getD (take n (replicate 512 x)) v 0 ≡ x
+cut-at n x v h inside =
+    let below : v < 512 = omega arith in
+    getD-take n (replicate 512 x) v 0 inside ∙ getD-replicate 512 v x 0 below

@@ -1,17 +1,18 @@
 -- Laws of rounds: a pass as a joining, joinings one after the other, and joinings until one joins nothing. Assumes nothing.
-use mathlib.Core.Path.{_≡_, refl, sym, ap, _∙_, subst}
+use mathlib.Core.Path.{_≡_, refl, sym, ap, _∙_, subst, subst₂}
 use mathlib.Core.Bool.{Bool, true, false, cond, _||_}
 use mathlib.Core.List.{List}
-use Prim.Native.Nat.{ℕ, _+_, _<_, _≤_}
+use Prim.Native.Nat.{ℕ, _+_, _<_}
 use native.Mathlib.Omega.{arith}
 use lib.ListN.{length, getD}
 use Rattle.model.specs.Lists.{numbersFrom}
 use Rattle.indexed.specs.Partitions.{Refines, Labelled, KeyClosed, sum}
-use Rattle.indexed.specs.Passes.{Passed}
+use Rattle.indexed.specs.Passes.{Passed, ByEnds}
 use Rattle.indexed.proofs.Keys.{number-at, numbers-length}
+use Rattle.indexed.proofs.Suffixes.{parent-below}
 use Rattle.partition.specs.Steps.{Ready}
 use Rattle.partition.proofs.StepLaws.{no-truth, no-falsehood}
-use Rattle.functions.specs.Rounds.{RoundReady, RoundClosed, Joining, JoinedUntil}
+use Rattle.functions.specs.Rounds.{RoundReady, RoundClosed, Joining, JoinedUntil, FinishReady, Finished}
 
 or-first : (a b : Bool) → a || b ≡ false → a ≡ false
 or-first true b e = e
@@ -71,6 +72,10 @@ module _ (n : ℕ) (parents names numbers keys more groups : List ℕ) (ready : 
         labelled = labelled;
       })
 
+-- labels of as many states
+pub labelled-then : (n : ℕ) (groups groups′ : List ℕ) → Labelled n groups → Labelled (length groups) groups′ → Labelled n groups′
+labelled-then n groups groups′ before after = subst (λ (m : ℕ). Labelled m groups′) (before .size) after
+
 -- a pass is a joining
 pub pass-joining :
     (n m : ℕ) (ins outs keys groups groups′ : List ℕ) (joined : Bool) → m ≡ n → Passed m ins outs keys groups groups′ joined →
@@ -122,11 +127,20 @@ round-joining n parents names numbers keys more groups g₁ g₂ g₃ a b c size
     let j₁ = pass-joining n (length groups) parents numbers names groups g₁ a size p₁ in
     let j₂ = pass-joining n (length g₁) numbers parents keys g₁ g₂ b (j₁ .labelled .size) p₂ in
     let j₃ = pass-joining n (length g₂) numbers parents more g₂ g₃ c (j₂ .labelled .size) p₃ in
-    then-joining (TwoClosed n parents names numbers keys) (KeyClosed n numbers parents more) (RoundClosed n parents names numbers keys more) n groups g₂ g₃ (a || b) c
+    then-joining (TwoClosed n parents names numbers keys) (KeyClosed n numbers parents more)
+    (RoundClosed n parents names numbers keys more) n groups g₂ g₃ (a || b) c
     (λ l e. (e .forks, e .backs)) (λ l e. e .others) (λ l t e. record { forks = t .0; backs = t .1; others = e })
     (then-joining (KeyClosed n parents numbers names) (KeyClosed n numbers parents keys)
     (TwoClosed n parents names numbers keys) n groups g₁ g₂ a b
     (λ l t. t .0) (λ l t. t .1) (λ l x y. (x, y)) j₁ j₂) j₃
+
+-- a round of a partition with as many states
+pub round-of :
+    (n : ℕ) (parents names numbers keys more groups groups′ : List ℕ) (joined : Bool) → length groups ≡ n →
+    Joining (RoundClosed (length groups) parents names numbers keys more) (length groups) groups groups′ joined →
+    Joining (RoundClosed n parents names numbers keys more) n groups groups′ joined
+round-of n parents names numbers keys more groups groups′ joined size joining =
+    subst (λ (m : ℕ). Joining (RoundClosed m parents names numbers keys more) m groups groups′ joined) size joining
 
 -- rounds so far: joined says whether another is due
 pub record RoundsTo (Closed : List ℕ → Type 0) (n : ℕ) (groups₀ groups : List ℕ) (joined : Bool) : Type 0 where
@@ -172,3 +186,35 @@ module _ (Closed : List ℕ → Type 0) (n : ℕ) (groups₀ : List ℕ) where
       JoinedUntil Closed n groups₀ groups
   rounds-all groups joined done so-far =
       record { labelled = so-far .labelled; coarser = so-far .coarser; sound = so-far .sound; closed = so-far .closed done }
+
+-- the rounds are ready after the parts before them
+pub finish-ready :
+    (n : ℕ) (parents names accepts classes keys more numbers ends : List ℕ) →
+    FinishReady n parents names accepts classes keys more → numbers ≡ numbersFrom n 0 → Labelled n ends →
+    RoundReady (length ends) parents names numbers keys more ends
+finish-ready n parents names accepts classes keys more numbers ends ready own labelled =
+    subst (λ (m : ℕ). RoundReady m parents names numbers keys more ends) (sym (labelled .size))
+    (record {
+      few = ready .arrays .few-states;
+      parents-size = ready .arrays .parents-size;
+      names-size = ready .arrays .names-size;
+      keys-size = ready .keys-size;
+      more-size = ready .more-size;
+      parents-below = parent-below n parents names (ready .arrays);
+      own = own;
+      labelled = labelled;
+    })
+
+pub finished :
+    (n : ℕ) (parents names accepts classes keys more numbers ends groups : List ℕ) → numbers ≡ numbersFrom n 0 →
+    ByEnds n accepts classes ends →
+    JoinedUntil (RoundClosed (length ends) parents names numbers keys more) (length ends) ends groups →
+    Finished n parents names accepts classes keys more groups
+finished n parents names accepts classes keys more numbers ends groups own by until =
+    record {
+      ends = ends;
+      by-ends = by;
+      until =
+          subst₂ (λ (m : ℕ) (l : List ℕ). JoinedUntil (RoundClosed m parents names l keys more) m ends groups)
+          (by .labelled .size) own until;
+    }

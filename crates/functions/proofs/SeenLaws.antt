@@ -1,18 +1,27 @@
 -- Laws of seen sets: one name more, sets filled in from the root on, the first state with a set, and classes of states with the same
 -- set. Assumes nothing.
-use mathlib.Core.Path.{_≡_, refl, sym, ap, ap₂, _∙_, subst}
+use mathlib.Core.Path.{_≡_, refl, sym, ap, _∙_, subst}
 use mathlib.Core.List.{List}
-use Prim.Native.Nat.{ℕ, zero, suc, _+_, _*_, _%_, _^_, _<_, _≤_}
+use Prim.Native.Nat.{ℕ, _+_, _*_, _%_, _^_, _<_, _≤_}
+use native.Mathlib.Nat.{mod-eq-of-lt}
 use native.Mathlib.Omega.{arith}
 use lib.Bits.{bitOr}
+use lib.Pow.{pow-lt}
 use lib.ListN.{length, getD, set, length-set}
 use lib.Seq.{getD-set-same, getD-set-other}
 use borrow.Author.Count.{below-more}
+use Rattle.model.specs.Limits.{name-limit}
 use Rattle.indexed.specs.Trees.{Arrays}
-use Rattle.indexed.specs.Partitions.{Labelled}
 use Rattle.indexed.specs.Passes.{SeenSets, BySeen}
 use Rattle.functions.specs.Parts.{SeenAt, FirstSeen}
 use Rattle.functions.proofs.FillLaws.{Filled}
+
+-- one bit more: the shift loses nothing
+pub with-bit : (seen name : ℕ) → name < name-limit → bitOr seen ((1 * 2 ^ name) % 2 ^ 64) ≡ bitOr seen (2 ^ name)
+with-bit seen name small =
+    let single : 1 * 2 ^ name ≡ 2 ^ name = omega arith in
+    let fits : 2 ^ name < 2 ^ 64 = pow-lt small in
+    ap (bitOr seen) (ap (λ (x : ℕ). x % 2 ^ 64) single ∙ mod-eq-of-lt fits)
 
 pub seen-root : (parents names seen : List ℕ) (v : ℕ) → v ≡ 0 → SeenAt parents names seen v 0
 seen-root parents names seen v e = record { root = λ q. refl; arc = λ h. absurd (omega arith) }

@@ -6,7 +6,9 @@ use Prim.Native.Nat.{ℕ, _<_, _≤_}
 use lib.ListN.{length, getD}
 use Rattle.model.specs.Limits.{state-limit}
 use Rattle.model.specs.Lists.{numbersFrom}
+use Rattle.indexed.specs.Trees.{Arrays}
 use Rattle.indexed.specs.Partitions.{Refines, Labelled, KeyClosed, sum}
+use Rattle.indexed.specs.Passes.{ByEnds}
 
 -- arrays of n states, at most 512, with the states' own numbers and two sets of keys
 pub record RoundReady (n : ℕ) (parents names numbers keys more groups : List ℕ) : Type 0 where
@@ -39,3 +41,17 @@ pub record JoinedUntil (Closed : List ℕ → Type 0) (n : ℕ) (groups groups�
   pub coarser : Refines n groups groups′
   pub sound : (others : List ℕ) → Closed others → Refines n groups others → Refines n groups′ others
   pub closed : Closed groups′
+
+-- the tree's arrays, classes with labels, and two sets of keys
+pub record FinishReady (n : ℕ) (parents names accepts classes keys more : List ℕ) : Type 0 where
+  pub arrays : Arrays n parents names
+  pub accepts-size : length accepts ≡ n
+  pub classes-labelled : Labelled n classes
+  pub keys-size : length keys ≡ n
+  pub more-size : length more ≡ n
+
+-- from the partition by ends on joined until closed, with the states' own numbers
+pub record Finished (n : ℕ) (parents names accepts classes keys more groups : List ℕ) : Type 0 where
+  pub ends : List ℕ
+  pub by-ends : ByEnds n accepts classes ends
+  pub until : JoinedUntil (RoundClosed n parents names (numbersFrom n 0) keys more) n ends groups

@@ -4,3 +4,157 @@ pub mod ends;
 pub mod keys;
 pub mod rounds;
 pub mod seen;
+
+ghost use mathlib.Core.Path.{_≡_};
+ghost use Prim.Native.Nat.{ℕ, _<_, _≤_};
+ghost use lib.ListN.{length, getD};
+ghost use Rattle.model.specs.Limits.{name-limit, setting-limit};
+ghost use Rattle.indexed.specs.Trees.{Arrays};
+ghost use Rattle.cells.specs.Cells.{work-bytes};
+ghost use Rattle.functions.specs.Results.{JoinReady, JoinedByLast, JoinedBySeen};
+
+// Joins by the last j names, with room lent for the classes, the keys and the states' own numbers; `none` has no keys.
+fn join_last_in(
+    j: usize,
+    parents: &[u16],
+    names: &[u8],
+    accepts: &[u8],
+    none: &[u8],
+    classes: &mut [u16],
+    keys: &mut [u8],
+    numbers: &mut [u16],
+    groups: &mut [u16],
+    work: &mut [u8],
+)
+    requires few { ⌜ j ≤ setting-limit ⌝ }
+    requires ready { ⌜ JoinReady (length (now groups)) (now parents) (now names) (now accepts) (now work) ⌝ }
+    requires none_size { ⌜ length (now none) ≡ length (now groups) ⌝ }
+    requires no_keys { ⌜ ((v : ℕ) → v < length (now groups) → getD (now none) v 0 ≡ name-limit) ⌝ }
+    requires classes_size { ⌜ length (now classes) ≡ length (now groups) ⌝ }
+    requires keys_size { ⌜ length (now keys) ≡ length (now groups) ⌝ }
+    requires numbers_size { ⌜ length (now numbers) ≡ length (now groups) ⌝ }
+    ensures { λ _.
+        ⌜ JoinedByLast (length (now (groups .entry))) j (now (parents .entry)) (now (names .entry)) (now (accepts .entry))
+        (now (groups .exit)) ⌝ }
+{
+    suffixes::by_suffix(j, parents, names, classes, work);
+    keys::names_above(j, parents, names, keys);
+    rounds::finish(
+        parents,
+        names,
+        accepts,
+        classes,
+        keys,
+        none,
+        numbers,
+        groups,
+        work,
+    );
+}
+
+// Joins by the last j names.
+pub fn join_by_last(
+    j: usize,
+    parents: &[u16],
+    names: &[u8],
+    accepts: &[u8],
+    groups: &mut [u16],
+    work: &mut [u8],
+)
+    requires few { ⌜ j ≤ setting-limit ⌝ }
+    requires ready { ⌜ JoinReady (length (now groups)) (now parents) (now names) (now accepts) (now work) ⌝ }
+    ensures { λ _.
+        ⌜ JoinedByLast (length (now (groups .entry))) j (now (parents .entry)) (now (names .entry)) (now (accepts .entry))
+        (now (groups .exit)) ⌝ }
+{
+    let n = groups.len();
+    let none = [64u8; 512];
+    let mut classes = [0u16; 512];
+    let mut keys = [0u8; 512];
+    let mut numbers = [0u16; 512];
+    join_last_in(
+        j,
+        parents,
+        names,
+        accepts,
+        &none[..n],
+        &mut classes[..n],
+        &mut keys[..n],
+        &mut numbers[..n],
+        groups,
+        work,
+    );
+}
+
+// Joins by the set of names seen, with room lent for the sets, the classes, two sets of keys and the states' own numbers.
+fn join_seen_in(
+    parents: &[u16],
+    names: &[u8],
+    accepts: &[u8],
+    sets: &mut [u64],
+    classes: &mut [u16],
+    enlarging: &mut [u8],
+    others: &mut [u8],
+    numbers: &mut [u16],
+    groups: &mut [u16],
+    work: &mut [u8],
+)
+    requires ready { ⌜ JoinReady (length (now groups)) (now parents) (now names) (now accepts) (now work) ⌝ }
+    requires sets_size { ⌜ length (now sets) ≡ length (now groups) ⌝ }
+    requires classes_size { ⌜ length (now classes) ≡ length (now groups) ⌝ }
+    requires enlarging_size { ⌜ length (now enlarging) ≡ length (now groups) ⌝ }
+    requires others_size { ⌜ length (now others) ≡ length (now groups) ⌝ }
+    requires numbers_size { ⌜ length (now numbers) ≡ length (now groups) ⌝ }
+    ensures { λ _.
+        ⌜ JoinedBySeen (length (now (groups .entry))) (now (parents .entry)) (now (names .entry)) (now (accepts .entry))
+        (now (groups .exit)) ⌝ }
+{
+    seen::seen_sets(parents, names, sets);
+    seen::classes_by_seen(sets, classes);
+    keys::keys_where(true, parents, names, sets, enlarging);
+    keys::keys_where(false, parents, names, sets, others);
+    rounds::finish(
+        parents,
+        names,
+        accepts,
+        classes,
+        enlarging,
+        others,
+        numbers,
+        groups,
+        work,
+    );
+}
+
+// Joins by the set of names seen.
+pub fn join_by_seen(
+    parents: &[u16],
+    names: &[u8],
+    accepts: &[u8],
+    groups: &mut [u16],
+    work: &mut [u8],
+)
+    requires ready { ⌜ JoinReady (length (now groups)) (now parents) (now names) (now accepts) (now work) ⌝ }
+    ensures { λ _.
+        ⌜ JoinedBySeen (length (now (groups .entry))) (now (parents .entry)) (now (names .entry)) (now (accepts .entry))
+        (now (groups .exit)) ⌝ }
+{
+    let n = groups.len();
+    let mut sets = [0u64; 512];
+    let mut classes = [0u16; 512];
+    let mut enlarging = [0u8; 512];
+    let mut others = [0u8; 512];
+    let mut numbers = [0u16; 512];
+    join_seen_in(
+        parents,
+        names,
+        accepts,
+        &mut sets[..n],
+        &mut classes[..n],
+        &mut enlarging[..n],
+        &mut others[..n],
+        &mut numbers[..n],
+        groups,
+        work,
+    );
+}

@@ -1,9 +1,11 @@
 // Rounds of passes, forks first and then against the arcs, until none joins.
+use crate::ends;
+use crate::keys;
 ghost use mathlib.Core.Path.{_≡_};
 ghost use Prim.Native.Nat.{_≤_};
 ghost use lib.ListN.{length};
 ghost use Rattle.cells.specs.Cells.{work-bytes};
-ghost use Rattle.functions.specs.Rounds.{RoundReady, RoundClosed, Joining, JoinedUntil};
+ghost use Rattle.functions.specs.Rounds.{RoundReady, RoundClosed, Joining, JoinedUntil, FinishReady, Finished};
 
 // One round: forks from the first state to the last, then two sets of keys against the arcs from the last state to the first.
 // True where any joined.
@@ -31,7 +33,7 @@ fn round(
 }
 
 // Rounds until one joins nothing: the partition is then closed under all three.
-pub fn close(
+fn close(
     parents: &[u16],
     names: &[u8],
     numbers: &[u16],
@@ -52,4 +54,28 @@ pub fn close(
     while joined {
         joined = round(parents, names, numbers, keys, more, groups, work);
     }
+}
+
+// The partition by ends, and then rounds until one joins nothing. The states' own numbers are written into the room lent.
+pub fn finish(
+    parents: &[u16],
+    names: &[u8],
+    accepts: &[u8],
+    classes: &[u16],
+    keys: &[u8],
+    more: &[u8],
+    numbers: &mut [u16],
+    groups: &mut [u16],
+    work: &mut [u8],
+)
+    requires ready { ⌜ FinishReady (length (now groups)) (now parents) (now names) (now accepts) (now classes) (now keys) (now more) ⌝ }
+    requires numbers_size { ⌜ length (now numbers) ≡ length (now groups) ⌝ }
+    requires room { ⌜ work-bytes ≤ length (now work) ⌝ }
+    ensures { λ _.
+        ⌜ Finished (length (now (groups .entry))) (now (parents .entry)) (now (names .entry)) (now (accepts .entry))
+        (now (classes .entry)) (now (keys .entry)) (now (more .entry)) (now (groups .exit)) ⌝ }
+{
+    keys::own(numbers);
+    ends::by_ends(accepts, classes, groups);
+    close(parents, names, numbers, keys, more, groups, work);
 }

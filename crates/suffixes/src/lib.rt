@@ -22,7 +22,7 @@ const STATE_LIMIT: usize = 512;
 const NONE: u16 = 512;
 
 // The class of the state before the last name of v.
-fn class_above(old: &[u16], parents: &[u16], v: usize) -> usize
+pub fn class_above(old: &[u16], parents: &[u16], v: usize) -> usize
     requires { ⌜ v < length (now parents) ⌝ }
     requires { ⌜ getD (now parents) v 0 < length (now old) ⌝ }
     ensures { λ r. ⌜ r ≡ above (now (old .entry)) (now (parents .entry)) v ⌝ }

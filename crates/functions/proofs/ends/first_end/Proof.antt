@@ -1,62 +1,71 @@
+-- `first_end` meets its contract. The invariant of its loop: no accepting state of the class stands before u. Assumes nothing.
+use Prim.Native.Nat.{_-_, _≤_}
+use native.Mathlib.Omega.{arith}
+use borrow.Author.Needs.{needs}
+use lib.ListN.{length}
+use Rattle.functions.proofs.EndLaws.{NoEnd, no-end-start, no-end-more, end-found, end-itself}
 use Rattle.functions.proofs.ends.first_end.Statement.{statement}
 use Rattle.functions.proofs.ends.first_end.Tie as tie
-use Rattle.functions.proofs.ends.first_end.Reads as reads
-use Rattle.functions.proofs.ends.first_end.Lts as lts
-use Rattle.cells.proofs.numbers.wide16.Reads as wide16-reads
 
 abbrev Inv-loop : tie.InvT-loop
-Inv-loop accepts classes v class u₀ u = ?
+Inv-loop accepts classes v class u₀ u = (u ≤ v) × NoEnd accepts classes v u
 
 abbrev μ-loop : tie.MeasureT-loop
-μ-loop accepts classes v class u₀ u = ?
+μ-loop accepts classes v class u₀ u = v - u
 
--- src/ends.rt:19:17
 mul-class : tie.Need-mul-class Inv-loop μ-loop
-mul-class c = ?
+mul-class c = omega arith
 
--- src/ends.rt:19:17
 shared-slice-read-class : tie.Need-shared-slice-read-class Inv-loop μ-loop
-shared-slice-read-class c = ?
+shared-slice-read-class c = omega arith
 
--- src/ends.rt:20:9
 wide16-requires : tie.Need-wide16-requires Inv-loop μ-loop
-wide16-requires c κs = ?
+wide16-requires c κs = search needs
 
--- src/ends.rt:21:5
 loop-holds : tie.Need-loop-holds Inv-loop μ-loop
-loop-holds c = ?
+loop-holds c =
+    let at = c .before .before .before .before in (
+      omega (arith, c .wide16 .ensures, at .pre .1 .0 .low (at .args .v) (at .pre .1 .1 .0)),
+      no-end-start (length (at .args .classes .now)) (at .args .accepts .now) (at .args .classes .now) (at .args .v)
+          (c .wide16 .result) (at .pre .1 .0) (at .pre .1 .1 .0) (c .wide16 .ensures),
+    )
 
--- src/ends.rt:22:13
 shared-slice-read-if1 : tie.Need-shared-slice-read-if1 Inv-loop μ-loop
-shared-slice-read-if1 c = ?
+shared-slice-read-if1 c = omega arith
 
--- src/ends.rt:22:33
 mul-if1 : tie.Need-mul-if1 Inv-loop μ-loop
-mul-if1 c = ?
+mul-if1 c = omega arith
 
--- src/ends.rt:22:33
 shared-slice-read-if1-2 : tie.Need-shared-slice-read-if1-2 Inv-loop μ-loop
-shared-slice-read-if1-2 c = ?
+shared-slice-read-if1-2 c = omega arith
 
--- src/ends.rt:23:13
 returns : tie.Need-returns Inv-loop μ-loop
-returns c = ?
+returns c =
+    let here = c .before .before .before .before in
+    let at = here .before .before .before .before .before in
+    end-found (at .args .accepts .now) (at .args .classes .now) (at .args .v) (here .loop .u) (omega arith) (c .if1 .taken)
+    (here .loop .inv .1)
 
--- src/ends.rt:25:9
 add-u : tie.Need-add-u Inv-loop μ-loop
-add-u c = ?
+add-u c = omega arith
 
--- src/ends.rt:21:5
 loop-less : tie.Need-loop-less Inv-loop μ-loop
-loop-less c = ?
+loop-less c = omega arith
 
--- src/ends.rt:21:5
 loop-again : tie.Need-loop-again Inv-loop μ-loop
-loop-again c = ?
+loop-again c =
+    let here = c .before .before .before .before in
+    let at = here .before .before .before .before .before in (
+      omega arith,
+      no-end-more (at .args .accepts .now) (at .args .classes .now) (at .args .v) (here .loop .u) (here .loop .inv .1) (c .if1 .left),
+    )
 
--- src/ends.rt:12:1
 returns-2 : tie.Need-returns-2 Inv-loop μ-loop
-returns-2 c = ?
+returns-2 c =
+    let here = c .before in
+    let at = here .before .before .before .before .before in
+    end-itself (at .args .accepts .now) (at .args .classes .now) (at .args .v) (here .loop .u) (omega arith) (at .pre .1 .1 .1)
+    (here .loop .inv .1)
 
 pub first-end-spec : {M : Type 1} → statement M
 first-end-spec =

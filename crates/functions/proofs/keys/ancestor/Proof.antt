@@ -1,46 +1,56 @@
+-- `ancestor` meets its contract. The invariant of its loop: what is left to climb leads to the same state. Assumes nothing.
+use mathlib.Core.Path.{_≡_, refl, _∙_}
+use Prim.Native.Nat.{_-_, _<_}
+use native.Mathlib.Omega.{arith}
+use borrow.Author.Needs.{needs}
+use lib.ListN.{length}
+use Rattle.indexed.specs.Trees.{up}
+use Rattle.functions.proofs.FillLaws.{up-step, up-end, parent-inside}
 use Rattle.functions.proofs.keys.ancestor.Statement.{statement}
 use Rattle.functions.proofs.keys.ancestor.Tie as tie
-use Rattle.functions.proofs.keys.ancestor.Reads as reads
-use Rattle.functions.proofs.keys.ancestor.Lts as lts
-use Rattle.cells.proofs.numbers.wide16.Reads as wide16-reads
 
 abbrev Inv-loop : tie.InvT-loop
-Inv-loop j parents names v at₀ left₀ at left = ?
+Inv-loop j parents names v at₀ left₀ at left = (at < length parents) × (up parents left at ≡ up parents j v)
 
 abbrev μ-loop : tie.MeasureT-loop
-μ-loop j parents names v at₀ left₀ at left = ?
+μ-loop j parents names v at₀ left₀ at left = left
 
--- src/keys.rt:36:5
 loop-holds : tie.Need-loop-holds Inv-loop μ-loop
-loop-holds c = ?
+loop-holds c = (omega arith, refl)
 
--- src/keys.rt:37:30
 mul-wide16 : tie.Need-mul-wide16 Inv-loop μ-loop
-mul-wide16 c = ?
+mul-wide16 c = omega arith
 
--- src/keys.rt:37:30
 shared-slice-read-wide16 : tie.Need-shared-slice-read-wide16 Inv-loop μ-loop
-shared-slice-read-wide16 c = ?
+shared-slice-read-wide16 c = omega arith
 
--- src/keys.rt:37:9
 wide16-requires : tie.Need-wide16-requires Inv-loop μ-loop
-wide16-requires c κs = ?
+wide16-requires c κs = search needs
 
--- src/keys.rt:38:9
 sub-left : tie.Need-sub-left Inv-loop μ-loop
-sub-left c = ?
+sub-left c = omega arith
 
--- src/keys.rt:36:5
 loop-less : tie.Need-loop-less Inv-loop μ-loop
-loop-less c = ?
+loop-less c = omega arith
 
--- src/keys.rt:36:5
 loop-again : tie.Need-loop-again Inv-loop μ-loop
-loop-again c = ?
+loop-again c =
+    let here = c .before .before .before in
+    let at = here .before .before .before in (
+      parent-inside (length (at .args .parents .now)) (at .args .parents .now) (at .args .names .now) (here .loop .at)
+          (c .wide16 .result) (at .pre .0) (here .loop .inv .0) (c .wide16 .ensures),
+      up-step (at .args .parents .now) (here .loop .left) (here .loop .at) (c .wide16 .result) (omega arith) (c .wide16 .ensures)
+          ∙ here .loop .inv .1,
+    )
 
--- src/keys.rt:29:1
 returns : tie.Need-returns Inv-loop μ-loop
-returns c = ?
+returns c =
+    let here = c .before in
+    let at = here .before .before .before in
+    record {
+      value = up-end (at .args .parents .now) (here .loop .left) (here .loop .at) (omega arith) ∙ here .loop .inv .1;
+      inside = here .loop .inv .0;
+    }
 
 pub ancestor-spec : {M : Type 1} → statement M
 ancestor-spec =

@@ -1,50 +1,53 @@
+-- `own` meets its contract. The invariant of its loop: the first v elements are their own places. Assumes nothing.
+use Prim.Native.Nat.{_-_, _≤_}
+use native.Mathlib.Omega.{arith}
+use lib.ListN.{length}
+use Rattle.functions.proofs.FillLaws.{Filled, IsOwn, filled-none, filled-more, own-all}
 use Rattle.functions.proofs.keys.own.Statement.{statement}
 use Rattle.functions.proofs.keys.own.Tie as tie
-use Rattle.functions.proofs.keys.own.Reads as reads
-use Rattle.functions.proofs.keys.own.Lts as lts
-use Rattle.cells.proofs.numbers.narrow16.Reads as narrow16-reads
 
 abbrev Inv-loop : tie.InvT-loop
-Inv-loop numbers₀ v₀ numbers v = ?
+Inv-loop numbers₀ v₀ numbers v = (v ≤ length numbers₀) × Filled IsOwn v numbers₀ numbers
 
 abbrev μ-loop : tie.MeasureT-loop
-μ-loop numbers₀ v₀ numbers v = ?
+μ-loop numbers₀ v₀ numbers v = length numbers₀ - v
 
--- src/keys.rt:22:5
 loop-holds : tie.Need-loop-holds Inv-loop μ-loop
-loop-holds c = ?
+loop-holds c = (omega arith, filled-none _ _)
 
--- src/keys.rt:23:22
 narrow16-requires : tie.Need-narrow16-requires Inv-loop μ-loop
-narrow16-requires c κs = ?
+narrow16-requires c κs = omega arith
 
--- src/keys.rt:23:9
 mul-numbers : tie.Need-mul-numbers Inv-loop μ-loop
-mul-numbers c = ?
+mul-numbers c = omega arith
 
--- src/keys.rt:23:9
 slice-write-numbers : tie.Need-slice-write-numbers Inv-loop μ-loop
-slice-write-numbers c = ?
+slice-write-numbers c = omega arith
 
--- src/keys.rt:24:9
 add-v : tie.Need-add-v Inv-loop μ-loop
-add-v c = ?
+add-v c = omega arith
 
--- src/keys.rt:22:5
 loop-less : tie.Need-loop-less Inv-loop μ-loop
-loop-less c = ?
+loop-less c = omega arith
 
--- src/keys.rt:22:5
 loop-again : tie.Need-loop-again Inv-loop μ-loop
-loop-again c = ?
+loop-again c =
+    let here = c .before .before in
+    let at = here .before .before in (
+      omega arith,
+      filled-more IsOwn (here .loop .v) (c .narrow16 .result) (at .args .numbers .now) (here .loop .numbers) (omega arith)
+          (c .narrow16 .ensures) (here .loop .inv .1),
+    )
 
--- src/keys.rt:17:1
 same-length : tie.Need-same-length Inv-loop μ-loop
-same-length c = ?
+same-length c = c .before .loop .inv .1 .size
 
--- src/keys.rt:17:1
 returns : tie.Need-returns Inv-loop μ-loop
-returns c = ?
+returns c =
+    let here = c .before in
+    let at = here .before .before in
+    own-all (here .loop .v) (at .args .numbers .now) (here .loop .numbers) (omega (arith, here .loop .inv .1 .size))
+    (here .loop .inv .1)
 
 pub own-spec : {M : Type 1} → statement M
 own-spec =

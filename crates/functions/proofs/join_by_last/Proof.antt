@@ -1,0 +1,74 @@
+-- `join_by_last` meets its contract: local arrays cut to the number of states. Assumes nothing.
+use mathlib.Core.Path.{_≡_, sym}
+use Prim.Native.Nat.{ℕ}
+use lib.ListN.{length, take, replicate}
+use Rattle.functions.proofs.FillLaws.{cut, cut-at}
+use borrow.Author.Needs.{needs}
+use Rattle.functions.proofs.join_by_last.Statement.{statement}
+use Rattle.functions.proofs.join_by_last.Tie as tie
+
+-- an array of 512 elements cut to the number of states
+cut-here :
+    (at : tie.Start) (x : ℕ) →
+    length (at .args .groups .now) ≡ length (take (length (at .args .groups .now)) (replicate 512 x))
+cut-here at x = cut (length (at .args .groups .now)) x (at .pre .1 .arrays .few-states)
+
+array-share-prefix-none : tie.Need-array-share-prefix-none
+array-share-prefix-none c = search needs
+
+slice-aggregate-join-last-in : tie.Need-slice-aggregate-join-last-in
+slice-aggregate-join-last-in c = cut-here (c .before .before .before .before .before .before) 64
+
+array-borrow-prefix-classes : tie.Need-array-borrow-prefix-classes
+array-borrow-prefix-classes c = search needs
+
+slice-aggregate-join-last-in-2 : tie.Need-slice-aggregate-join-last-in-2
+slice-aggregate-join-last-in-2 c = cut-here (c .before .before .before .before .before .before .before) 0
+
+array-borrow-prefix-keys : tie.Need-array-borrow-prefix-keys
+array-borrow-prefix-keys c = search needs
+
+slice-aggregate-join-last-in-3 : tie.Need-slice-aggregate-join-last-in-3
+slice-aggregate-join-last-in-3 c = cut-here (c .before .before .before .before .before .before .before .before) 0
+
+array-borrow-prefix-numbers : tie.Need-array-borrow-prefix-numbers
+array-borrow-prefix-numbers c = search needs
+
+slice-aggregate-join-last-in-4 : tie.Need-slice-aggregate-join-last-in-4
+slice-aggregate-join-last-in-4 c = cut-here (c .before .before .before .before .before .before .before .before .before) 0
+
+join-last-in-requires : tie.Need-join-last-in-requires
+join-last-in-requires c κs =
+    let at = c .before .before .before .before .before .before .before .before .before .before .before in
+    let n = length (at .args .groups .now) in
+    let few = at .pre .1 .arrays .few-states in
+    let zeros = sym (cut n 0 few) in (
+      at .pre .0,
+      (at .pre .1, (sym (cut n 64 few), ((λ v h. cut-at n 64 v few h), (zeros, (zeros, zeros))))),
+    )
+
+same-length : tie.Need-same-length
+same-length c = search needs
+
+same-length-2 : tie.Need-same-length-2
+same-length-2 c = search needs
+
+returns : tie.Need-returns
+returns c = search needs
+
+pub join-by-last-spec : {M : Type 1} → statement M
+join-by-last-spec =
+    tie.close
+    (tie.spec
+    array-share-prefix-none
+    slice-aggregate-join-last-in
+    array-borrow-prefix-classes
+    slice-aggregate-join-last-in-2
+    array-borrow-prefix-keys
+    slice-aggregate-join-last-in-3
+    array-borrow-prefix-numbers
+    slice-aggregate-join-last-in-4
+    join-last-in-requires
+    same-length
+    same-length-2
+    returns)
