@@ -106,11 +106,12 @@ fn write_joined(
     }
     let at = write_front(book, place, out);
     let end = write_states(work, &next, &accepting, &met, &numbers, states, out, at);
+    let joins = groups.len() - states;
     Inferred {
         number: 0,
         length: end,
         states: states,
-        joins: groups.len() - states,
+        joins: joins,
     }
 }
 

@@ -125,8 +125,8 @@ write-states-requires c κs =
     let size = ready .sized in
     (rows start, start .args .groups .now, ready .ready, omega (arith, room, kept, at, size))
 
-sub-t45 : tie.Need-sub-t45
-sub-t45 c =
+sub-joins : tie.Need-sub-joins
+sub-joins c =
     let start = c .before .before .before .before .before .before .before .before .before .before .before .before .before .before .before .before .before .before .before .before .before .before .before .before .before .before .before .before .before .before .before .before .before .before .before in
     omega (
       arith,
@@ -174,7 +174,7 @@ write-joined-spec =
     slice-aggregate-write-states-3
     slice-aggregate-write-states-4
     write-states-requires
-    sub-t45
+    sub-joins
     same-length-2
     same-length-3
     returns-2)
