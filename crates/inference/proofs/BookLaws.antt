@@ -8,9 +8,9 @@ use mathlib.Core.List.{List·Memᴰ·not-nil, List·Memᴰ·append-cases, List·
 use Prim.Native.Nat.{ℕ, zero, suc, _+_, _*_, _-_, _/_, _%_, _≤_, _<_}
 use native.Mathlib.Omega.{arith}
 use lib.Dec.{leb}
-use lib.ListN.{length, getD, take, drop, length-append}
+use lib.ListN.{length, getD, take, length-append}
 use lib.Seq.{take-at}
-use Rattle.model.specs.Limits.{name-limit, row-limit}
+use Rattle.model.specs.Limits.{row-limit}
 use Rattle.model.specs.Fields.{Class, File, unread, book, readWith, withField, classOk, settingsOk, allBelow}
 use Rattle.model.specs.Tables.{fieldBytes, nameFields}
 use Rattle.model.proofs.FieldLaws.{RowFits, ClassOk, Fitting, a-name, a-class, a-row, a-state, fitting, class-parts}
@@ -19,12 +19,12 @@ use Rattle.model.proofs.StateBodies.{Bytes}
 use Rattle.model.proofs.Rewriting.{bytes-of}
 use Rattle.model.proofs.Books.{tells-allBelow}
 use Rattle.model.proofs.Places.{nth-in}
-use Rattle.fields.specs.Offsets.{lengthAt, bodyAt, nextAt, offsetAt, fieldsAt}
-use Rattle.fields.specs.Places.{fileOf, Sound}
+use Rattle.fields.specs.Offsets.{bodyAt, nextAt, offsetAt, fieldsAt}
+use Rattle.fields.specs.Places.{fileOf}
 use Rattle.fields.specs.declared.Place.{Place}
 use Rattle.fields.proofs.OffsetLaws.{length-body, offset-above}
 use Rattle.fields.proofs.Parts.{accepted-number, accepted-file-is, length-names}
-use Rattle.prefix_tree.specs.Growth.{RowBelow, RowsBelow}
+use Rattle.prefix_tree.specs.Growth.{RowsBelow}
 use Rattle.inference.specs.Books.{BookAt, rowsAt, namesEnd}
 
 -- ---- names' fields one after the other

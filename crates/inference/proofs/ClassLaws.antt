@@ -1,15 +1,15 @@
 -- A partition joined by the rule of a class, whichever its kind, has the automaton of the full joining. In order: what the settings of an
 -- allowed class are, and the three kinds. Assumes nothing.
-use mathlib.Core.Path.{_≡_, refl, sym, ap, _∙_, subst}
-use mathlib.Core.Bool.{Bool, true, false, _&&_, _||_, false≢true, and-eq-true-iff}
+use mathlib.Core.Path.{_≡_, refl, sym, _∙_, subst}
+use mathlib.Core.Bool.{Bool, true, false, _&&_, _||_, and-eq-true-iff}
 use mathlib.Core.List.{List}
 use Prim.Native.Nat.{ℕ, _<_, _≤_}
 use native.Mathlib.Omega.{arith}
-use borrow.Author.Tests.{leb-true, eqb-true, eq-eqb, ne-eqb}
+use borrow.Author.Tests.{leb-true, eq-eqb, ne-eqb}
 use lib.Dec.{eqb, leb}
 use lib.ListN.{length}
 use Rattle.model.specs.Limits.{setting-limit}
-use Rattle.model.specs.Fields.{Class, class-of, contextOk, settingsOk}
+use Rattle.model.specs.Fields.{class-of, contextOk, settingsOk}
 use Rattle.model.specs.Classes.{Word}
 use Rattle.model.specs.Joinings.{treeOf}
 use Rattle.indexed.specs.Passes.{ContextJoined, FJoined}

@@ -1,6 +1,6 @@
 -- What is given back: refusal 10, refusal 13, and the table written, from the bytes before its states and its states' fields. Assumes
 -- nothing.
-use mathlib.Core.Path.{_≡_, refl, sym, ap, ap₂, _∙_, subst}
+use mathlib.Core.Path.{_≡_, sym, ap, _∙_}
 use mathlib.Core.Bool.{Bool, cond}
 use mathlib.Core.List.{List, _++_, append-assoc}
 use Prim.Native.Nat.{ℕ, suc, _+_, _-_, _<_, _≤_}
@@ -15,8 +15,6 @@ use Rattle.model.specs.Joinings.{treeOf}
 use Rattle.model.specs.Quotients.{bookStates, bookTable}
 use Rattle.model.specs.Calls.{outputFault, joinsOf}
 use Rattle.model.proofs.Tests.{same-tests, tells-leb}
-use Rattle.writing.specs.Writing.{Put}
-use Rattle.writing.proofs.WritingLaws.{put-append, written-from-zero}
 use Rattle.inference.specs.Books.{frontBytes}
 use Rattle.inference.specs.Results.{inferFault, unless, over, refusal, Gives}
 use Rattle.inference.specs.declared.Inferred.{Inferred}

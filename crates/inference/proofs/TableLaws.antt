@@ -10,7 +10,7 @@ use lib.Dec.{leb}
 use lib.ListN.{length, getD, take, length-append}
 use lib.Seq.{take-at}
 use Rattle.model.specs.Limits.{work-bytes}
-use Rattle.model.specs.Fields.{Class, File}
+use Rattle.model.specs.Fields.{Class}
 use Rattle.model.specs.Tables.{State, stateFields}
 use Rattle.model.specs.Classes.{Word}
 use Rattle.model.specs.Joinings.{treeOf}

@@ -1,7 +1,7 @@
 -- What is given back for an accepted book (document 01, "What is given back"): 10, then 13, and where neither is the table's bytes in the
 -- output, their number, the states and the joins. Assumes nothing.
 use mathlib.Core.Path.{_≡_}
-use mathlib.Core.Bool.{Bool, cond}
+use mathlib.Core.Bool.{cond}
 use mathlib.Core.List.{List, _++_}
 use Prim.Native.Nat.{ℕ, _+_}
 use lib.Dec.{eqb, ltb}

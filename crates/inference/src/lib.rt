@@ -10,7 +10,7 @@ use quotient::states::write_states;
 use writing::copy_in;
 use writing::put_class;
 ghost use mathlib.Core.Path.{_≡_};
-ghost use Prim.Native.Nat.{_+_, _<_, _≤_};
+ghost use Prim.Native.Nat.{_+_, _≤_};
 ghost use lib.Dec.{leb};
 ghost use lib.ListN.{length};
 ghost use Rattle.model.specs.Limits.{input-limit, work-bytes};

@@ -19,31 +19,38 @@ use Rattle.inference.proofs.ResultLaws.{gives-too-large}
 use Rattle.inference.proofs.infer.Statement.{statement}
 use Rattle.inference.proofs.infer.Tie as tie
 
+-- places on the way: the entry, and the tree as it is built
+abbrev grown : tie.After-tree → tie.After-add-rows
+grown c = c .before .before .before .before .before .before .before
+
+abbrev start : tie.After-add-rows → tie.Start
+start c = c .before .before .before .before .before .before .before .before
+
 -- the arrays as the tree left them, and the tree
 abbrev left : tie.After-tree → Store
 left c =
-    let last = c .before .before .before .before .before .before .before .add-rows .last .1 .1 .1 in
+    let last = grown c .add-rows .last .1 .1 .1 in
     store (last .0) (last .1 .0) (last .1 .1 .0) (last .1 .1 .1 .0)
 
 abbrev rows : tie.Start → List Word
 rows c = rowsAt (c .args .book .now) (c .args .place)
 
-built : (c : tie.After-tree) → TreeBuilt (rows (c .before .before .before .before .before .before .before .before .before .before .before .before .before .before .before)) (left c) (c .tree .given .0 .0)
-built c = subst (λ (r : Tree). BuiltOf (rows (c .before .before .before .before .before .before .before .before .before .before .before .before .before .before .before)) (left c) r) (c .tree .given .1) (c .before .before .before .before .before .before .before .add-rows .ensures .built)
+built : (c : tie.After-tree) → TreeBuilt (rows (start (grown c))) (left c) (c .tree .given .0 .0)
+built c = subst (λ (r : Tree). BuiltOf (rows (start (grown c))) (left c) r) (c .tree .given .1) (grown c .add-rows .ensures .built)
 
 parents-room : (c : tie.After-tree) → c .tree .given .0 .0 ≤ length (left c .parents)
 parents-room c =
-    let size : length (left c .parents) ≡ state-limit = c .before .before .before .before .before .before .before .add-rows .ensures .parents-kept in
+    let size : length (left c .parents) ≡ state-limit = grown c .add-rows .ensures .parents-kept in
     omega (arith, built c .few)
 
 names-room : (c : tie.After-tree) → c .tree .given .0 .0 ≤ length (left c .names)
 names-room c =
-    let size : length (left c .names) ≡ state-limit = c .before .before .before .before .before .before .before .add-rows .ensures .names-kept in
+    let size : length (left c .names) ≡ state-limit = grown c .add-rows .ensures .names-kept in
     omega (arith, built c .few)
 
 accepts-room : (c : tie.After-tree) → c .tree .given .0 .0 ≤ length (left c .accepts)
 accepts-room c =
-    let size : length (left c .accepts) ≡ state-limit = c .before .before .before .before .before .before .before .add-rows .ensures .accepts-kept in
+    let size : length (left c .accepts) ≡ state-limit = grown c .add-rows .ensures .accepts-kept in
     omega (arith, built c .few)
 
 slice-aggregate-add-rows : tie.Need-slice-aggregate-add-rows
@@ -96,27 +103,29 @@ slice-aggregate-join-and-write-3 c = sym (length-take-le _ _ (accepts-room (c .b
 
 join-and-write-requires : tie.Need-join-and-write-requires
 join-and-write-requires c κs =
-    let start = c .before .before .before .before .before .before .before .before .before .before .before .before .before .before .before .before .before .before .before .before .before in
-    let tree = built (c .before .before .before .before .before .before) in
+    let grown-to = c .before .before .before .before .before .before in
+    let at = start (grown grown-to) in
+    let tree = built grown-to in
     let size = tree .size in
     let few = tree .few in
-    let room : work-bytes ≤ length (left (c .before .before .before .before .before .before) .work) = omega (arith, c .before .before .before .before .before .before .before .before .before .before .before .before .before .add-rows .ensures .work-kept, start .pre .2) in
-    ((start .pre .0, start .pre .1, room), record { few = omega arith; tree = tree .arrays; accepting = tree .accepts })
+    let kept = grown grown-to .add-rows .ensures .work-kept in
+    let room : work-bytes ≤ length (left grown-to .work) = omega (arith, kept, at .pre .2) in
+    ((at .pre .0, at .pre .1, room), record { few = omega arith; tree = tree .arrays; accepting = tree .accepts })
 
 same-length : tie.Need-same-length
 same-length c = search needs
 
 returns : tie.Need-returns
 returns c =
-    let start = c .before .before .before .before .before .before .before .before .before .before .before .before .before .before .before .before in
-    let args = start .args in
-    let after = c .before .before .before .before .before .before .before .before .add-rows in
-    let last = after .last .1 .1 .1 in
-    let large : TreeTooLarge (rows start) =
-    subst (λ (r : Tree). BuiltOf (rows start) (store (last .0) (last .1 .0) (last .1 .1 .0) (last .1 .1 .1 .0)) r)
-    (c .before .enum-told .given .1) (after .ensures .built) in
-    subst (λ (r : Inferred). Gives (fileOf (args .book .now) (args .place)) (args .out .now) (args .out .now) r)
-    (sym (c .refused .ensures)) (gives-too-large (fileOf (args .book .now) (args .place)) (args .out .now) (large .over))
+    let after = c .before .before .before .before .before .before .before .before in
+    let at = start after in
+    let book = fileOf (at .args .book .now) (at .args .place) in
+    let out = at .args .out .now in
+    let last = after .add-rows .last .1 .1 .1 in
+    let large : TreeTooLarge (rows at) =
+    subst (λ (r : Tree). BuiltOf (rows at) (store (last .0) (last .1 .0) (last .1 .1 .0) (last .1 .1 .1 .0)) r)
+    (c .before .enum-told .given .1) (after .add-rows .ensures .built) in
+    subst (λ (r : Inferred). Gives book out out r) (sym (c .refused .ensures)) (gives-too-large book out (large .over))
 
 same-length-2 : tie.Need-same-length-2
 same-length-2 c = search needs

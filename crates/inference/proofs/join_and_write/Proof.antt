@@ -13,6 +13,10 @@ use Rattle.inference.proofs.TableLaws.{prefix-fits, prefix-again, tree-
 use Rattle.inference.proofs.join_and_write.Statement.{statement}
 use Rattle.inference.proofs.join_and_write.Tie as tie
 
+-- places on the way: the entry, from the joining on
+abbrev start : tie.After-join-by-class → tie.Start
+start c = c .before .before .before .before .before .before .before .before .before
+
 -- how many states the tree has, and the groups after the joining, as many
 count : (c : tie.Start) → length (c .args .parents .now) ≤ state-limit
 count c = let size = c .pre .1 .tree .parents-size in omega (arith, c .pre .1 .few)
@@ -20,8 +24,8 @@ count c = let size = c .pre .1 .tree .parents-size in omega (arith, c .pre .1 .f
 abbrev joined : tie.After-join-by-class → List ℕ
 joined c = c .join-by-class .last .1 .1 .1 .1 .1 .1 .0
 
-joined-size : (c : tie.After-join-by-class) → length (joined c) ≡ length (c .before .before .before .before .before .before .before .before .before .args .parents .now)
-joined-size c = c .join-by-class .kept .1 .1 .1 .1 .1 .1 .0 ∙ length-take-le _ _ (count (c .before .before .before .before .before .before .before .before .before))
+joined-size : (c : tie.After-join-by-class) → length (joined c) ≡ length (start c .args .parents .now)
+joined-size c = c .join-by-class .kept .1 .1 .1 .1 .1 .1 .0 ∙ length-take-le _ _ (count (start c))
 
 array-borrow-prefix-groups : tie.Need-array-borrow-prefix-groups
 array-borrow-prefix-groups c = count (c .before .before .before .before .before .before)
@@ -43,21 +47,23 @@ array-share-prefix-groups : tie.Need-array-share-prefix-groups
 array-share-prefix-groups c = prefix-fits _ (joined (c .before .before .before)) _ (joined-size (c .before .before .before))
 
 slice-aggregate-write-joined : tie.Need-slice-aggregate-write-joined
-slice-aggregate-write-joined c = sym (ap length (prefix-again _ (joined (c .before .before .before .before)) _ (joined-size (c .before .before .before .before))) ∙ joined-size (c .before .before .before .before))
+slice-aggregate-write-joined c =
+    let after = c .before .before .before .before in
+    sym (ap length (prefix-again _ (joined after) _ (joined-size after)) ∙ joined-size after)
 
 write-joined-requires : tie.Need-write-joined-requires
 write-joined-requires c κs =
-    let start = c .before .before .before .before .before .before .before .before .before .before .before .before .before .before .before in
-    let args = start .args in
-    let rows = rowsAt (args .book .now) (args .place) in
     let after = c .before .before .before .before .before .before in
-    let room : work-bytes ≤ length (after .join-by-class .last .1 .1 .1 .1 .1 .1 .1 .0) =
-    omega (arith, after .join-by-class .kept .1 .1 .1 .1 .1 .1 .1 .0, start .pre .0 .2) in (
-      (start .pre .0 .0, start .pre .0 .1, room),
+    let at = start after in
+    let args = at .args in
+    let rows = rowsAt (args .book .now) (args .place) in
+    let kept = after .join-by-class .kept .1 .1 .1 .1 .1 .1 .1 .0 in
+    let room : work-bytes ≤ length (after .join-by-class .last .1 .1 .1 .1 .1 .1 .1 .0) = omega (arith, kept, at .pre .0 .2) in (
+      (at .pre .0 .0, at .pre .0 .1, room),
       (
-        start .pre .1,
+        at .pre .1,
         subst (λ (groups : List ℕ). JoinedBy (classAt (args .place)) rows (args .parents .now) (args .names .now) groups)
-            (sym (prefix-again _ (joined after) _ (joined-size after))) (after .join-by-class .ensures rows (start .pre .1)),
+            (sym (prefix-again _ (joined after) _ (joined-size after))) (after .join-by-class .ensures rows (at .pre .1)),
       ),
     )
 

@@ -2,8 +2,6 @@
 use mathlib.Core.Path.{sym}
 use native.Mathlib.Omega.{arith}
 use borrow.Author.Needs.{needs}
-use Rattle.writing.proofs.WritingLaws.{put-length}
-use Rattle.inference.proofs.BookLaws.{names-fit}
 use Rattle.inference.proofs.FrontLaws.{names-size, front-put}
 use Rattle.inference.proofs.write_front.Statement.{statement}
 use Rattle.inference.proofs.write_front.Tie as tie

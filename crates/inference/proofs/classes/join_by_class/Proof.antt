@@ -20,7 +20,8 @@ join-by-context-requires : tie.Need-join-by-context-requires
 join-by-context-requires c κs =
     let start = c .before .before .before .before .before .before .before .before .before .before in
     let args = start .args in
-    let settings = context-settings (args .kind) (args .first) (args .second) (start .pre .0) (c .before .before .before .before .match .keys1) in
+    let is-context = c .before .before .before .before .match .keys1 in
+    let settings = context-settings (args .kind) (args .first) (args .second) (start .pre .0) is-context in
     let k = c .before .before .before .wide8 .ensures in
     let h = c .before .before .wide82 .ensures in
     let some = settings .some in
@@ -51,18 +52,23 @@ same-length-2 c = search needs
 
 returns : tie.Need-returns
 returns c =
-    let start = c .before .before .before .before .before .before .before .before .before .before .before .before .before .before .before in
-    let args = start .args in
     let done = c .before .before .before .before .join-by-context in
+    let second-wide = c .before .before .before .before .before .before .before in
+    let first-wide = second-wide .before in
+    let chosen = first-wide .before in
+    let at = chosen .before .before .before .before .before .before in
+    let args = at .args in
     let groups = done .last .1 .1 .1 .1 .0 in
     let n = length (args .groups .now) in
-    let with-k = subst (λ (k : ℕ). ContextJoined n k (c .before .before .before .before .before .before .before .wide82 .result) (args .parents .now) (args .names .now) groups)
-    (c .before .before .before .before .before .before .before .before .wide8 .ensures) (done .ensures) in
-    let joined = subst (λ (h : ℕ). ContextJoined n (args .first) h (args .parents .now) (args .names .now) groups)
-    (c .before .before .before .before .before .before .before .wide82 .ensures) with-k in
+    let with-k =
+    subst (λ (k : ℕ). ContextJoined n k (second-wide .wide82 .result) (args .parents .now) (args .names .now) groups)
+    (first-wide .wide8 .ensures) (done .ensures) in
+    let joined =
+    subst (λ (h : ℕ). ContextJoined n (args .first) h (args .parents .now) (args .names .now) groups)
+    (second-wide .wide82 .ensures) with-k in
     λ rows tree.
     by-context (args .kind) (args .first) (args .second) n rows (args .parents .now) (args .names .now) (args .accepts .now) groups
-    tree (start .pre .1 .arrays .parents-size) (c .before .before .before .before .before .before .before .before .before .match .keys1) (start .pre .0) joined
+    tree (at .pre .1 .arrays .parents-size) (chosen .match .keys1) (at .pre .0) joined
 
 same-length-3 : tie.Need-same-length-3
 same-length-3 c = search needs
@@ -72,12 +78,13 @@ same-length-4 c = search needs
 
 returns-2 : tie.Need-returns-2
 returns-2 c =
-    let start = c .before .before .before .before .before .before .before .before .before .before .before .before .before in
-    let args = start .args in
     let done = c .before .before .before .before .join-by-seen in
+    let chosen = c .before .before .before .before .before .before .before in
+    let at = chosen .before .before .before .before .before .before in
+    let args = at .args in
     λ rows tree.
     by-seen (args .kind) (args .first) (args .second) (length (args .groups .now)) rows (args .parents .now) (args .names .now)
-    (args .accepts .now) (done .last .1 .1 .1 .0) tree (start .pre .1 .arrays .parents-size) (c .before .before .before .before .before .before .before .match .keys2) (done .ensures)
+    (args .accepts .now) (done .last .1 .1 .1 .0) tree (at .pre .1 .arrays .parents-size) (chosen .match .keys2) (done .ensures)
 
 same-length-5 : tie.Need-same-length-5
 same-length-5 c = search needs
