@@ -1,0 +1,161 @@
+-- `infer` meets its contract. Assumes nothing.
+use mathlib.Core.Path.{_≡_, refl, sym, subst}
+use mathlib.Core.List.{List}
+use Prim.Native.Nat.{_≤_}
+use native.Mathlib.Omega.{arith}
+use lib.ListN.{length}
+use lib.Seq.{length-take-le}
+use borrow.Author.Needs.{needs}
+use Rattle.model.specs.Limits.{state-limit, work-bytes}
+use Rattle.model.specs.Classes.{Word}
+use Rattle.fields.specs.Places.{fileOf}
+use Rattle.prefix_tree.specs.Growth.{Store, store, TreeBuilt, TreeTooLarge, BuiltOf}
+use Rattle.prefix_tree.specs.declared.Tree.{Tree}
+use Rattle.inference.specs.Books.{rowsAt}
+use Rattle.inference.specs.Results.{Gives}
+use Rattle.inference.specs.declared.Inferred.{Inferred}
+use Rattle.inference.proofs.BookLaws.{rows-within, rows-entries}
+use Rattle.inference.proofs.ResultLaws.{gives-too-large}
+use Rattle.inference.proofs.infer.Statement.{statement}
+use Rattle.inference.proofs.infer.Tie as tie
+
+-- places on the way: the entry, and the tree as it is built
+abbrev grown : tie.After-tree → tie.After-add-rows
+grown c = c .before .before .before .before .before .before .before
+
+abbrev start : tie.After-add-rows → tie.Start
+start c = c .before .before .before .before .before .before .before .before
+
+-- the arrays as the tree left them, and the tree
+abbrev left : tie.After-tree → Store
+left c =
+    let last = grown c .add-rows .last .1 .1 .1 in
+    store (last .0) (last .1 .0) (last .1 .1 .0) (last .1 .1 .1 .0)
+
+abbrev rows : tie.Start → List Word
+rows c = rowsAt (c .args .book .now) (c .args .place)
+
+built : (c : tie.After-tree) → TreeBuilt (rows (start (grown c))) (left c) (c .tree .given .0 .0)
+built c = subst (λ (r : Tree). BuiltOf (rows (start (grown c))) (left c) r) (c .tree .given .1) (grown c .add-rows .ensures .built)
+
+parents-room : (c : tie.After-tree) → c .tree .given .0 .0 ≤ length (left c .parents)
+parents-room c =
+    let size : length (left c .parents) ≡ state-limit = grown c .add-rows .ensures .parents-kept in
+    omega (arith, built c .few)
+
+names-room : (c : tie.After-tree) → c .tree .given .0 .0 ≤ length (left c .names)
+names-room c =
+    let size : length (left c .names) ≡ state-limit = grown c .add-rows .ensures .names-kept in
+    omega (arith, built c .few)
+
+accepts-room : (c : tie.After-tree) → c .tree .given .0 .0 ≤ length (left c .accepts)
+accepts-room c =
+    let size : length (left c .accepts) ≡ state-limit = grown c .add-rows .ensures .accepts-kept in
+    omega (arith, built c .few)
+
+slice-aggregate-add-rows : tie.Need-slice-aggregate-add-rows
+slice-aggregate-add-rows c = search needs
+
+slice-aggregate-add-rows-2 : tie.Need-slice-aggregate-add-rows-2
+slice-aggregate-add-rows-2 c = search needs
+
+slice-aggregate-add-rows-3 : tie.Need-slice-aggregate-add-rows-3
+slice-aggregate-add-rows-3 c = search needs
+
+add-rows-requires : tie.Need-add-rows-requires
+add-rows-requires c κs =
+    let start = c .before .before .before .before .before .before .before in
+    let args = start .args in
+    let known = c .before .before .before .before .before .before .shared-slice-known in (
+      rows-within (args .book .now) (args .place) (start .pre .0),
+      (
+        rows-entries (args .book .now) (args .place) (start .pre .0) (λ i h. omega (arith, known .given i)),
+        record { parents-size = refl; names-size = refl; accepts-size = refl; work-size = start .pre .2 },
+      ),
+    )
+
+enum-told : tie.Need-enum-told
+enum-told c = search needs
+
+refused-requires : tie.Need-refused-requires
+refused-requires c κs = search needs
+
+enum-known-tree : tie.Need-enum-known-tree
+enum-known-tree c = search needs
+
+array-share-prefix-parents : tie.Need-array-share-prefix-parents
+array-share-prefix-parents c = parents-room (c .before)
+
+slice-aggregate-join-and-write : tie.Need-slice-aggregate-join-and-write
+slice-aggregate-join-and-write c = sym (length-take-le _ _ (parents-room (c .before .before)))
+
+array-share-prefix-names : tie.Need-array-share-prefix-names
+array-share-prefix-names c = names-room (c .before .before)
+
+slice-aggregate-join-and-write-2 : tie.Need-slice-aggregate-join-and-write-2
+slice-aggregate-join-and-write-2 c = sym (length-take-le _ _ (names-room (c .before .before .before)))
+
+array-share-prefix-accepts : tie.Need-array-share-prefix-accepts
+array-share-prefix-accepts c = accepts-room (c .before .before .before)
+
+slice-aggregate-join-and-write-3 : tie.Need-slice-aggregate-join-and-write-3
+slice-aggregate-join-and-write-3 c = sym (length-take-le _ _ (accepts-room (c .before .before .before .before)))
+
+join-and-write-requires : tie.Need-join-and-write-requires
+join-and-write-requires c κs =
+    let grown-to = c .before .before .before .before .before .before in
+    let at = start (grown grown-to) in
+    let tree = built grown-to in
+    let size = tree .size in
+    let few = tree .few in
+    let kept = grown grown-to .add-rows .ensures .work-kept in
+    let room : work-bytes ≤ length (left grown-to .work) = omega (arith, kept, at .pre .2) in
+    ((at .pre .0, at .pre .1, room), record { few = omega arith; tree = tree .arrays; accepting = tree .accepts })
+
+same-length : tie.Need-same-length
+same-length c = search needs
+
+returns : tie.Need-returns
+returns c =
+    let after = c .before .before .before .before .before .before .before .before in
+    let at = start after in
+    let book = fileOf (at .args .book .now) (at .args .place) in
+    let out = at .args .out .now in
+    let last = after .add-rows .last .1 .1 .1 in
+    let large : TreeTooLarge (rows at) =
+    subst (λ (r : Tree). BuiltOf (rows at) (store (last .0) (last .1 .0) (last .1 .1 .0) (last .1 .1 .1 .0)) r)
+    (c .before .enum-told .given .1) (after .add-rows .ensures .built) in
+    subst (λ (r : Inferred). Gives book out out r) (sym (c .refused .ensures)) (gives-too-large book out (large .over))
+
+same-length-2 : tie.Need-same-length-2
+same-length-2 c = search needs
+
+same-length-3 : tie.Need-same-length-3
+same-length-3 c = search needs
+
+returns-2 : tie.Need-returns-2
+returns-2 c = c .before .before .before .before .join-and-write .ensures
+
+pub infer-spec : {M : Type 1} → statement M
+infer-spec =
+    tie.close
+    (tie.spec
+    slice-aggregate-add-rows
+    slice-aggregate-add-rows-2
+    slice-aggregate-add-rows-3
+    add-rows-requires
+    enum-told
+    refused-requires
+    enum-known-tree
+    array-share-prefix-parents
+    slice-aggregate-join-and-write
+    array-share-prefix-names
+    slice-aggregate-join-and-write-2
+    array-share-prefix-accepts
+    slice-aggregate-join-and-write-3
+    join-and-write-requires
+    same-length
+    returns
+    same-length-2
+    same-length-3
+    returns-2)

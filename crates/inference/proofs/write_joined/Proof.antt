@@ -1,0 +1,213 @@
+-- `write_joined` meets its contract. Assumes nothing.
+use mathlib.Core.Path.{_≡_, sym, _∙_, subst}
+use mathlib.Core.Bool.{true, false, not}
+use mathlib.Core.List.{List}
+use Prim.Native.Nat.{ℕ, _+_, _<_, _≤_}
+use native.Mathlib.Omega.{arith}
+use borrow.Author.Tests.{leb-true, not-true, not-false}
+use lib.Dec.{leb}
+use lib.ListN.{length, getD}
+use borrow.Author.Needs.{needs}
+use Rattle.model.specs.Limits.{state-limit, input-limit}
+use Rattle.model.specs.Fields.{File}
+use Rattle.model.specs.Classes.{Word}
+use Rattle.fields.specs.Places.{fileOf}
+use Rattle.quotient.specs.Gathered.{Joined}
+use Rattle.quotient.specs.Ready.{Prepared}
+use Rattle.inference.specs.Books.{rowsAt, classAt, namesEnd}
+use Rattle.inference.specs.Results.{Gives}
+use Rattle.inference.specs.declared.Inferred.{Inferred}
+use Rattle.inference.proofs.BookLaws.{names-fit}
+use Rattle.inference.proofs.TableLaws.{joined-tree, states-few, table-too-short, table-written}
+use Rattle.inference.proofs.write_joined.Statement.{statement}
+use Rattle.inference.proofs.write_joined.Tie as tie
+
+-- places on the way: the entry, the arcs and numbers made ready, and the test whether the table fits
+abbrev start : tie.After-prepare → tie.Start
+start c = c .before .before .before .before .before .before .before .before .before .before .before .before .before
+
+abbrev known : tie.After-prepare → tie.After-shared-slice-known
+known c = c .before .before .before .before .before .before .before .before .before .before .before .before
+
+abbrev made : tie.After-fits2 → tie.After-prepare
+made c = c .before .before .before .before .before .before .before .before
+
+-- the rows and the file of the book
+abbrev rows : tie.Start → List Word
+rows c = rowsAt (c .args .book .now) (c .args .place)
+
+abbrev table : tie.Start → File
+table c = fileOf (c .args .book .now) (c .args .place)
+
+joined : (c : tie.Start) → Joined (rows c) (c .args .parents .now) (c .args .names .now) (c .args .groups .now)
+joined c =
+    let args = c .args in
+    joined-tree (rows c) (args .parents .now) (args .names .now) (args .accepts .now) (classAt (args .place)) (args .groups .now)
+    (c .pre .1 .0) (c .pre .1 .1)
+
+-- what `prepare` left ready
+prepared :
+    (c : tie.After-prepare) →
+    let last = c .prepare .last .1 .1 .1 .1 in
+    Prepared (rows (start c)) (start c .args .groups .now) (last .0) (last .1 .0) (last .1 .1 .0) (last .1 .1 .1 .0)
+    (last .1 .1 .1 .1 .0) (c .prepare .result .states) (c .prepare .result .bytes)
+prepared c = c .prepare .ensures (rows (start c)) (joined (start c)) (start c .pre .1 .0 .accepting)
+
+-- the book's bytes are bytes, and its names end within it
+bytes :
+    (c : tie.After-shared-slice-known) (i : ℕ) → i < length (c .before .args .book .now) → getD (c .before .args .book .now) i 0 < 256
+bytes c i h = omega (arith, c .shared-slice-known .given i)
+
+names-low : (c : tie.Start) → namesEnd (c .args .place) ≤ input-limit
+names-low c = omega (arith, names-fit (c .args .book .now) (c .args .place) (c .pre .0 .0), c .pre .0 .1)
+
+-- how long the table is, and what the test says of it
+abbrev size : tie.After-fits2 → ℕ
+size c = namesEnd (start (made c) .args .place) + 6 + made c .prepare .result .bytes
+
+abbrev room : tie.After-fits2 → ℕ
+room c = length (start (made c) .args .out .now)
+
+too-long : (c : tie.After-fits2) → not (c .fits2 .result) ≡ true → leb (size c) (room c) ≡ false
+too-long c e = sym (c .fits2 .ensures) ∙ not-true (c .fits2 .result) e
+
+within : (c : tie.After-fits2) → not (c .fits2 .result) ≡ false → leb (size c) (room c) ≡ true
+within c e = sym (c .fits2 .ensures) ∙ not-false (c .fits2 .result) e
+
+slice-aggregate-prepare : tie.Need-slice-aggregate-prepare
+slice-aggregate-prepare c = search needs
+
+slice-aggregate-prepare-2 : tie.Need-slice-aggregate-prepare-2
+slice-aggregate-prepare-2 c = search needs
+
+slice-aggregate-prepare-3 : tie.Need-slice-aggregate-prepare-3
+slice-aggregate-prepare-3 c = search needs
+
+slice-aggregate-prepare-4 : tie.Need-slice-aggregate-prepare-4
+slice-aggregate-prepare-4 c = search needs
+
+prepare-requires : tie.Need-prepare-requires
+prepare-requires c κs =
+    let at = c .before .before .before .before .before .before .before .before .before .before .before .before in
+    let few : length (at .args .groups .now) ≤ state-limit = omega (arith, at .pre .1 .1 .labels .size, at .pre .1 .0 .few) in
+    ((rows at, joined at, at .pre .1 .0 .accepting), (at .pre .0 .2, ((few, few), (few, few))))
+
+add-front : tie.Need-add-front
+add-front c = omega (arith, names-low (start (c .before .before .before .before .before .before .before)))
+
+add-front-2 : tie.Need-add-front-2
+add-front-2 c = omega (arith, names-low (start (c .before .before .before .before .before .before .before)))
+
+fits-requires : tie.Need-fits-requires
+fits-requires c κs = tt
+
+refused-requires : tie.Need-refused-requires
+refused-requires c κs = tt
+
+same-length : tie.Need-same-length
+same-length c = made (c .before .before) .prepare .kept .1 .1 .1 .1 .0
+
+returns : tie.Need-returns
+returns c =
+    let ready = made (c .before .before) in
+    let at = start ready in
+    let args = at .args in
+    subst (λ (r : Inferred). Gives (table at) (args .out .now) (args .out .now) r) (sym (c .refused .ensures))
+    (table-too-short (args .book .now) (args .place) (args .parents .now) (args .names .now) (args .accepts .now) (args .groups .now)
+    (at .pre .0 .0) (bytes (known ready)) (at .pre .1 .0) (at .pre .1 .1) (args .out .now) (ready .prepare .result .bytes)
+    (prepared ready .sized) (too-long (c .before .before) (c .before .if1 .taken)))
+
+write-front-requires : tie.Need-write-front-requires
+write-front-requires c κs =
+    let tested = c .before .before in
+    (start (made tested) .pre .0 .0, omega (arith, leb-true (size tested) (room tested) (within tested (c .before .if1 .left))))
+
+slice-aggregate-write-states : tie.Need-slice-aggregate-write-states
+slice-aggregate-write-states c = sym (made (c .before .before .before .before .before .before .before) .prepare .kept .1 .1 .1 .1 .1 .0)
+
+slice-aggregate-write-states-2 : tie.Need-slice-aggregate-write-states-2
+slice-aggregate-write-states-2 c =
+    let tested = c .before .before .before .before .before .before .before .before in
+    sym (made tested .prepare .kept .1 .1 .1 .1 .1 .1 .0)
+
+slice-aggregate-write-states-3 : tie.Need-slice-aggregate-write-states-3
+slice-aggregate-write-states-3 c =
+    let tested = c .before .before .before .before .before .before .before .before .before in
+    sym (made tested .prepare .kept .1 .1 .1 .1 .1 .1 .1 .0)
+
+slice-aggregate-write-states-4 : tie.Need-slice-aggregate-write-states-4
+slice-aggregate-write-states-4 c =
+    let tested = c .before .before .before .before .before .before .before .before .before .before in
+    sym (made tested .prepare .kept .1 .1 .1 .1 .1 .1 .1 .1 .0)
+
+write-states-requires : tie.Need-write-states-requires
+write-states-requires c κs =
+    let front = c .before .before .before .before .before .before .before .before in
+    let tested = front .before .before .before in
+    let ready = prepared (made tested) in
+    let at = start (made tested) in
+    let enough = leb-true (size tested) (room tested) (within tested (front .before .before .if1 .left)) in
+    let kept = front .write-front .kept .1 .1 .0 in
+    let next = front .write-front .ensures .ends in
+    let total = ready .sized in
+    (rows at, at .args .groups .now, ready .ready, omega (arith, enough, kept, next, total))
+
+sub-joins : tie.Need-sub-joins
+sub-joins c =
+    let tested = c .before .before .before .before .before .before .before .before .before .before .before .before .before .before in
+    let at = start (made tested) in
+    omega (
+      arith,
+      prepared (made tested) .counted,
+      states-few (rows at) (at .args .parents .now) (at .args .names .now) (classAt (at .args .place)) (at .args .groups .now)
+          (at .pre .1 .1),
+    )
+
+same-length-2 : tie.Need-same-length-2
+same-length-2 c =
+    let tested = c .before .before .before .before .before .before .before .before .before .before .before .before .before .before in
+    made tested .prepare .kept .1 .1 .1 .1 .0
+
+same-length-3 : tie.Need-same-length-3
+same-length-3 c =
+    let front = c .before .before .before .before .before .before .before .before .before .before .before in
+    c .before .before .write-states .kept .1 .1 .1 .1 .1 .1 .0 ∙ front .write-front .kept .1 .1 .0
+
+returns-2 : tie.Need-returns-2
+returns-2 c =
+    let front = c .before .before .before .before .before .before .before .before .before .before .before in
+    let tested = front .before .before .before in
+    let ready = made tested in
+    let at = start ready in
+    let args = at .args in
+    let result = ready .prepare .result in
+    table-written (args .book .now) (args .place) (args .parents .now) (args .names .now) (args .accepts .now) (args .groups .now)
+    (at .pre .0 .0) (bytes (known ready)) (at .pre .1 .0) (at .pre .1 .1) (args .out .now) _ _ _ _ (result .states) (result .bytes)
+    (within tested (front .before .before .if1 .left)) (prepared ready .counted) (prepared ready .sized) (front .write-front .ensures)
+    (c .before .before .write-states .ensures (rows at) (args .groups .now) (prepared ready .ready))
+
+pub write-joined-spec : {M : Type 1} → statement M
+write-joined-spec =
+    tie.close
+    (tie.spec
+    slice-aggregate-prepare
+    slice-aggregate-prepare-2
+    slice-aggregate-prepare-3
+    slice-aggregate-prepare-4
+    prepare-requires
+    add-front
+    add-front-2
+    fits-requires
+    refused-requires
+    same-length
+    returns
+    write-front-requires
+    slice-aggregate-write-states
+    slice-aggregate-write-states-2
+    slice-aggregate-write-states-3
+    slice-aggregate-write-states-4
+    write-states-requires
+    sub-joins
+    same-length-2
+    same-length-3
+    returns-2)

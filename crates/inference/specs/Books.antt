@@ -1,0 +1,52 @@
+-- The place of an accepted book, and what is made of its rows on the way to its table: the prefix tree in arrays, and a partition of its
+-- states whose automaton is that of the full joining. Assumes nothing.
+use mathlib.Core.Path.{_≡_}
+use mathlib.Core.Bool.{true}
+use mathlib.Core.List.{List, _++_}
+use Prim.Native.Nat.{ℕ, _+_, _≤_}
+use lib.ListN.{length}
+use Rattle.model.specs.Limits.{state-limit}
+use Rattle.model.specs.Fields.{Class, class-of, File, settingsOk, book}
+use Rattle.model.specs.Classes.{Word}
+use Rattle.model.specs.Tables.{nameFields, classField}
+use Rattle.model.specs.Joinings.{treeOf, joinedGroups}
+use Rattle.model.specs.Quotients.{statesOf}
+use Rattle.fields.specs.Offsets.{fieldsAt}
+use Rattle.fields.specs.Places.{ReadAs}
+use Rattle.fields.specs.declared.Place.{Place}
+use Rattle.fields.specs.declared.Fields.the-variants.{Accepted}
+use Rattle.indexed.specs.Trees.{TreeArrays, AcceptsArray}
+use Rattle.indexed.specs.Partitions.{Labelled, ForkClosed}
+
+-- the place of a book that was read without a fault, whichever allowed class a book has that names none
+pub record BookAt (s : List ℕ) (p : Place) : Type 0 where
+  pub default : Class
+  pub allowed : settingsOk (default .kind) (default .first) (default .second) ≡ true
+  pub read : ReadAs default book s (Accepted p)
+
+-- the rows of the book, and its class
+abbrev pub rowsAt : List ℕ → Place → List Word
+rowsAt s p = fieldsAt s (p .start) (p .items)
+
+abbrev pub classAt : Place → Class
+classAt p = class-of (p .kind) (p .first) (p .second)
+
+-- how many bytes the names' fields take, and with them the class field
+abbrev pub namesEnd : Place → ℕ
+namesEnd p = p .last + p .width
+
+-- a table's bytes before its states
+unfoldable pub frontBytes : File → List ℕ
+frontBytes f = nameFields (f .names) ++ classField (f .class-is)
+
+-- the prefix tree of the rows in arrays, of at most 512 states
+pub record TreeIn (rows : List Word) (parents names accepts : List ℕ) : Type 0 where
+  pub few : length (treeOf rows) ≤ state-limit
+  pub tree : TreeArrays rows parents names
+  pub accepting : AcceptsArray rows accepts
+
+-- a partition of the tree's states that no fork is open in, and whose automaton is that of the full joining
+pub record JoinedBy (c : Class) (rows : List Word) (parents names groups : List ℕ) : Type 0 where
+  pub labels : Labelled (length (treeOf rows)) groups
+  pub forks : ForkClosed (length (treeOf rows)) parents names groups
+  pub states : statesOf rows (treeOf rows) groups ≡ statesOf rows (treeOf rows) (joinedGroups c rows)

@@ -1,0 +1,41 @@
+// The joining of a book's prefix tree by the rule of its class.
+use cells::numbers::wide8;
+use contexts::join_by_context;
+use functions::join_by_last;
+use functions::join_by_seen;
+ghost use mathlib.Core.Path.{_≡_};
+ghost use mathlib.Core.Bool.{true};
+ghost use mathlib.Core.List.{List};
+ghost use lib.ListN.{length};
+ghost use Rattle.model.specs.Fields.{class-of, settingsOk};
+ghost use Rattle.model.specs.Classes.{Word};
+ghost use Rattle.functions.specs.Results.{JoinReady};
+ghost use Rattle.inference.specs.Books.{TreeIn, JoinedBy};
+
+// The kinds of a class; the third is last names.
+const CONTEXT: u8 = 0;
+
+const SEEN_SET: u8 = 1;
+
+// Joins by the class's rule until none applies. What the lent area and the groups hold at first is all the same.
+pub fn join_by_class(
+    kind: u8,
+    first: u8,
+    second: u8,
+    parents: &[u16],
+    names: &[u8],
+    accepts: &[u8],
+    groups: &mut [u16],
+    work: &mut [u8],
+)
+    requires { ⌜ settingsOk kind first second ≡ true ⌝ }
+    requires { ⌜ JoinReady (length (now groups)) (now parents) (now names) (now accepts) (now work) ⌝ }
+    ensures { λ _. ⌜ ((rows : List Word) → TreeIn rows (now (parents .entry)) (now (names .entry)) (now (accepts .entry)) →
+        JoinedBy (class-of kind first second) rows (now (parents .entry)) (now (names .entry)) (now (groups .exit))) ⌝ }
+{
+    match kind {
+        CONTEXT => join_by_context(wide8(first), wide8(second), parents, names, groups, work),
+        SEEN_SET => join_by_seen(parents, names, accepts, groups, work),
+        _ => join_by_last(wide8(first), parents, names, accepts, groups, work),
+    }
+}

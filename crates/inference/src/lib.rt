@@ -1,0 +1,186 @@
+// From an accepted book to its table: the prefix tree of its rows, joined by its class's rule, numbered first-met and written. Nothing is
+// written before it is known that the table fits.
+pub mod classes;
+
+use fields::Place;
+use prefix_tree::Tree;
+use prefix_tree::add_rows;
+use quotient::prepare;
+use quotient::states::write_states;
+use writing::copy_in;
+use writing::put_class;
+ghost use mathlib.Core.Path.{_≡_};
+ghost use Prim.Native.Nat.{_+_, _≤_};
+ghost use lib.Dec.{leb};
+ghost use lib.ListN.{length};
+ghost use Rattle.model.specs.Limits.{input-limit, work-bytes};
+ghost use Rattle.fields.specs.Places.{fileOf};
+ghost use Rattle.writing.specs.Writing.{Put};
+ghost use Rattle.inference.specs.Books.{BookAt, rowsAt, classAt, namesEnd, frontBytes, TreeIn, JoinedBy};
+ghost use Rattle.inference.specs.Results.{Gives, refusal};
+
+// The refusals of an accepted book.
+pub const TREE_TOO_LARGE: u8 = 10;
+
+pub const OUTPUT_TOO_SHORT: u8 = 13;
+
+// How many bytes a class field takes.
+const CLASS_BYTES: usize = 6;
+
+// What is given back: the refusal, or 0 with the table's length, its states, and the joins.
+pub struct Inferred {
+    pub number: u8,
+    pub length: usize,
+    pub states: usize,
+    pub joins: usize,
+}
+
+// What is given back with a refusal.
+fn refused(number: u8) -> Inferred
+    ensures { λ r. ⌜ r ≡ refusal number ⌝ }
+{
+    Inferred {
+        number: number,
+        length: 0,
+        states: 0,
+        joins: 0,
+    }
+}
+
+// Two parts fit into this room, one after the other.
+fn fits(room: usize, front: usize, rest: usize) -> bool
+    ensures { λ r. ⌜ r ≡ leb (front + rest) room ⌝ }
+{
+    if room < front {
+        return false;
+    }
+    rest <= room - front
+}
+
+// Writes the names' fields, which are the book's first bytes, and the class field. Returns the offset after them.
+fn write_front(book: &[u8], place: Place, out: &mut [u8]) -> usize
+    requires { ⌜ BookAt (now book) place ⌝ }
+    requires { ⌜ namesEnd place + 6 ≤ length (now out) ⌝ }
+    ensures { λ r. ⌜ Put (now (out .entry)) (now (out .exit)) 0 (frontBytes (fileOf (now (book .entry)) place)) (namesEnd place + 6) r ⌝ }
+{
+    let end = place.last + place.width;
+    let at = copy_in(out, 0, &book[..end]);
+    put_class(out, at, place.kind, place.first, place.second)
+}
+
+// The automaton of a joined partition, numbered and written after the names and the class; or 13, and nothing is written.
+fn write_joined(
+    book: &[u8],
+    place: Place,
+    parents: &[u16],
+    names: &[u8],
+    accepts: &[u8],
+    groups: &[u16],
+    work: &mut [u8],
+    out: &mut [u8],
+) -> Inferred
+    requires { ⌜ BookAt (now book) place × (length (now book) ≤ input-limit) × (work-bytes ≤ length (now work)) ⌝ }
+    requires { ⌜ TreeIn (rowsAt (now book) place) (now parents) (now names) (now accepts) ⌝ }
+    requires { ⌜ JoinedBy (classAt place) (rowsAt (now book) place) (now parents) (now names) (now groups) ⌝ }
+    ensures { λ r. ⌜ Gives (fileOf (now (book .entry)) place) (now (out .entry)) (now (out .exit)) r ⌝ }
+{
+    let mut next = [0u64; 512];
+    let mut accepting = [0u8; 512];
+    let mut met = [0u16; 512];
+    let mut numbers = [0u16; 512];
+    let automaton = prepare(
+        parents,
+        names,
+        accepts,
+        groups,
+        work,
+        &mut next,
+        &mut accepting,
+        &mut met,
+        &mut numbers,
+    );
+    let states = automaton.states;
+    let front = place.last + place.width + CLASS_BYTES;
+    if !fits(out.len(), front, automaton.bytes) {
+        return refused(OUTPUT_TOO_SHORT);
+    }
+    let at = write_front(book, place, out);
+    let end = write_states(work, &next, &accepting, &met, &numbers, states, out, at);
+    let joins = groups.len() - states;
+    Inferred {
+        number: 0,
+        length: end,
+        states: states,
+        joins: joins,
+    }
+}
+
+// The prefix tree joined by the class's rule, and then written.
+fn join_and_write(
+    book: &[u8],
+    place: Place,
+    parents: &[u16],
+    names: &[u8],
+    accepts: &[u8],
+    work: &mut [u8],
+    out: &mut [u8],
+) -> Inferred
+    requires { ⌜ BookAt (now book) place × (length (now book) ≤ input-limit) × (work-bytes ≤ length (now work)) ⌝ }
+    requires { ⌜ TreeIn (rowsAt (now book) place) (now parents) (now names) (now accepts) ⌝ }
+    ensures { λ r. ⌜ Gives (fileOf (now (book .entry)) place) (now (out .entry)) (now (out .exit)) r ⌝ }
+{
+    let n = parents.len();
+    let mut groups = [0u16; 512];
+    classes::join_by_class(
+        place.kind,
+        place.first,
+        place.second,
+        parents,
+        names,
+        accepts,
+        &mut groups[..n],
+        work,
+    );
+    write_joined(
+        book,
+        place,
+        parents,
+        names,
+        accepts,
+        &groups[..n],
+        work,
+        out,
+    )
+}
+
+// The table of an accepted book at the front of the output, which is untouched beyond it: its length, its states and the joins; or
+// refusal 10 or 13, and the output is as it was. What the lent area holds at first is all the same.
+pub fn infer(book: &[u8], place: Place, work: &mut [u8], out: &mut [u8]) -> Inferred
+    requires { ⌜ BookAt (now book) place × (length (now book) ≤ input-limit) × (work-bytes ≤ length (now work)) ⌝ }
+    ensures { λ r. ⌜ Gives (fileOf (now (book .entry)) place) (now (out .entry)) (now (out .exit)) r ⌝ }
+{
+    let mut parents = [0u16; 512];
+    let mut names = [0u8; 512];
+    let mut accepts = [0u8; 512];
+    let tree = add_rows(
+        book,
+        place.start,
+        place.items,
+        &mut parents,
+        &mut names,
+        &mut accepts,
+        work,
+    );
+    match tree {
+        Tree::TooLarge => refused(TREE_TOO_LARGE),
+        Tree::Built(n) => join_and_write(
+            book,
+            place,
+            &parents[..n],
+            &names[..n],
+            &accepts[..n],
+            work,
+            out,
+        ),
+    }
+}
