@@ -20,6 +20,10 @@ use Rattle.model.proofs.Trees.{treeOf-tree}
 use Rattle.model.proofs.FirstMet.{met-few, states-length}
 use Rattle.model.proofs.Joined.{joinedGroups-joined}
 use Rattle.model.proofs.Demands.{demands}
+use Rattle.fields.specs.Places.{fileOf, ReadAs}
+use Rattle.fields.specs.declared.Place.{Place}
+use Rattle.fields.specs.declared.Fields.the-variants as answer
+use Rattle.fields.proofs.Parts.{accepted-number, accepted-file-is}
 use Rattle.inference.specs.Results as inferred
 use Rattle.inference.specs.Results.{inferFault}
 use Rattle.inference.specs.declared.Inferred.{Inferred}
@@ -57,6 +61,20 @@ states-few f =
     let few = met-few nodes groups (treeOf-tree (f .items)) fits in
     let size = states-length nodes groups (treeOf-tree (f .items)) fits (f .items) in
     omega arith
+
+-- ---- what the reader's answer says of the book
+
+pub record BookRead (s : List ℕ) (p : Place) : Type 0 where
+  pub no-refusal : readFields fields.book s .number ≡ 0
+  pub file-is : fileOf s p ≡ bookOf s
+
+pub book-read-as : (s : List ℕ) (p : Place) → ReadAs default-class fields.book s (answer.Accepted p) → BookRead s p
+unfolding bookOf
+book-read-as s p read =
+    record {
+      no-refusal = accepted-number default-class fields.book s p read;
+      file-is = sym (accepted-file-is default-class fields.book s p read);
+    }
 
 -- ---- which refusal a build comes to, and what it gives back
 

@@ -30,7 +30,7 @@ use Rattle.plans.specs.Parts.{NoTable, NoWalk, EndsOver, EndsAs}
 unless-refused : {A : Type 0} (fault : ℕ) (none value : A) → 0 < fault → unless fault none value ≡ none
 unless-refused fault none value h = rw (ne-eqb fault 0 (λ (e : fault ≡ 0). omega arith))
 
-unless-accepted : {A : Type 0} (fault : ℕ) (none value : A) → fault ≡ 0 → unless fault none value ≡ value
+pub unless-accepted : {A : Type 0} (fault : ℕ) (none value : A) → fault ≡ 0 → unless fault none value ≡ value
 unless-accepted fault none value e = rw (eq-eqb fault 0 e)
 
 -- ---- refusals

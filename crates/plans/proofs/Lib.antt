@@ -3,3 +3,4 @@
 pub mod CallLaws
 pub mod EndLaws
 pub mod BuildLaws
+pub mod Handed
