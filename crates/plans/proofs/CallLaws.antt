@@ -30,12 +30,12 @@ use Rattle.plans.specs.Parts.{NoTable, NoWalk, EndsOver, EndsAs}
 unless-refused : {A : Type 0} (fault : ℕ) (none value : A) → 0 < fault → unless fault none value ≡ none
 unless-refused fault none value h = rw (ne-eqb fault 0 (λ (e : fault ≡ 0). omega arith))
 
-unless-accepted : {A : Type 0} (fault : ℕ) (none value : A) → fault ≡ 0 → unless fault none value ≡ value
+pub unless-accepted : {A : Type 0} (fault : ℕ) (none value : A) → fault ≡ 0 → unless fault none value ≡ value
 unless-accepted fault none value e = rw (eq-eqb fault 0 e)
 
 -- ---- refusals
 
-first-refuses : (a b : ℕ) → 0 < a → firstOf a b ≡ a
+pub first-refuses : (a b : ℕ) → 0 < a → firstOf a b ≡ a
 first-refuses zero b h = let z : ⊥ = omega arith in absurd z
 first-refuses (suc a) b h = refl
 
@@ -68,6 +68,20 @@ pub table-read : (s work : List ℕ) → SizesBad s work ≡ false → tableFaul
 unfolding tableFault sizesFault readFault
 table-read s work e = rw e
 
+-- a refused call that writes a table leaves the output as it was
+pub gives-none :
+    (fault : ℕ) (bytes : List ℕ) (states joins : ℕ) (out : List ℕ) (number : ℕ) (r : Built) → NoTable number r → 0 < number →
+    fault ≡ number → Gives fault bytes states joins out out r
+gives-none fault bytes states joins out number r none some e =
+    let refuses : 0 < fault = omega arith in
+    record {
+      number-is = none .number-is ∙ sym e;
+      length-is = none .no-length ∙ sym (unless-refused fault 0 (length bytes) refuses);
+      states-are = none .no-states ∙ sym (unless-refused fault 0 states refuses);
+      joins-are = none .no-joins ∙ sym (unless-refused fault 0 joins refuses);
+      output-is = sym (unless-refused fault out (over bytes out) refuses);
+    }
+
 -- ---- a table rewritten
 
 module _ (table work out : List ℕ) where
@@ -83,14 +97,7 @@ module _ (table work out : List ℕ) where
   no-table : (number : ℕ) (r : Built) → NoTable number r → 0 < number → rewriteFault table work out ≡ number
       → RewriteGives table work out out r
   no-table number r none some e =
-      let refuses : 0 < rewriteFault table work out = omega arith in
-      record {
-        number-is = none .number-is ∙ sym e;
-        length-is = none .no-length ∙ sym (unless-refused (rewriteFault table work out) 0 (length (rewritten table)) refuses);
-        states-are = none .no-states ∙ sym (unless-refused (rewriteFault table work out) 0 (length (tableStates table)) refuses);
-        joins-are = none .no-joins ∙ sym (unless-refused (rewriteFault table work out) 0 0 refuses);
-        output-is = sym (unless-refused (rewriteFault table work out) out (over (rewritten table) out) refuses);
-      }
+      gives-none (rewriteFault table work out) (rewritten table) (length (tableStates table)) 0 out number r none some e
 
   -- refused for the lent sizes, by the table's own refusals, and for the output's length
   pub gives-sizes : (r : Built) → SizesBad table work ≡ true → NoTable bad-sizes r → RewriteGives table work out out r

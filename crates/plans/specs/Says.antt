@@ -7,7 +7,8 @@ use Prim.Native.Nat.{ℕ, zero, suc}
 use lib.Dec.{eqb}
 use lib.ListN.{length, drop, replicate}
 use Rattle.model.specs.Tables.{outcome, longestBeginning, nextNames, nextCount}
-use Rattle.model.specs.Calls.{rewriteFault, rewritten, walkFault, tableStates}
+use Rattle.model.specs.Quotients.{bookStates, bookTable}
+use Rattle.model.specs.Calls.{bookOf, buildFault, joinsOf, rewriteFault, rewritten, walkFault, tableStates}
 use Rattle.plans.specs.declared.Built.{Built}
 use Rattle.plans.specs.declared.Walked.{Walked}
 
@@ -46,6 +47,16 @@ RewriteGives table work out out′ r =
 abbrev pub RewriteSays : List ℕ → List ℕ → List ℕ → List ℕ → List ℕ → Built → Type 0
 RewriteSays table work work′ out out′ r =
     Wrote (rewriteFault table work out) (rewritten table) (length (tableStates table)) 0 work work′ out out′ r
+
+-- the table of a book built
+abbrev pub BuildGives : List ℕ → List ℕ → List ℕ → List ℕ → Built → Type 0
+BuildGives book work out out′ r =
+    Gives (buildFault book work out) (bookTable (bookOf book)) (length (bookStates (bookOf book))) (joinsOf (bookOf book)) out out′ r
+
+abbrev pub BuildSays : List ℕ → List ℕ → List ℕ → List ℕ → List ℕ → Built → Type 0
+BuildSays book work work′ out out′ r =
+    Wrote (buildFault book work out) (bookTable (bookOf book)) (length (bookStates (bookOf book))) (joinsOf (bookOf book))
+    work work′ out out′ r
 
 -- ---- a row walked
 

@@ -1,12 +1,13 @@
-// The public entries: a table rewritten, a row walked over a table. Any bytes may be lent; each call ends with a result or one
+// The public entries: a book's table built, a table rewritten, a row walked over a table. Any bytes may be lent; each call ends with a result or one
 // numbered refusal, leaves every byte of the working area zero, and leaves the output as it was where it refuses.
+mod building;
 mod limits;
 mod rewriting;
 mod walking;
 
 use cells::clear;
 ghost use mathlib.Core.Path.{_≡_};
-ghost use Rattle.plans.specs.Says.{RewriteSays, WalkSays, WalkedSays};
+ghost use Rattle.plans.specs.Says.{BuildSays, RewriteSays, WalkSays, WalkedSays};
 
 // What a call that writes a table gives back: a refusal's number or 0, then the table's length in bytes, its states, and the
 // joins: tree states less table states.
@@ -27,6 +28,16 @@ pub struct Walked {
     pub count: u8,
     pub length: u32,
     pub names: u64,
+}
+
+// Builds the table of a book: the prefix tree of its rows, joined by the rules of its class until none applies, numbered
+// first-met. `build-handed-over` of proofs/Handed says what holds of the table that is written: demand 3, whole.
+pub fn build_table(book: &[u8], work: &mut [u8], out: &mut [u8]) -> Built
+    ensures { λ r. ⌜ BuildSays (now (book .entry)) (now (work .entry)) (now (work .exit)) (now (out .entry)) (now (out .exit)) r ⌝ }
+{
+    let built = building::build(book, work, out);
+    clear(work);
+    built
 }
 
 // Reads a table and writes it again, to the same bytes.
@@ -60,6 +71,14 @@ pub fn walk_row<'a>(
     *count = ended.count;
     let taken = ended.taken;
     &row[..taken]
+}
+
+// build_table for C.
+#[no_mangle]
+pub extern "C" fn plans_build(book: &[u8], work: &mut [u8], out: &mut [u8]) -> Built
+    ensures { λ r. ⌜ BuildSays (now (book .entry)) (now (work .entry)) (now (work .exit)) (now (out .entry)) (now (out .exit)) r ⌝ }
+{
+    build_table(book, work, out)
 }
 
 // rewrite_table for C.

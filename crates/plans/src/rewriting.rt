@@ -10,7 +10,7 @@ ghost use Rattle.plans.specs.Says.{RewriteGives};
 ghost use Rattle.plans.specs.Parts.{NoTable};
 
 // A refusal: no table, no states, no joins.
-fn refused(number: u8) -> Built
+pub fn refused(number: u8) -> Built
     ensures { λ r. ⌜ NoTable number r ⌝ }
 {
     Built { number: number, length: 0, states: 0, joins: 0 }

@@ -1,0 +1,31 @@
+// A book's table built, before the working area is cleared.
+use crate::Built;
+use crate::limits::BAD_SIZES;
+use crate::limits::sizes_bad;
+use crate::rewriting::refused;
+use fields::Fields;
+use fields::read_fields;
+use inference::infer;
+ghost use Rattle.plans.specs.Says.{BuildGives};
+
+// Refusals 1, the fields', 10, 13; otherwise the table stands at the front of the output.
+pub fn build(book: &[u8], work: &mut [u8], out: &mut [u8]) -> Built
+    ensures { λ r. ⌜ BuildGives (now (book .entry)) (now (work .entry)) (now (out .entry)) (now (out .exit)) r ⌝ }
+{
+    if sizes_bad(book.len(), work.len()) {
+        return refused(BAD_SIZES);
+    }
+    let read = read_fields(book, false);
+    match read {
+        Fields::Accepted(p) => {
+            let inferred = infer(book, p, work, out);
+            Built {
+                number: inferred.number,
+                length: inferred.length as u32,
+                states: inferred.states as u32,
+                joins: inferred.joins as u32,
+            }
+        }
+        Fields::Refused(k) => refused(k),
+    }
+}
