@@ -7,7 +7,7 @@ help:
 	@echo "make test     the whole gate, from nothing; its last line is 'N passed, 0 failed'"
 	@echo "make check    prove what changed since the last check"
 	@echo "make lib      target/staticlib/libplans.a, for C; its header is include/plans.h"
-	@echo "make example  build examples/walk.c over it with gcc, run it, and compare what it prints"
+	@echo "make example  build examples/*.c over it with gcc, run them, and compare what they print"
 	@echo "make bench-walk  what a walk costs as a multiple of one memset of 65,536 bytes, and the stack that calls use"
 	@echo "make fmt      put every .rt and .antt file into the layout"
 

@@ -11,6 +11,7 @@
 enum { STACK = 1 << 20, PAINT = 0xA5 };
 
 static const uint8_t table[] = {1, 0, 5, 's', 'n', 'a', 'c', 'k', 2, 0, 3, 0, 1, 1, 4, 0, 4, 0, 0, 0, 1, 4, 0, 4, 1, 0, 0, 1};
+static const uint8_t book[] = {1, 0, 5, 's', 'n', 'a', 'c', 'k', 2, 0, 3, 0, 8, 1, 3, 0, 2, 0, 0};
 static uint8_t work[PLANS_WORK_BYTES];
 static uint8_t out[65536];
 
@@ -23,6 +24,12 @@ static void *walk(void *unused)
 {
     static const uint8_t row[] = {0, 0};
     plans_walk(table, sizeof table, row, sizeof row, work, sizeof work);
+    return unused;
+}
+
+static void *build(void *unused)
+{
+    plans_build(book, sizeof book, work, sizeof work, out, sizeof out);
     return unused;
 }
 
@@ -53,7 +60,7 @@ static size_t used(void *(*call)(void *))
 
 int main(void)
 {
-    size_t base = used(nothing);
-    printf("stack: walk %zu bytes, rewrite %zu bytes, over a thread that does nothing\n", used(walk) - base, used(rewrite) - base);
+    printf("stack of a thread in bytes: %zu with no call, %zu with a walk, %zu with a rewrite, %zu with a build\n", used(nothing),
+           used(walk), used(rewrite), used(build));
     return 0;
 }

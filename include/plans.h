@@ -6,7 +6,7 @@
  *   memory but the buffers that its comment says it writes.
  * - The buffers of one call must not overlap. A buffer is given by its first byte and its length in bytes; where the length is 0
  *   the pointer is not read, and may be null.
- * - Any bytes may be passed as table and row: what is wrong with them is told by a refusal.
+ * - Any bytes may be passed as book, table and row: what is wrong with them is told by a refusal.
  * - The working area is of PLANS_WORK_BYTES or more. What it holds before the call does not matter. After the call every byte of
  *   it is 0, also where the call is refused, and also where the area was too short.
  * - A call uses no global state: calls on different buffers may run at the same time.
@@ -68,6 +68,17 @@ typedef struct {
     uint32_t length; /* how many of the row's names can be walked: the longest beginning is row[0] to row[length - 1] */
     uint64_t names;  /* the names that may come next, from the state reached: bit n for name n */
 } plans_walked;
+
+/*
+ * Builds the table of a book, to the front of `out`: the prefix tree of its rows, joined by the rules of its class until none
+ * applies, its states numbered first-met. Every book with the same names, class and set of rows gives the same bytes.
+ * Reads `book`; writes `work` (zeros) and `out`. Bytes of `out` beyond the table are left as they were, and where the call is
+ * refused all of `out` is. Refusals, the first that applies: 1; those of the fields, in the book's order; 10; 13. A table is
+ * never longer than PLANS_INPUT_LIMIT, so an output of that length is always enough.
+ */
+plans_built plans_build(const uint8_t *book, size_t book_len,
+                        uint8_t *work, size_t work_len,
+                        uint8_t *out, size_t out_len);
 
 /*
  * Reads the table and writes it again to the front of `out`. An accepted table is written to the same bytes.
