@@ -72,7 +72,7 @@ module _ (s work row : List ℕ) (w : Walk) (ready : Ready s work) (walked : Wal
             r-outcome
             ∙ result-is
             ∙ ap (λ (b : Bool). cond (ltb (w .taken) (length row)) 3 (cond b 1 2))
-              (accepts-is ∙ ap (λ (q : State). q .accepts) reached)
+            (accepts-is ∙ ap (λ (q : State). q .accepts) reached)
             ∙ ap (λ (n : ℕ). cond (ltb n (length row)) 3 (cond (reachedState (tableStates s) row .accepts) 1 2)) taken-is;
         names-are = r-names ∙ names-are ∙ ap (λ (q : State). nameSet (q .arcs)) reached;
         count-is =

@@ -61,7 +61,7 @@ pub fn walk_row<'a>(
     count: &mut u8,
 ) -> &'a [u8]
     ensures { λ r. ⌜ WalkSays (now (table .entry)) (now (row .entry)) (now (work .entry)) (now (work .exit)) (now r)
-                     (now (number .exit)) (now (outcome .exit)) (now (names .exit)) (now (count .exit)) ⌝ }
+        (now (number .exit)) (now (outcome .exit)) (now (names .exit)) (now (count .exit)) ⌝ }
 {
     let ended = walking::walk(table, row, work);
     clear(work);
@@ -98,7 +98,15 @@ pub extern "C" fn plans_walk(table: &[u8], row: &[u8], work: &mut [u8]) -> Walke
     let mut outcome: u8 = 0;
     let mut names: u64 = 0;
     let mut count: u8 = 0;
-    let beginning = walk_row(table, row, work, &mut number, &mut outcome, &mut names, &mut count);
+    let beginning = walk_row(
+        table,
+        row,
+        work,
+        &mut number,
+        &mut outcome,
+        &mut names,
+        &mut count,
+    );
     Walked {
         number: number,
         outcome: outcome,

@@ -13,7 +13,12 @@ ghost use Rattle.plans.specs.Parts.{NoTable};
 pub fn refused(number: u8) -> Built
     ensures { λ r. ⌜ NoTable number r ⌝ }
 {
-    Built { number: number, length: 0, states: 0, joins: 0 }
+    Built {
+        number: number,
+        length: 0,
+        states: 0,
+        joins: 0,
+    }
 }
 
 // Refusals 1, the table's, 13; otherwise the table stands at the front of the output.
@@ -30,7 +35,12 @@ pub fn rewrite(table: &[u8], work: &mut [u8], out: &mut [u8]) -> Built
                 return refused(OUTPUT_TOO_SHORT);
             }
             copy_in(out, 0, table);
-            Built { number: 0, length: table.len() as u32, states: p.items as u32, joins: 0 }
+            Built {
+                number: 0,
+                length: table.len() as u32,
+                states: p.items as u32,
+                joins: 0,
+            }
         }
         Accepted::Refused(k) => refused(k),
     }

@@ -39,7 +39,13 @@ pub struct Ended {
 fn refused(number: u8) -> Ended
     ensures { λ r. ⌜ NoWalk number r ⌝ }
 {
-    Ended { number: number, outcome: 0, count: 0, taken: 0, names: 0 }
+    Ended {
+        number: number,
+        outcome: 0,
+        count: 0,
+        taken: 0,
+        names: 0,
+    }
 }
 
 // How a walk ends that stopped before the row's end or not, in a state that accepts or not.
@@ -66,7 +72,13 @@ fn walk_over(table: &[u8], row: &[u8], work: &[u8]) -> Ended
     let at = cell(work, walk.state, 0);
     let names = next_names(table, at);
     let outcome = outcome_of(taken < row.len(), accepts(table, at));
-    Ended { number: 0, outcome: outcome, count: u64::count_ones(names) as u8, taken: taken, names: names }
+    Ended {
+        number: 0,
+        outcome: outcome,
+        count: u64::count_ones(names) as u8,
+        taken: taken,
+        names: names,
+    }
 }
 
 // Refusals 1, the table's, 9; otherwise the walk.

@@ -66,8 +66,7 @@ loop-again c =
     let at = here (c .before .before .before) in
     let loop = c .before .before .before .before .loop in
     let args = c .before .before .before .before .before .before .args in
-    let s = args .state .now in
-    (
+    let s = args .state .now in (
       at .whole,
       (getD s (loop .i) 0 + 1, at .after),
       sym (target-goes s (loop .i) (args .name) (omega arith) (omega arith)) ∙ loop .inv .2,
