@@ -44,6 +44,7 @@ joinsOf f = length (treeOf (f .items)) - length (bookStates f)
 unfoldable pub tableOf : List ℕ → File
 tableOf s = readFields table s .file-is
 
+-- the states of that table
 unfoldable pub tableStates : List ℕ → List State
 tableStates s = statesIn (tableOf s .items)
 

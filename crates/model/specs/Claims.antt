@@ -34,6 +34,7 @@ pub record SameBook (f g : File) : Type 0 where
 abbrev pub Admitted : File → Word → Type 0
 Admitted f r = admits (bookStates f) r ≡ true
 
+-- demand 3, undivided: its six facts
 pub record Demand-3 : Type 1 where
   -- every full joining of every accepted book with the same names, class and set of rows has the table that build writes
   pub any-order :

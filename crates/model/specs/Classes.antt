@@ -10,6 +10,7 @@ use lib.Dec.{eqb, ltb}
 use lib.ListN.{length, take, drop}
 use Rattle.model.specs.Fields.{Class}
 
+-- a word: a row of any length, as the numbers of its names
 abbrev pub Word : Type 0
 Word = List ℕ
 

@@ -15,6 +15,7 @@ pub record Class : Type 0 where
   pub first : ℕ
   pub second : ℕ
 
+-- a class by its kind and settings
 abbrev pub class-of : ℕ → ℕ → ℕ → Class
 class-of kind first second = record { kind = kind; first = first; second = second }
 
@@ -36,6 +37,7 @@ settingsOk kind x y =
 abbrev pub classOk : List ℕ → Bool
 classOk body = eqb (length body) 3 && settingsOk (getD body 0 0) (getD body 1 0) (getD body 2 0)
 
+-- the class that a class field's bytes name
 abbrev pub classFrom : List ℕ → Class
 classFrom body = class-of (getD body 0 0) (getD body 1 0) (getD body 2 0)
 
@@ -73,9 +75,11 @@ stateOk n (b ∷ s) = leb b 1 && arcsOk (length s) n 0 s
 abbrev pub FileKind : Type 0
 FileKind = Bool
 
+-- a book of rows
 abbrev pub book : FileKind
 book = false
 
+-- a table of states
 abbrev pub table : FileKind
 table = true
 
@@ -87,6 +91,7 @@ pub record File : Type 0 where
   pub class-is : Class
   pub items : List (List ℕ)
 
+-- a file by its parts
 abbrev pub file : ℕ → List (List ℕ) → Class → List (List ℕ) → File
 file stage names class items = record { stage = stage; names = names; class-is = class; items = items }
 
@@ -157,9 +162,11 @@ pub record Read : Type 0 where
   pub number : ℕ
   pub file-is : File
 
+-- the refusal with this number, and nothing read
 abbrev pub refused : ℕ → Read
 refused n = record { number = n; file-is = unread default-class }
 
+-- no refusal, and the file
 abbrev pub accepted-file : File → Read
 accepted-file f = record { number = 0; file-is = f }
 
@@ -175,6 +182,7 @@ runsPast s = ltb (length s) 3 || ltb (length s) (3 + statedLength s)
 abbrev pub bodyOf : List ℕ → List ℕ
 bodyOf s = take (statedLength s) (drop 3 s)
 
+-- what comes after the field at the front
 abbrev pub afterField : List ℕ → List ℕ
 afterField s = drop (3 + statedLength s) s
 
@@ -206,5 +214,6 @@ readFrom (suc l) kind f s =
 unfoldable pub readWith : Class → FileKind → List ℕ → Read
 readWith class kind s = readFrom (suc (length s)) kind (unread class) s
 
+-- a whole file, where a book that names no class has the default class
 abbrev pub readFields : FileKind → List ℕ → Read
 readFields kind s = readWith default-class kind s

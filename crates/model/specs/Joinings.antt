@@ -75,6 +75,7 @@ pub record Transition : Type 0 where
   pub name : ℕ
   pub to : ℕ
 
+-- an arc by its parts
 abbrev pub transition : ℕ → ℕ → ℕ → Transition
 transition from name to = record { from = from; name = name; to = to }
 
@@ -102,6 +103,7 @@ pub record Route : Type 0 where
   pub names : List ℕ
   pub groups : List ℕ
 
+-- a path by its parts
 abbrev pub route : List ℕ → List ℕ → Route
 route names groups = record { names = names; groups = groups }
 
@@ -155,6 +157,7 @@ pub record Step : Type 0 where
   pub left : ℕ
   pub right : ℕ
 
+-- a step by its groups
 abbrev pub step : ℕ → ℕ → Step
 step x y = record { left = x; right = y }
 
@@ -205,5 +208,6 @@ joinFrom (suc n) c rows nodes groups =
       | s ∷ steps ↦ joinFrom n c rows nodes (merged (s .left) (s .right) groups)
     ]
 
+-- the groups of the defining joining of the rows' prefix tree
 unfoldable pub joinedGroups : Class → List Word → List ℕ
 joinedGroups c rows = joinFrom (length (treeOf rows)) c rows (treeOf rows) (apart (treeOf rows))

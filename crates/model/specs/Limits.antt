@@ -3,17 +3,19 @@
 use mathlib.Core.Bool.{Bool, true, false}
 use Prim.Native.Nat.{ℕ, zero, suc}
 
--- at most so many names, of at most so many bytes
+-- at most so many names
 abbrev pub name-limit : ℕ
 name-limit = 64
 
+-- at most so many bytes in a name
 abbrev pub name-bytes : ℕ
 name-bytes = 32
 
--- at most so many rows in a book, of at most so many entries
+-- at most so many rows in a book
 abbrev pub book-rows : ℕ
 book-rows = 256
 
+-- at most so many entries in a row
 abbrev pub row-limit : ℕ
 row-limit = 64
 
@@ -25,10 +27,11 @@ state-limit = 512
 abbrev pub setting-limit : ℕ
 setting-limit = 8
 
--- the longest input, and the shortest working area, in bytes
+-- the longest input, in bytes
 abbrev pub input-limit : ℕ
 input-limit = 65535
 
+-- the shortest working area, in bytes
 abbrev pub work-bytes : ℕ
 work-bytes = 65536
 

@@ -19,10 +19,11 @@ digits (suc f) n = elim (ltb n 10) [ true ↦ (48 + n) ∷ [] | false ↦ digits
 abbrev pub decimal : ℕ → List ℕ
 decimal n = digits 4 n
 
--- one byte each: newline, space, `+`, `-`, `>`
+-- a newline
 abbrev pub newline : List ℕ
 newline = 10 ∷ []
 
+-- a space
 abbrev pub space : List ℕ
 space = 32 ∷ []
 

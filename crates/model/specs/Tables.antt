@@ -13,6 +13,7 @@ pub record Arc : Type 0 where
   pub name : ℕ
   pub to : ℕ
 
+-- an arc by its parts
 abbrev pub arc : ℕ → ℕ → Arc
 arc name to = record { name = name; to = to }
 
@@ -21,6 +22,7 @@ pub record State : Type 0 where
   pub accepts : Bool
   pub arcs : List Arc
 
+-- a state by its parts
 abbrev pub state : Bool → List Arc → State
 state accepts arcs = record { accepts = accepts; arcs = arcs }
 
@@ -34,12 +36,15 @@ twoBytes n = n / 256 ∷ (n % 256 ∷ [])
 unfoldable pub fieldBytes : ℕ → List ℕ → List ℕ
 fieldBytes mark body = mark ∷ (twoBytes (length body) ++ body)
 
+-- the fields of the names, in order
 unfoldable pub nameFields : List (List ℕ) → List ℕ
 nameFields names = flatMap (fieldBytes 1) names
 
+-- the field of the class
 unfoldable pub classField : Class → List ℕ
 classField c = fieldBytes 2 (c .kind ∷ (c .first ∷ (c .second ∷ [])))
 
+-- the arcs of a state field, three bytes each
 unfoldable pub arcBytes : List Arc → List ℕ
 arcBytes arcs = flatMap (λ (a : Arc). a .name ∷ twoBytes (a .to)) arcs
 
@@ -47,6 +52,7 @@ arcBytes arcs = flatMap (λ (a : Arc). a .name ∷ twoBytes (a .to)) arcs
 unfoldable pub stateBody : State → List ℕ
 stateBody s = when (s .accepts) 1 ∷ arcBytes (s .arcs)
 
+-- the fields of the states, in order
 unfoldable pub stateFields : List State → List ℕ
 stateFields states = flatMap (λ (s : State). fieldBytes 4 (stateBody s)) states
 
@@ -67,6 +73,7 @@ unfoldable pub stateIn : List ℕ → State
 stateIn [] = state false []
 stateIn (b ∷ s) = state (eqb b 1) (arcsIn (length s) s)
 
+-- what the state fields of a table mean
 unfoldable pub statesIn : List (List ℕ) → List State
 statesIn bodies = map stateIn bodies
 
@@ -108,6 +115,7 @@ pub record Walk : Type 0 where
   pub at-state : ℕ
   pub taken : ℕ
 
+-- a walk by its parts
 abbrev pub walk-at : ℕ → ℕ → Walk
 walk-at q n = record { at-state = q; taken = n }
 
@@ -118,6 +126,7 @@ walkFrom states q n (x ∷ xs) =
     let t = targetIn x (getD states q no-state .arcs) in
     elim (eqb t 0) [ true ↦ walk-at q n | false ↦ walkFrom states (t - 1) (suc n) xs ]
 
+-- the walk of a row from the start
 unfoldable pub walk : List State → List ℕ → Walk
 walk states row = walkFrom states 0 0 row
 
@@ -143,9 +152,10 @@ unfoldable pub nameSet : List Arc → ℕ
 nameSet [] = 0
 nameSet (a ∷ arcs) = 2 ^ (a .name) + nameSet arcs
 
--- the names with an arc from the state reached, as a set, and how many they are
+-- the names with an arc from the state reached, as a set
 unfoldable pub nextNames : List State → List ℕ → ℕ
 nextNames states row = nameSet (reachedState states row .arcs)
 
+-- how many names have an arc from the state reached
 unfoldable pub nextCount : List State → List ℕ → ℕ
 nextCount states row = length (reachedState states row .arcs)

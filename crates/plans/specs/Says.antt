@@ -44,6 +44,7 @@ abbrev pub RewriteGives : List ℕ → List ℕ → List ℕ → List ℕ → Bu
 RewriteGives table work out out′ r =
     Gives (rewriteFault table work out) (rewritten table) (length (tableStates table)) 0 out out′ r
 
+-- the same with the working area before and after: what rewrite_table promises
 abbrev pub RewriteSays : List ℕ → List ℕ → List ℕ → List ℕ → List ℕ → Built → Type 0
 RewriteSays table work work′ out out′ r =
     Wrote (rewriteFault table work out) (rewritten table) (length (tableStates table)) 0 work work′ out out′ r
@@ -53,6 +54,7 @@ abbrev pub BuildGives : List ℕ → List ℕ → List ℕ → List ℕ → Buil
 BuildGives book work out out′ r =
     Gives (buildFault book work out) (bookTable (bookOf book)) (length (bookStates (bookOf book))) (joinsOf (bookOf book)) out out′ r
 
+-- the same with the working area before and after: what build_table promises
 abbrev pub BuildSays : List ℕ → List ℕ → List ℕ → List ℕ → List ℕ → Built → Type 0
 BuildSays book work work′ out out′ r =
     Wrote (buildFault book work out) (bookTable (bookOf book)) (length (bookStates (bookOf book))) (joinsOf (bookOf book))
