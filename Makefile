@@ -17,6 +17,7 @@ kit:
 	@command -v rt >/dev/null || { echo "make: the command 'rt' is missing: it comes with the Rattle kit (rattle-kit-5)"; exit 1; }
 
 run: kit
+	@echo "make run: proving what has changed; from nothing that takes about eight minutes" >&2
 	@rt check >/dev/null 2>&1 && echo "proved so far: $$(scripts/proved)" || { echo "make run: the proofs do not check; 'make check' says why"; exit 1; }
 
 test: kit
