@@ -17,7 +17,9 @@ mask-of-requires : tie.Need-mask-of-requires
 mask-of-requires c κs = search needs
 
 returns : tie.Need-returns
-returns c = bit-tested (c .before .before .before .args .work .now) (c .before .before .before .args .q) (c .mask-of .result) (c .mask-of .ensures)
+returns c =
+    bit-tested (c .before .before .before .args .work .now) (c .before .before .before .args .q) (c .mask-of .result)
+    (c .mask-of .ensures)
 
 pub has-bit-spec : {M : Type 1} → statement M
 has-bit-spec =

@@ -23,7 +23,9 @@ same-length : tie.Need-same-length
 same-length c = search needs
 
 returns : tie.Need-returns
-returns c = bit-stored (c .before .before .before .args .work .now) (c .before .before .before .args .q) (c .mask-of .result) (c .mask-of .ensures)
+returns c =
+    bit-stored (c .before .before .before .args .work .now) (c .before .before .before .args .q) (c .mask-of .result)
+    (c .mask-of .ensures)
 
 pub set-bit-spec : {M : Type 1} → statement M
 set-bit-spec =
