@@ -32,16 +32,24 @@ mul-wide16 : tie.Need-mul-wide16 Inv-loop μ-loop
 mul-wide16 c = omega (arith, c .before .loop .inv .2 .a-below, c .before .before .before .before .pre .0 .size)
 
 shared-slice-read-wide16 : tie.Need-shared-slice-read-wide16 Inv-loop μ-loop
-shared-slice-read-wide16 c = omega (arith, c .before .before .loop .inv .2 .a-below, c .before .before .before .before .before .pre .0 .size)
+shared-slice-read-wide16 c =
+    omega (arith, c .before .before .loop .inv .2 .a-below, c .before .before .before .before .before .pre .0 .size)
 
 wide16-requires : tie.Need-wide16-requires Inv-loop μ-loop
 wide16-requires c κs = search needs
 
 mul-wide16-2 : tie.Need-mul-wide16-2 Inv-loop μ-loop
-mul-wide16-2 c = omega (arith, c .before .before .before .loop .inv .2 .b-below, c .before .before .before .before .before .before .pre .0 .size)
+mul-wide16-2 c =
+    omega (arith, c .before .before .before .loop .inv .2 .b-below, c .before .before .before .before .before .before .pre .0 .size)
 
 shared-slice-read-wide16-2 : tie.Need-shared-slice-read-wide16-2 Inv-loop μ-loop
-shared-slice-read-wide16-2 c = omega (arith, c .before .before .before .before .loop .inv .2 .b-below, c .before .before .before .before .before .before .before .pre .0 .size)
+shared-slice-read-wide16-2 c =
+    omega (
+      arith,
+      c .before .before .before .before .loop .inv .2 .b-below,
+      c .before .before .before .before .before .before
+          .before .pre .0 .size,
+    )
 
 wide16-requires-2 : tie.Need-wide16-requires-2 Inv-loop μ-loop
 wide16-requires-2 c κs = search needs
@@ -74,7 +82,8 @@ loop-again c =
     let after =
     climbing-more (length groups) (start .args .m) (start .args .parents .now) (start .pre .0) (start .args .v) (start .args .w)
     (loop .i) (loop .a) (loop .b) (x .result) (y .result) groups (loop .groups) (two .last .0) (two .result)
-    (start .pre .1 .1 .0) (start .pre .1 .1 .1) (c .before .before .before .before .before .before .before .before .loop-test .taken) (x .ensures) (y .ensures) (loop .inv .2)
+    (start .pre .1 .1 .0) (start .pre .1 .1 .1) (c .before .before .before .before .before .before .before .before .loop-test .taken)
+    (x .ensures) (y .ensures) (loop .inv .2)
     (subst (λ (k : ℕ). JoinedTwo k (x .result) (y .result) (loop .groups) (two .last .0) (two .result)) (loop .inv .1)
     (two .ensures)) in
     (omega arith, two .kept .0 ∙ loop .inv .1, rw add-one after)

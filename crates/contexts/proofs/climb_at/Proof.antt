@@ -30,8 +30,17 @@ returns c =
 climb-requires : tie.Need-climb-requires
 climb-requires c κs =
     let start = c .before .before .before .before .before .before .before in
-    let low = start .pre .1 .0 .low (start .args .v) (start .pre .1 .1 .1) in
-    (start .pre .0, (start .pre .1 .1 .0, (start .pre .1 .1 .1, omega (arith, c .before .before .wide16 .ensures, low, start .pre .1 .1 .1))))
+    let low = start .pre .1 .0 .low (start .args .v) (start .pre .1 .1 .1) in (
+      start .pre .0,
+      (
+        start .pre .1 .1 .0,
+        (
+          start .pre .1 .1 .1,
+          omega
+              (arith, c .before .before .wide16 .ensures, low, start .pre .1 .1 .1),
+        ),
+      ),
+    )
 
 same-length : tie.Need-same-length
 same-length c = c .before .before .climb .kept .1 .1 .0

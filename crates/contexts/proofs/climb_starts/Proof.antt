@@ -22,12 +22,15 @@ copy-requires : tie.Need-copy-requires
 copy-requires c κs = front-length _ _ (c .before .before .before .before .pre .1 .1)
 
 array-share-prefix-starts : tie.Need-array-share-prefix-starts
-array-share-prefix-starts c = front-fits _ (c .before .before .before .before .before .before .args .groups .now) (c .before .copy .last .1 .0) _ (c .before .copy .ensures) refl
+array-share-prefix-starts c =
+    front-fits _ (c .before .before .before .before .before .before .args .groups .now) (c .before .copy .last .1 .0) _
+    (c .before .copy .ensures) refl
 
 slice-aggregate-climb-all : tie.Need-slice-aggregate-climb-all
 slice-aggregate-climb-all c =
     let copied = c .before .before .copy in
-    sym (ap length (front-again _ (c .before .before .before .before .before .before .before .args .groups .now) (copied .last .1 .0) _ (copied .ensures) refl))
+    sym (ap length (front-again _ (c .before .before .before .before .before .before .before .args .groups .now)
+    (copied .last .1 .0) _ (copied .ensures) refl))
 
 climb-all-requires : tie.Need-climb-all-requires
 climb-all-requires c κs =

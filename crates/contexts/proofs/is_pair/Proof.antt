@@ -73,7 +73,8 @@ returns-3 c =
     let work = start .args .work .now in
     let spot =
     c .before .place-of .ensures
-    ∙ ap₂ (λ (a b : ℕ). place (start .args .matrix) a b) (c .before .before .before .before .wide16 .ensures) (c .before .before .wide162 .ensures) in (
+    ∙ ap₂ (λ (a b : ℕ). place (start .args .matrix) a b) (c .before .before .before .before .wide16 .ensures)
+    (c .before .before .wide162 .ensures) in (
       λ t. record {
         classed = omega (arith, c .before .before .before .before .before .before .before .before .if1 .left);
         one-class = c .before .before .before .before .before .before .if2 .left;

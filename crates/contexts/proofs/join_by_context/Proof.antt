@@ -51,7 +51,8 @@ climb-starts-requires c κs =
 
 -- what the climbs promise, by the number of states at the start
 climbed-here :
-    (c : tie.After-climb-starts) → let start = c .before .before .before .before .before .before .before .before .before .before .before .before .before .before in
+    (c : tie.After-climb-starts) → let start = c .before .before .before .before .before .before .before .before .before .before
+    .before .before .before .before in
     let starts = c .before .before .before .before .before .before .before .by-suffix .last .1 .1 .1 .0 in
     ClimbedBelow (length (start .args .groups .now)) (length (start .args .groups .now)) (start .args .k - start .args .h)
     (start .args .parents .now) starts starts (c .climb-starts .last .1 .1 .0)

@@ -16,23 +16,58 @@ use Rattle.contexts.proofs.join_pair.Tie as tie
 is-pair-requires : tie.Need-is-pair-requires
 is-pair-requires c κs =
     let start = c .before .before .before .before .before in
-    let rest = start .pre .1 in
-    ((start .pre .0 .classes-size, start .pre .0 .few), (start .pre .0 .old-below, (rest .0, (rest .1 .0, (rest .1 .1 .0, rest .1 .1 .1 .0)))))
+    let rest = start .pre .1 in (
+      (start .pre .0 .classes-size, start .pre .0 .few),
+      (
+        start .pre .0 .old-below,
+        (
+          rest .0,
+          (
+            rest .1 .0,
+            (rest .1 .1 .0, rest .1 .1 .1 .0),
+          ),
+        ),
+      ),
+    )
 
 mul-wide16 : tie.Need-mul-wide16
-mul-wide16 c = omega (arith, c .before .before .before .before .before .before .before .pre .0 .parents-size, c .before .before .before .before .before .before .before .pre .1 .1 .0)
+mul-wide16 c =
+    omega (
+      arith,
+      c .before .before .before .before .before .before .before .pre .0 .parents-size,
+      c .before .before .before
+          .before .before .before .before .pre .1 .1 .0,
+    )
 
 shared-slice-read-wide16 : tie.Need-shared-slice-read-wide16
-shared-slice-read-wide16 c = omega (arith, c .before .before .before .before .before .before .before .before .pre .0 .parents-size, c .before .before .before .before .before .before .before .before .pre .1 .1 .0)
+shared-slice-read-wide16 c =
+    omega (
+      arith,
+      c .before .before .before .before .before .before .before .before .pre .0 .parents-size,
+      c .before .before
+          .before .before .before .before .before .before .pre .1 .1 .0,
+    )
 
 wide16-requires : tie.Need-wide16-requires
 wide16-requires c κs = search needs
 
 mul-wide16-2 : tie.Need-mul-wide16-2
-mul-wide16-2 c = omega (arith, c .before .before .before .before .before .before .before .before .before .pre .0 .parents-size, c .before .before .before .before .before .before .before .before .before .pre .1 .1 .1 .0)
+mul-wide16-2 c =
+    omega (
+      arith,
+      c .before .before .before .before .before .before .before .before .before .pre .0 .parents-size,
+      c .before
+          .before .before .before .before .before .before .before .before .pre .1 .1 .1 .0,
+    )
 
 shared-slice-read-wide16-2 : tie.Need-shared-slice-read-wide16-2
-shared-slice-read-wide16-2 c = omega (arith, c .before .before .before .before .before .before .before .before .before .before .pre .0 .parents-size, c .before .before .before .before .before .before .before .before .before .before .pre .1 .1 .1 .0)
+shared-slice-read-wide16-2 c =
+    omega (
+      arith,
+      c .before .before .before .before .before .before .before .before .before .before .pre .0 .parents-size,
+      c
+          .before .before .before .before .before .before .before .before .before .before .pre .1 .1 .1 .0,
+    )
 
 wide16-requires-2 : tie.Need-wide16-requires-2
 wide16-requires-2 c κs = search needs
@@ -56,20 +91,24 @@ same-length c = c .before .before .join-states .kept .0
 
 returns : tie.Need-returns
 returns c =
-    let start = c .before .before .before .before .before .before .before .before .before .before .before .before .before .before .before in
+    let start = c .before .before .before .before .before .before .before .before .before .before .before .before .before
+    .before .before in
     let two = c .before .before .join-states in
     let x = c .before .before .before .before .before .before .wide16 in
     let y = c .before .before .before .before .wide162 in
-    pair-joined (length (start .args .old .now)) (start .args .parents .now) (start .args .classes .now) (start .args .old .now) (start .args .work .now) (start .args .matrix) (start .args .e)
+    pair-joined (length (start .args .old .now)) (start .args .parents .now) (start .args .classes .now) (start .args .old .now)
+    (start .args .work .now) (start .args .matrix) (start .args .e)
     (start .args .f) (x .result) (y .result) (start .args .groups .now) (two .last .0) (two .result) (x .ensures) (y .ensures)
-    (c .before .before .before .before .before .before .before .before .before .is-pair .ensures .0 (c .before .before .before .before .before .before .before .before .if1 .taken))
+    (c .before .before .before .before .before .before .before .before .before .is-pair .ensures .0
+    (c .before .before .before .before .before .before .before .before .if1 .taken))
     (subst (λ (k : ℕ). JoinedTwo k (x .result) (y .result) (start .args .groups .now) (two .last .0) (two .result))
     (start .pre .1 .1 .1 .1 .1 .0) (two .ensures))
 
 returns-2 : tie.Need-returns-2
 returns-2 c =
     let start = c .before .before .before .before .before .before .before in
-    pair-skipped (length (start .args .old .now)) (start .args .parents .now) (start .args .classes .now) (start .args .old .now) (start .args .work .now) (start .args .matrix) (start .args .e)
+    pair-skipped (length (start .args .old .now)) (start .args .parents .now) (start .args .classes .now) (start .args .old .now)
+    (start .args .work .now) (start .args .matrix) (start .args .e)
     (start .args .f) (start .args .groups .now) (start .pre .1 .1 .1 .1 .1 .1)
     (λ p. true≢false (sym (c .before .is-pair .ensures .1 p) ∙ c .if1 .left))
 

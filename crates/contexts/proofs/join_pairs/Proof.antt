@@ -24,7 +24,8 @@ loop-holds c =
     let start = c .before .before .before .before .before in (
       omega arith,
       refl,
-      joining-none (length (start .args .old .now)) (start .args .matrix) (start .args .parents .now) (start .args .classes .now) (start .args .old .now) (start .args .work .now) (start .pre .0)
+      joining-none (length (start .args .old .now)) (start .args .matrix) (start .args .parents .now) (start .args .classes .now)
+          (start .args .old .now) (start .args .work .now) (start .pre .0)
           (start .args .groups .now) (start .pre .1 .1 .1 .1),
     )
 
@@ -60,7 +61,8 @@ returns c =
     let loop = c .before .loop in
     let n = length (start .args .old .now) in
     let all : loop .e ≡ n = omega arith in
-    subst (λ (k : ℕ). Joining n k 0 (start .args .parents .now) (start .args .classes .now) (start .args .old .now) (start .args .work .now) (start .args .matrix) (start .args .groups .now)
+    subst (λ (k : ℕ). Joining n k 0 (start .args .parents .now) (start .args .classes .now) (start .args .old .now)
+    (start .args .work .now) (start .args .matrix) (start .args .groups .now)
     (loop .groups) (loop .joined)) all (loop .inv .2)
 
 pub join-pairs-spec : {M : Type 1} → statement M

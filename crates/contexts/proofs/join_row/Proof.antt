@@ -29,7 +29,8 @@ loop-holds c =
       refl,
       start .pre .1 .1 .1 .1 .1,
       λ base before joining.
-          subst (λ (b : Bool). Joining (length (start .args .old .now)) (start .args .e) 0 (start .args .parents .now) (start .args .classes .now) (start .args .old .now) (start .args .work .now)
+          subst (λ (b : Bool). Joining (length (start .args .old .now)) (start .args .e) 0 (start .args .parents .now)
+          (start .args .classes .now) (start .args .old .now) (start .args .work .now)
           (start .args .matrix) base (start .args .groups .now) b) (sym (or-false before)) joining,
     )
 
@@ -62,9 +63,11 @@ loop-again c =
       done .ensures .labelled,
       λ base before joining.
           rw add-one
-          (subst (λ (b : Bool). Joining n (start .args .e) (suc (loop .f)) (start .args .parents .now) (start .args .classes .now) (start .args .old .now) (start .args .work .now)
+          (subst (λ (b : Bool). Joining n (start .args .e) (suc (loop .f)) (start .args .parents .now) (start .args .classes .now)
+          (start .args .old .now) (start .args .work .now)
           (start .args .matrix) base (done .last .1 .1 .1 .1 .1 .0) b) (or-assoc before (loop .joined) (done .result))
-          (joining-more n (start .args .matrix) (start .args .parents .now) (start .args .classes .now) (start .args .old .now) (start .args .work .now) (start .pre .0) (start .args .e) (loop .f)
+          (joining-more n (start .args .matrix) (start .args .parents .now) (start .args .classes .now) (start .args .old .now)
+          (start .args .work .now) (start .pre .0) (start .args .e) (loop .f)
           base (loop .groups) (done .last .1 .1 .1 .1 .1 .0) (before || loop .joined) (done .result) (start .pre .1 .1 .0) (omega arith)
           (loop .inv .3 base before joining) (done .ensures))),
     )
@@ -80,9 +83,11 @@ returns c =
     let all : loop .f ≡ n = omega arith in
     record {
       row = λ base before joining.
-          joining-row n (start .args .matrix) (start .args .parents .now) (start .args .classes .now) (start .args .old .now) (start .args .work .now) (start .pre .0) (start .args .e) base (loop .groups)
+          joining-row n (start .args .matrix) (start .args .parents .now) (start .args .classes .now) (start .args .old .now)
+          (start .args .work .now) (start .pre .0) (start .args .e) base (loop .groups)
           (before || loop .joined)
-          (subst (λ (k : ℕ). Joining n (start .args .e) k (start .args .parents .now) (start .args .classes .now) (start .args .old .now) (start .args .work .now) (start .args .matrix) base
+          (subst (λ (k : ℕ). Joining n (start .args .e) k (start .args .parents .now) (start .args .classes .now)
+          (start .args .old .now) (start .args .work .now) (start .args .matrix) base
           (loop .groups) (before || loop .joined)) all (loop .inv .3 base before joining));
     }
 

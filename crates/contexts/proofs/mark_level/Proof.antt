@@ -24,7 +24,8 @@ sub-fill-matrix : tie.Need-sub-fill-matrix Inv-loop μ-loop
 sub-fill-matrix c = omega (arith, c .before .before .before .before .before .pre .1 .0)
 
 fill-matrix-requires : tie.Need-fill-matrix-requires Inv-loop μ-loop
-fill-matrix-requires c κs = (omega (arith, c .before .before .before .before .before .pre .1 .0), c .before .before .before .before .before .pre .1 .1)
+fill-matrix-requires c κs =
+    (omega (arith, c .before .before .before .before .before .pre .1 .0), c .before .before .before .before .before .pre .1 .1)
 
 loop-holds : tie.Need-loop-holds Inv-loop μ-loop
 loop-holds c = (omega arith, refl, λ base marking. marking)
@@ -61,9 +62,11 @@ returns c =
     let filled = c .before .before .before .before .fill-matrix in
     let n = length (start .args .old .now) in
     let all : loop .e ≡ n = omega arith in
-    subst (λ (k : ℕ). Marking n k 0 (start .args .matrix) (start .args .parents .now) (start .args .classes .now) (start .args .old .now) (start .args .work .now) (loop .work)) all
+    subst (λ (k : ℕ). Marking n k 0 (start .args .matrix) (start .args .parents .now) (start .args .classes .now)
+    (start .args .old .now) (start .args .work .now) (loop .work)) all
     (loop .inv .2 (start .args .work .now)
-    (marking-none n (start .args .matrix) (start .args .parents .now) (start .args .classes .now) (start .args .old .now) (start .pre .0) (start .pre .1 .0) (start .args .work .now) (filled .last .0)
+    (marking-none n (start .args .matrix) (start .args .parents .now) (start .args .classes .now) (start .args .old .now)
+    (start .pre .0) (start .pre .1 .0) (start .args .work .now) (filled .last .0)
     (filled .ensures)))
 
 pub mark-level-spec : {M : Type 1} → statement M

@@ -28,7 +28,8 @@ loop-holds c =
       omega arith,
       omega (arith, start .pre .1 .0),
       refl,
-      levels-none (length (start .args .old .now)) (start .args .parents .now) (start .args .classes .now) (start .args .old .now) (start .pre .0) (start .args .work .now) (filled .last .0)
+      levels-none (length (start .args .old .now)) (start .args .parents .now) (start .args .classes .now) (start .args .old .now)
+          (start .pre .0) (start .args .work .now) (filled .last .0)
           (filled .ensures),
     )
 
@@ -57,7 +58,8 @@ loop-again c =
       omega arith,
       done .kept .1 .1 .1 .0 ∙ loop .inv .2,
       rw add-one
-          (levels-more (length (start .args .old .now)) (start .args .parents .now) (start .args .classes .now) (start .args .old .now) (start .pre .0) (loop .j) (loop .matrix) (loop .work)
+          (levels-more (length (start .args .old .now)) (start .args .parents .now) (start .args .classes .now)
+          (start .args .old .now) (start .pre .0) (loop .j) (loop .matrix) (loop .work)
           (done .last .1 .1 .1 .0) (loop .inv .0) (loop .inv .3) (done .ensures)),
     )
 
@@ -69,7 +71,8 @@ returns c =
     let start = c .before .before .before .before .before .before .before .before .before .before in
     let loop = c .before .loop in
     let all : loop .j ≡ start .args .m = omega arith in
-    subst (λ (k : ℕ). LevelsMarked (length (start .args .old .now)) k (loop .matrix) (start .args .parents .now) (start .args .classes .now) (start .args .old .now) (loop .work)) all (loop .inv .3)
+    subst (λ (k : ℕ). LevelsMarked (length (start .args .old .now)) k (loop .matrix) (start .args .parents .now)
+    (start .args .classes .now) (start .args .old .now) (loop .work)) all (loop .inv .3)
 
 pub mark-levels-spec : {M : Type 1} → statement M
 mark-levels-spec =

@@ -36,9 +36,11 @@ sub-place-of c = omega (arith, c .before .before .before .before .before .before
 place-of-requires : tie.Need-place-of-requires
 place-of-requires c κs =
     let start = c .before .before .before .before .before .before .before .before .before .before in
-    let e-small = above-below (length (start .args .old .now)) (start .args .matrix) (start .args .parents .now) (start .args .classes .now) (start .args .old .now) (start .pre .0) (start .pre .1 .0)
+    let e-small = above-below (length (start .args .old .now)) (start .args .matrix) (start .args .parents .now)
+    (start .args .classes .now) (start .args .old .now) (start .pre .0) (start .pre .1 .0)
     (start .args .e) (start .pre .1 .1 .0) in
-    let f-small = above-below (length (start .args .old .now)) (start .args .matrix) (start .args .parents .now) (start .args .classes .now) (start .args .old .now) (start .pre .0) (start .pre .1 .0)
+    let f-small = above-below (length (start .args .old .now)) (start .args .matrix) (start .args .parents .now)
+    (start .args .classes .now) (start .args .old .now) (start .pre .0) (start .pre .1 .0)
     (start .args .f) (start .pre .1 .1 .1 .0) in (
       omega (arith, start .pre .1 .0),
       (omega (arith, c .before .before .class-above .ensures, e-small), omega (arith, c .before .class-above2 .ensures, f-small)),
@@ -47,11 +49,21 @@ place-of-requires c κs =
 set-bit-requires : tie.Need-set-bit-requires
 set-bit-requires c κs =
     let start = c .before .before .before .before .before .before .before .before .before .before .before in
-    let e-small = above-below (length (start .args .old .now)) (start .args .matrix) (start .args .parents .now) (start .args .classes .now) (start .args .old .now) (start .pre .0) (start .pre .1 .0)
+    let e-small = above-below (length (start .args .old .now)) (start .args .matrix) (start .args .parents .now)
+    (start .args .classes .now) (start .args .old .now) (start .pre .0) (start .pre .1 .0)
     (start .args .e) (start .pre .1 .1 .0) in
-    let f-small = above-below (length (start .args .old .now)) (start .args .matrix) (start .args .parents .now) (start .args .classes .now) (start .args .old .now) (start .pre .0) (start .pre .1 .0)
+    let f-small = above-below (length (start .args .old .now)) (start .args .matrix) (start .args .parents .now)
+    (start .args .classes .now) (start .args .old .now) (start .pre .0) (start .pre .1 .0)
     (start .args .f) (start .pre .1 .1 .1 .0) in (
-      omega (arith, c .place-of .ensures, c .before .before .before .class-above .ensures, c .before .before .class-above2 .ensures, e-small, f-small),
+      omega (
+        arith,
+        c .place-of .ensures,
+        c .before .before .before .class-above .ensures,
+        c .before
+            .before .class-above2 .ensures,
+        e-small,
+        f-small,
+      ),
       start .pre .1 .1 .1 .1,
     )
 
@@ -63,8 +75,10 @@ returns c =
     let start = c .before .before .before .before .before .before .before .before .before .before .before .before .before .before in
     let spot =
     c .before .before .before .place-of .ensures
-    ∙ ap₂ (λ (a b : ℕ). place (1 - start .args .matrix) a b) (c .before .before .before .before .before .before .class-above .ensures) (c .before .before .before .before .before .class-above2 .ensures) in
-    put (c .before .before .before .before .before .before .before .before .is-pair .ensures .0 (c .before .before .before .before .before .before .before .if1 .taken))
+    ∙ ap₂ (λ (a b : ℕ). place (1 - start .args .matrix) a b) (c .before .before .before .before .before .before .class-above .ensures)
+    (c .before .before .before .before .before .class-above2 .ensures) in
+    put (c .before .before .before .before .before .before .before .before .is-pair .ensures .0
+    (c .before .before .before .before .before .before .before .if1 .taken))
     (c .before .before .set-bit .ensures ∙ ap (λ (q : ℕ). withBit (start .args .work .now) q) spot)
 
 same-length-2 : tie.Need-same-length-2

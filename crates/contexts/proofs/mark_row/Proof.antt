@@ -44,7 +44,8 @@ loop-again c =
       done .kept .1 .1 .1 .0 ∙ loop .inv .1,
       λ base marking.
           rw add-one
-          (marking-more (length (start .args .old .now)) (start .args .matrix) (start .args .parents .now) (start .args .classes .now) (start .args .old .now) (start .pre .0) (start .pre .1 .0)
+          (marking-more (length (start .args .old .now)) (start .args .matrix) (start .args .parents .now) (start .args .classes .now)
+          (start .args .old .now) (start .pre .0) (start .pre .1 .0)
           base (loop .work) (start .args .e) (loop .f) (start .pre .1 .1 .0) (omega arith)
           (omega (arith, loop .inv .1, start .pre .1 .1 .1)) (loop .inv .2 base marking) (done .last .1 .1 .1 .0) (done .ensures)),
     )
@@ -60,8 +61,10 @@ returns c =
     let all : loop .f ≡ n = omega arith in
     record {
       row = λ base marking.
-          marking-row n (start .args .matrix) (start .args .parents .now) (start .args .classes .now) (start .args .old .now) (start .pre .0) (start .pre .1 .0) base (loop .work) (start .args .e)
-          (subst (λ (k : ℕ). Marking n (start .args .e) k (start .args .matrix) (start .args .parents .now) (start .args .classes .now) (start .args .old .now) base (loop .work)) all
+          marking-row n (start .args .matrix) (start .args .parents .now) (start .args .classes .now) (start .args .old .now)
+          (start .pre .0) (start .pre .1 .0) base (loop .work) (start .args .e)
+          (subst (λ (k : ℕ). Marking n (start .args .e) k (start .args .matrix) (start .args .parents .now)
+          (start .args .classes .now) (start .args .old .now) base (loop .work)) all
           (loop .inv .2 base marking));
     }
 

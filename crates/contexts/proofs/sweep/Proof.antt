@@ -29,10 +29,14 @@ array-borrow-prefix-old : tie.Need-array-borrow-prefix-old
 array-borrow-prefix-old c = search needs
 
 slice-aggregate-copy : tie.Need-slice-aggregate-copy
-slice-aggregate-copy c = sym (front-length _ _ (c .before .before .before .before .before .before .before .before .before .before .before .before .pre .0 .few-states))
+slice-aggregate-copy c =
+    sym (front-length _ _
+    (c .before .before .before .before .before .before .before .before .before .before .before .before .pre .0 .few-states))
 
 copy-requires : tie.Need-copy-requires
-copy-requires c κs = front-length _ _ (c .before .before .before .before .before .before .before .before .before .before .before .before .pre .0 .few-states)
+copy-requires c κs =
+    front-length _ _ (c .before .before .before .before .before .before .before .before .before .before .before
+    .before .pre .0 .few-states)
 
 array-share-prefix-classes : tie.Need-array-share-prefix-classes
 array-share-prefix-classes c =
@@ -47,7 +51,8 @@ array-share-prefix-classes c =
 
 slice-aggregate-sweep-by : tie.Need-slice-aggregate-sweep-by
 slice-aggregate-sweep-by c =
-    let start = c .before .before .before .before .before .before .before .before .before .before .before .before .before .before .before in
+    let start = c .before .before .before .before .before .before .before .before .before .before .before .before .before
+    .before .before in
     let n = length (start .args .groups .now) in
     let cut = c .before .before .before .before .before .before .before .before .suffix-classes in
     let front = cut .last .1 .1 .1 .0 in
@@ -59,16 +64,20 @@ slice-aggregate-sweep-by c =
 array-share-prefix-old : tie.Need-array-share-prefix-old
 array-share-prefix-old c =
     let copied = c .before .before .copy in
-    front-fits _ (c .before .before .before .before .before .before .before .before .before .before .before .before .before .before .before .args .groups .now) (copied .last .1 .0) _ (copied .ensures) refl
+    front-fits _ (c .before .before .before .before .before .before .before .before .before .before .before .before .before
+    .before .before .args .groups .now) (copied .last .1 .0) _ (copied .ensures) refl
 
 slice-aggregate-sweep-by-2 : tie.Need-slice-aggregate-sweep-by-2
 slice-aggregate-sweep-by-2 c =
     let copied = c .before .before .before .copy in
-    sym (ap length (front-again _ (c .before .before .before .before .before .before .before .before .before .before .before .before .before .before .before .before .args .groups .now) (copied .last .1 .0) _ (copied .ensures) refl))
+    sym (ap length (front-again _
+    (c .before .before .before .before .before .before .before .before .before .before .before .before .before .before .before
+    .before .args .groups .now) (copied .last .1 .0) _ (copied .ensures) refl))
 
 sweep-by-requires : tie.Need-sweep-by-requires
 sweep-by-requires c κs =
-    let start = c .before .before .before .before .before .before .before .before .before .before .before .before .before .before .before .before .before .before in
+    let start = c .before .before .before .before .before .before .before .before .before .before .before .before .before
+    .before .before .before .before .before in
     let n = length (start .args .groups .now) in
     let cut = c .before .before .before .before .before .before .before .before .before .before .before .suffix-classes in
     let front = cut .last .1 .1 .1 .0 in
@@ -77,7 +86,8 @@ sweep-by-requires c κs =
     (start .pre .0 .few-states) (cut .ensures) in
     let copied = c .before .before .before .before .before .copy in
     let same = front-again n (start .args .groups .now) (copied .last .1 .0) _ (copied .ensures) refl in (
-      sweep-pairing (start .args .h) (start .args .m) (start .args .parents .now) (start .args .names .now) front (start .args .groups .now) _ _
+      sweep-pairing (start .args .h) (start .args .m) (start .args .parents .now) (start .args .names .now) front
+          (start .args .groups .now) _ _
           (start .pre .0) by (front-again n front front _ refl (by .size)) same (start .pre .1 .1 .1 .0),
       (
         start .pre .1 .0,
@@ -99,9 +109,11 @@ same-length-2 c = search needs
 
 returns : tie.Need-returns
 returns c =
-    let start = c .before .before .before .before .before .before .before .before .before .before .before .before .before .before .before .before .before .before .before .before .before .before .before in
+    let start = c .before .before .before .before .before .before .before .before .before .before .before .before .before
+    .before .before .before .before .before .before .before .before .before .before in
     let n = length (start .args .groups .now) in
-    let cut = c .before .before .before .before .before .before .before .before .before .before .before .before .before .before .before .before .suffix-classes in
+    let cut = c .before .before .before .before .before .before .before .before .before .before .before .before .before .before
+    .before .before .suffix-classes in
     let front = cut .last .1 .1 .1 .0 in
     let by =
     classes-front n (start .args .h) (replicate 512 0) (start .args .parents .now) (start .args .names .now) front
@@ -109,8 +121,10 @@ returns c =
     let copied = c .before .before .before .before .before .before .before .before .before .before .copy in
     let same = front-again n (start .args .groups .now) (copied .last .1 .0) _ (copied .ensures) refl in
     let done = c .before .before .before .before .sweep-by in
-    sweep-swept (start .args .h) (start .args .m) (start .args .parents .now) (start .args .names .now) front (start .args .groups .now) _ _
-    (start .pre .0) by (front-again n front front _ refl (by .size)) same (done .last .1 .1 .1 .1 .0) (done .result) (start .pre .1 .1 .1 .1 .0) (done .ensures)
+    sweep-swept (start .args .h) (start .args .m) (start .args .parents .now) (start .args .names .now) front
+    (start .args .groups .now) _ _
+    (start .pre .0) by (front-again n front front _ refl (by .size)) same (done .last .1 .1 .1 .1 .0) (done .result)
+    (start .pre .1 .1 .1 .1 .0) (done .ensures)
 
 pub sweep-spec : {M : Type 1} → statement M
 sweep-spec =

@@ -48,7 +48,8 @@ returns c =
     let groups = done .last .1 .1 .1 .1 .1 .0 in
     joins-sweep n (start .args .m) (levels .result) (start .args .parents .now) (start .args .classes .now) (start .args .old .now) work
     groups (done .result) (start .pre .1 .0) (start .pre .0) (levels .ensures)
-    (subst (λ (l : List ℕ). Joining n n 0 (start .args .parents .now) (start .args .classes .now) (start .args .old .now) work (levels .result) l groups (done .result))
+    (subst (λ (l : List ℕ). Joining n n 0 (start .args .parents .now) (start .args .classes .now) (start .args .old .now) work
+    (levels .result) l groups (done .result))
     (start .pre .1 .1 .1 .0) (done .ensures))
 
 pub sweep-by-spec : {M : Type 1} → statement M

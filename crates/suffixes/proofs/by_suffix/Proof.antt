@@ -22,7 +22,8 @@ same-length-2 c = search needs
 
 returns : tie.Need-returns
 returns c =
-    let start = c .before .before .before .before .before .before .before .before .before .before .before .before .before .before .before in
+    let start = c .before .before .before .before .before .before .before .before .before .before .before .before .before
+    .before .before in
     let classed = c .before .before .before .before .before .before .before .before .suffix-classes in
     let done = c .before .before .group in
     let grouped : Grouped (length (start .args .groups .now)) (classed .last .1 .1 .1 .0) (done .last .0) =

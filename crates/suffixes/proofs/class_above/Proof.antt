@@ -25,7 +25,9 @@ wide16-requires-2 : tie.Need-wide16-requires-2
 wide16-requires-2 c κs = search needs
 
 returns : tie.Need-returns
-returns c = c .wide162 .ensures ∙ ap (λ (x : ℕ). getD (c .before .before .before .before .before .before .args .old .now) x 0) (c .before .before .wide16 .ensures)
+returns c =
+    c .wide162 .ensures ∙ ap (λ (x : ℕ). getD (c .before .before .before .before .before .before .args .old .now) x 0)
+    (c .before .before .wide16 .ensures)
 
 pub class-above-spec : {M : Type 1} → statement M
 class-above-spec =

@@ -21,7 +21,9 @@ small-column c =
 -- v has a class
 classed-here :
     (c : tie.After-wide8) →
-    Classed (c .before .before .before .before .before .before .before .before .before .args .old .now) (c .before .before .before .before .before .before .before .before .before .args .parents .now) (c .before .before .before .before .before .before .before .before .before .args .v)
+    Classed (c .before .before .before .before .before .before .before .before .before .args .old .now)
+    (c .before .before .before .before .before .before .before .before .before .args .parents .now)
+    (c .before .before .before .before .before .before .before .before .before .args .v)
 classed-here c = (omega arith, omega (arith, c .before .before .if2 .left, c .before .before .before .class-above .ensures))
 
 -- what stands in the cell of v
@@ -29,11 +31,16 @@ cell-is :
     (c : tie.After-cell) →
     c .cell .result
     ≡ cellAt (c .before .before .before .before .before .before .before .before .before .before .before .args .work .now)
-    (above (c .before .before .before .before .before .before .before .before .before .before .before .args .old .now) (c .before .before .before .before .before .before .before .before .before .before .before .args .parents .now) (c .before .before .before .before .before .before .before .before .before .before .before .args .v))
-    (getD (c .before .before .before .before .before .before .before .before .before .before .before .args .names .now) (c .before .before .before .before .before .before .before .before .before .before .before .args .v) 0)
+    (above (c .before .before .before .before .before .before .before .before .before .before .before .args .old .now)
+    (c .before .before .before .before .before .before .before .before .before .before .before .args .parents .now)
+    (c .before .before .before .before .before .before .before .before .before .before .before .args .v))
+    (getD (c .before .before .before .before .before .before .before .before .before .before .before .args .names .now)
+    (c .before .before .before .before .before .before .before .before .before .before .before .args .v) 0)
 cell-is c =
     c .cell .ensures .value
-    ∙ ap₂ (λ (a b : ℕ). cellAt (c .before .before .before .before .before .before .before .before .before .before .before .args .work .now) a b) (c .before .before .before .before .before .class-above .ensures)
+    ∙ ap₂ (λ (a b : ℕ). cellAt
+    (c .before .before .before .before .before .before .before .before .before .before .before .args .work .now) a b)
+    (c .before .before .before .before .before .class-above .ensures)
     (c .before .before .wide8 .ensures)
 
 returns : tie.Need-returns
@@ -57,7 +64,14 @@ wide8-requires : tie.Need-wide8-requires
 wide8-requires c κs = search needs
 
 cell-requires : tie.Need-cell-requires
-cell-requires c κs = (omega (arith, c .before .before .before .if2 .left), (small-column (c .before), c .before .before .before .before .before .before .before .before .before .before .pre .1 .1))
+cell-requires c κs = (
+  omega (arith, c .before .before .before .if2 .left),
+  (
+    small-column
+        (c .before),
+    c .before .before .before .before .before .before .before .before .before .before .pre .1 .1,
+  ),
+)
 
 is-earlier-requires : tie.Need-is-earlier-requires
 is-earlier-requires c κs = search needs
@@ -80,7 +94,20 @@ returns-3 c =
 set-cell-requires : tie.Need-set-cell-requires
 set-cell-requires c κs = (
   omega (arith, c .before .before .before .before .before .before .before .if2 .left),
-  (small-column (c .before .before .before .before .before), (omega (arith, c .before .before .before .before .before .before .before .before .before .before .before .before .before .before .pre .0 .few-states, c .before .before .before .before .before .before .before .before .before .before .before .before .before .before .pre .1 .0), c .before .before .before .before .before .before .before .before .before .before .before .before .before .before .pre .1 .1)),
+  (
+    small-column (c .before .before .before .before .before),
+    (
+      omega (
+        arith,
+        c .before .before .before .before .before .before .before .before .before .before .before .before .before
+            .before .pre .0 .few-states,
+        c .before .before .before .before .before .before .before .before .before .before .before .before
+            .before .before .pre .1 .0,
+      ),
+      c .before .before .before .before .before .before .before .before .before .before .before .before
+          .before .before .pre .1 .1,
+    ),
+  ),
 )
 
 narrow16-requires-2 : tie.Need-narrow16-requires-2
@@ -91,7 +118,8 @@ same-length-2 c = search needs
 
 returns-4 : tie.Need-returns-4
 returns-4 c =
-    let start = c .before .before .before .before .before .before .before .before .before .before .before .before .before .before .before .before .before .before in
+    let start = c .before .before .before .before .before .before .before .before .before .before .before .before .before
+    .before .before .before .before .before in
     let place = cell-is (c .before .before .before .before .before .before .before) in
     let answer = c .before .before .before .before .before .before .is-earlier .ensures in
     first (classed-here (c .before .before .before .before .before .before .before .before .before))
@@ -101,7 +129,8 @@ returns-4 c =
     (sym place) k)) ∙ c .before .before .before .before .before .if3 .left))
     (c .narrow162 .ensures)
     (c .before .before .before .set-cell .ensures
-    ∙ ap₂ (λ (a b : ℕ). withCell (start .args .work .now) a b (start .args .v)) (c .before .before .before .before .before .before .before .before .before .before .before .before .class-above .ensures)
+    ∙ ap₂ (λ (a b : ℕ). withCell (start .args .work .now) a b (start .args .v))
+    (c .before .before .before .before .before .before .before .before .before .before .before .before .class-above .ensures)
     (c .before .before .before .before .before .before .before .before .before .wide8 .ensures))
 
 pub class-at-spec : {M : Type 1} → statement M

@@ -10,7 +10,8 @@ use Rattle.suffixes.proofs.next_classes.Statement.{statement}
 use Rattle.suffixes.proofs.next_classes.Tie as tie
 
 abbrev Inv-loop : tie.InvT-loop
-Inv-loop old parents names classes₀ work₀ v₀ classes work v = (v ≤ length old) × (length classes ≡ length old) × (length work ≡ length work₀) × Passed old parents names v classes work
+Inv-loop old parents names classes₀ work₀ v₀ classes work v =
+    (v ≤ length old) × (length classes ≡ length old) × (length work ≡ length work₀) × Passed old parents names v classes work
 
 abbrev μ-loop : tie.MeasureT-loop
 μ-loop old parents names classes₀ work₀ v₀ classes work v = length old - v
@@ -62,7 +63,8 @@ returns c =
     let all : loop .v ≡ length (start .args .old .now) = omega arith in
     passed-all (length (start .args .old .now)) (start .args .parents .now) (start .args .names .now) (start .pre .0)
     (start .args .old .now) (loop .classes) (loop .work) (loop .inv .1)
-    (subst (λ (k : ℕ). Passed (start .args .old .now) (start .args .parents .now) (start .args .names .now) k (loop .classes) (loop .work))
+    (subst (λ (k : ℕ). Passed (start .args .old .now) (start .args .parents .now) (start .args .names .now) k (loop .classes)
+    (loop .work))
     all (loop .inv .3))
 
 pub next-classes-spec : {M : Type 1} → statement M

@@ -21,11 +21,14 @@ copy-requires : tie.Need-copy-requires
 copy-requires c κs = front-length _ _ (c .before .before .before .before .before .before .pre .0 .few-states)
 
 array-share-prefix-old : tie.Need-array-share-prefix-old
-array-share-prefix-old c = front-fits _ (c .before .before .before .before .before .before .before .before .args .classes .now) (c .before .copy .last .1 .0) _ (c .before .copy .ensures) refl
+array-share-prefix-old c =
+    front-fits _ (c .before .before .before .before .before .before .before .before .args .classes .now)
+    (c .before .copy .last .1 .0) _ (c .before .copy .ensures) refl
 
 slice-aggregate-next-classes : tie.Need-slice-aggregate-next-classes
 slice-aggregate-next-classes c =
-    sym (ap length (front-again _ (c .before .before .before .before .before .before .before .before .before .args .classes .now) (c .before .before .copy .last .1 .0) _
+    sym (ap length (front-again _ (c .before .before .before .before .before .before .before .before .before .args .classes .now)
+    (c .before .before .copy .last .1 .0) _
     (c .before .before .copy .ensures) refl))
 
 next-classes-requires : tie.Need-next-classes-requires
@@ -46,7 +49,8 @@ same-length-2 c = search needs
 
 returns : tie.Need-returns
 returns c =
-    let start = c .before .before .before .before .before .before .before .before .before .before .before .before .before .before .before .before in
+    let start = c .before .before .before .before .before .before .before .before .before .before .before .before .before
+    .before .before .before in
     let classes = start .args .classes .now in
     let copied = c .before .before .before .before .before .before .before .before .before .copy in
     let done = c .before .before .before .before .next-classes in

@@ -52,7 +52,8 @@ loop-less c = omega arith
 
 loop-again : tie.Need-loop-again Inv-loop μ-loop
 loop-again c =
-    let start = c .before .before .before .before .before .before .before .before .before .before .before .before .before .before .before .before .before in
+    let start = c .before .before .before .before .before .before .before .before .before .before .before .before .before
+    .before .before .before .before in
     let parents = start .args .parents .now in
     let names = start .args .names .now in
     let loop = c .before .before .before .before .before .before .before .before .loop in
@@ -78,8 +79,10 @@ returns c =
     let names = start .args .names .now in
     let loop = c .before .loop in
     let all : loop .j ≡ start .args .i = omega arith in
-    subst (λ (k : ℕ). SuffixClasses k (start .args .i) parents names (loop .classes)) (c .before .before .before .before .clear-classes .kept .0)
-    (subst (λ (k : ℕ). SuffixClasses (length (c .before .before .before .before .clear-classes .last .0)) k parents names (loop .classes)) all (loop .inv .3))
+    subst (λ (k : ℕ). SuffixClasses k (start .args .i) parents names (loop .classes))
+    (c .before .before .before .before .clear-classes .kept .0)
+    (subst (λ (k : ℕ). SuffixClasses (length (c .before .before .before .before .clear-classes .last .0)) k parents names
+    (loop .classes)) all (loop .inv .3))
 
 pub suffix-classes-spec : {M : Type 1} → statement M
 suffix-classes-spec =
