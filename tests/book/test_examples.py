@@ -1,0 +1,118 @@
+"""What lies under examples/: each text with its listing, the shipped books, the worked days and the sources' examples."""
+import itertools
+import re
+import unittest
+from pathlib import Path
+
+from books.drawings import read_listing
+from books.fields import prefix_tree, write_book
+from books.texts import read_text
+from reference import listing_of
+
+EXAMPLES = Path(__file__).resolve().parents[2] / "examples"
+TEXTS = sorted(EXAMPLES.glob("*/*.txt"))
+
+# Document 01's table: states of the prefix tree, states, joins. Q1 and Q2 stand in crates/model/specs/WorkedDays.antt.
+WORKED_DAYS = {
+    "P1": (1, 1, 0), "P2": (3, 2, 1), "P3": (3, 3, 0), "P4": (7, 5, 2), "P5": (7, 6, 1), "P6": (8, 6, 2), "P7": (8, 7, 1),
+    "P8": (3, 2, 1), "P9": (3, 1, 2), "P10": (3, 2, 1), "P11": (5, 4, 1), "P12": (3, 3, 0), "Q1": (6, 5, 1), "Q2": (7, 5, 2),
+    "example": (3, 2, 1),
+}
+
+
+def book_at(path: Path):
+    return read_text(path.read_bytes())
+
+
+def table_of(name: str):
+    return read_listing((EXAMPLES / (name + ".listing")).read_text())
+
+
+def admits(table, names) -> bool:
+    state = 0
+    for name in names:
+        if name not in table.states[state].arcs:
+            return False
+        state = table.states[state].arcs[name]
+    return table.states[state].accepting
+
+
+def admitted_to(table, names, most: int) -> set:
+    """All admitted rows of at most so many of these names."""
+    return {row for count in range(most + 1) for row in itertools.product(names, repeat=count) if admits(table, row)}
+
+
+class Shipped(unittest.TestCase):
+    def test_books_are_those_of_the_texts(self):
+        texts = sorted((EXAMPLES / "books").glob("*.txt"))
+        self.assertEqual([path.stem for path in texts], [path.stem for path in sorted((EXAMPLES / "books").glob("*.book"))])
+        for path in texts:
+            self.assertEqual(path.with_suffix(".book").read_bytes(), write_book(book_at(path)), path)
+
+    def test_listings(self):
+        self.assertEqual(sorted(path.with_suffix(".txt") for path in EXAMPLES.glob("*/*.listing")), TEXTS)
+        for path in TEXTS:
+            self.assertEqual(path.with_suffix(".listing").read_text(), listing_of(write_book(book_at(path))), path)
+
+    def test_rows_are_admitted(self):
+        for path in TEXTS:
+            book = book_at(path)
+            table = read_listing(path.with_suffix(".listing").read_text())
+            for row in book.rows:
+                self.assertTrue(admits(table, [book.names[entry].decode() for entry in row]), path)
+
+    def test_the_forty_days(self):
+        book = book_at(EXAMPLES / "books" / "days.txt")
+        self.assertEqual((len(book.rows), len(set(book.rows)), len(book.names)), (40, 22, 12))
+
+
+class WorkedDays(unittest.TestCase):
+    def test_all_are_there(self):
+        self.assertEqual({path.stem for path in (EXAMPLES / "worked_days").glob("*.txt")}, set(WORKED_DAYS))
+
+    def test_counts(self):
+        for name, counts in WORKED_DAYS.items():
+            path = EXAMPLES / "worked_days" / (name + ".txt")
+            table = table_of(f"worked_days/{name}")
+            self.assertEqual((len(prefix_tree(book_at(path).rows)), len(table.states), table.joins), counts, name)
+
+
+class Sources(unittest.TestCase):
+    """What docs/SOURCES.md says of the sources' languages, for all rows up to a length."""
+
+    def test_languages_of_document_000(self):
+        for name, letters, expression in [
+                ("example_32", {"a": "a", "b": "b"}, "a(a|b(a|b)*)"),
+                ("surface_inventaris", {"boek": "b"}, "bb"),
+                ("surface_boek", {"schrijver": "s", "titel": "t", "prijs": "p"}, "ss*tp"),
+                ("surface_schrijver", {"voornaam": "v", "voorletter": "l", "achternaam": "a"}, "va|la"),
+                ("surface_text", {"boek": "b", "titel": "t"}, "")]:
+            table = table_of(f"sources/{name}")
+            for count in range(7):
+                for row in itertools.product(letters, repeat=count):
+                    word = "".join(letters[part] for part in row)
+                    self.assertEqual(admits(table, row), re.fullmatch(expression, word) is not None, (name, word))
+
+    def test_expression_printed_for_example_32_lacks_its_own_sample(self):
+        printed = re.compile("a(a|(b(ab)*))")
+        self.assertEqual([word for word in ["aa", "ab", "aba", "abb"] if not printed.fullmatch(word)], ["aba", "abb"])
+
+    def test_what_document_002_says_of_the_2_contextual_automaton(self):
+        table = table_of("sources/entry_2_2")
+        self.assertTrue(admits(table, "Headword Inflection Preferred_form Example".split()))
+        self.assertTrue(admits(table, "Headword Inflection Example Example".split()))
+        self.assertFalse(admits(table, "Headword Inflection Example".split()))
+        self.assertTrue(admits(table_of("sources/entry_2_1"), "Headword Inflection Example".split()))
+
+    def test_3_grams_of_example_5_22(self):
+        names = ["Headword", "Inflection", "Example", "Parallel_form", "Preferred_form"]
+        short = dict(zip(names, ["H", "I", "E", "Pa_F", "Pr_F"]))
+        printed = """# # H, # H Pr_F, # H I, # H Pa_F, H Pr_F E, I Pr_F E, H I Pr_F, H I E, H I Pa_F, H Pa_F E, I Pa_F E, Pr_F E E,
+                     Pa_F E E, I E E, E E E, Pr_F E #, Pa_F E #, I E #, E E #"""
+        grams = {tuple(gram.split()) for gram in printed.split(",")}
+        rows = admitted_to(table_of("sources/entry_2_1"), names, 6)
+        found = set()
+        for row in rows:
+            padded = ["#", "#"] + [short[name] for name in row] + ["#"]
+            found |= set(zip(padded, padded[1:], padded[2:]))
+        self.assertEqual(found, grams)
