@@ -4,7 +4,7 @@ import re
 import unittest
 from pathlib import Path
 
-from books.drawings import read_listing
+from books.drawings import homes, read_listing
 from books.fields import prefix_tree, write_book
 from books.texts import read_text
 from reference import listing_of
@@ -40,6 +40,24 @@ def admits(table, names) -> bool:
 def admitted_to(table, names, most: int) -> set:
     """All admitted rows of at most so many of these names."""
     return {row for count in range(most + 1) for row in itertools.product(names, repeat=count) if admits(table, row)}
+
+
+def equivalent_once(book) -> dict:
+    """Definitions (35) and (36) of document 000 with Ter: for each beginning of a row the first one that is equivalent to it.
+    Beginnings stand for the states of the skeleton, of which those with equal headstrings are equivalent."""
+    first = {word: word for word in prefix_tree(book.rows)}
+    for one, other in itertools.combinations(book.rows, 2):
+        for head, front in ((one[:end], one[end:]) for end in range(len(one) + 1)):
+            twin = other[:len(other) - len(front)]
+            if twin + front == other and set(head) == set(twin):
+                kept, gone = sorted([first[head], first[twin]])
+                first = {word: kept if of == gone else of for word, of in first.items()}
+    return first
+
+
+def blocks(places: dict) -> set:
+    """The partition of the keys by their values."""
+    return {frozenset(key for key, value in places.items() if value == block) for block in places.values()}
 
 
 class Shipped(unittest.TestCase):
@@ -96,6 +114,35 @@ class Sources(unittest.TestCase):
     def test_expression_printed_for_example_32_lacks_its_own_sample(self):
         printed = re.compile("a(a|(b(ab)*))")
         self.assertEqual([word for word in ["aa", "ab", "aba", "abb"] if not printed.fullmatch(word)], ["aba", "abb"])
+
+    def test_relation_of_document_000_applied_once(self):
+        for name in ["example_32", "surface_inventaris", "surface_boek", "surface_schrijver", "surface_text"]:
+            book = book_at(EXAMPLES / "sources" / (name + ".txt"))
+            self.assertEqual(blocks(equivalent_once(book)), blocks(homes(book, table_of(f"sources/{name}"))), name)
+
+    def test_relation_applied_once_leaves_two_arcs_of_one_name(self):
+        book = book_at(EXAMPLES / "worked_days" / "Q2.txt")
+        breakfast, snack = book.names.index(b"breakfast"), book.names.index(b"snack")
+        first = equivalent_once(book)
+        self.assertEqual(first[(snack,)], first[(snack, snack)])
+        self.assertNotEqual(first[(snack, breakfast)], first[(snack, snack, breakfast)])
+
+    def test_definition_5_9_read_literally_would_join_what_document_002_keeps_apart(self):
+        table = table_of("sources/entry_2_2")
+        for row in ["Headword Inflection Example Example", "Headword Preferred_form Example Example"]:
+            self.assertTrue(admits(table, row.split()))
+        self.assertTrue(admits(table, "Headword Preferred_form Example".split()))
+        self.assertFalse(admits(table, "Headword Inflection Example".split()))
+
+    def test_states_of_document_002_in_ours(self):
+        """The source numbers the states of its prefix tree from 1 in the order in which its productions add them."""
+        for name, expected in [("entry_2_2", [{1}, {2}, {3}, {10}, {13}, {4}, {6}, {15}, {7, 11}, {14, 16}, {5, 8, 9, 12, 17}]),
+                               ("entry_2_1", [{1}, {2}, {3}, {6, 10}, {13, 15}, {4, 5, 7, 8, 9, 11, 12, 14, 16, 17}])]:
+            book = book_at(EXAMPLES / "sources" / (name + ".txt"))
+            found = homes(book, table_of(f"sources/{name}"))
+            numbers = prefix_tree(book.rows)
+            ours = [{numbers[word] + 1 for word in found if found[word] == state} for state in range(len(expected))]
+            self.assertEqual(ours, expected)
 
     def test_what_document_002_says_of_the_2_contextual_automaton(self):
         table = table_of("sources/entry_2_2")
