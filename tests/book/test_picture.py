@@ -2,6 +2,7 @@
 they stand for. Graphviz is not needed: a stand-in takes dot's place, and drawings are compared by their nodes and edges."""
 import os
 import re
+import shutil
 import subprocess
 import tempfile
 import unittest
@@ -23,24 +24,30 @@ def drawn(text: Path, with_tree: bool) -> str:
 
 
 def svg_parts(path: Path) -> tuple:
-    """The nodes' labels and the edges' labels, by what Graphviz calls the node or edge."""
-    nodes, edges = {}, {}
+    """By what Graphviz calls them: nodes with label, rings and fill, edges and clusters with their labels."""
+    found = {"node": {}, "edge": {}, "cluster": {}}
     space = "{http://www.w3.org/2000/svg}"
     for group in xml.etree.ElementTree.parse(path).iter(space + "g"):
-        texts = [text.text.strip() for text in group.findall(space + "text")]
-        kind = {"node": nodes, "edge": edges}.get(group.get("class"))
-        if kind is not None:
-            kind[group.find(space + "title").text] = texts
-    return nodes, edges
+        if group.get("class") not in found:
+            continue
+        part = [text.text.strip() for text in group.findall(space + "text")]
+        rings = group.findall(space + "ellipse")
+        if rings:
+            part += [len(rings), rings[0].get("fill")]
+        found[group.get("class")][group.find(space + "title").text] = part
+    return found["node"], found["edge"], found["cluster"]
 
 
 def dot_parts(text: str) -> tuple:
+    """The same of a drawing's text."""
     nodes, edges = {}, {}
-    for key, label in re.findall(r'^(\w+) \[label="([^"]*)"', text, re.MULTILINE):
-        nodes[key] = [label] if label else []
+    for key, label, more in re.findall(r'^(\w+) \[label="([^"]*)"(.*)\]$', text, re.MULTILINE):
+        fill = re.search('fillcolor="(.*)"', more)
+        nodes[key] = [label, 2 if "peripheries=2" in more else 1, fill[1] if fill else "white"] if label else []
     for source, target, _, label in re.findall(r'^(\w+) -> (\w+)( \[label="([^"]*)"\])?$', text, re.MULTILINE):
         edges[f"{source}->{target}"] = [name.strip() for name in label.split("\\n") if name]
-    return nodes, edges
+    clusters = re.findall(r'^subgraph (\w+) {\nlabel="(.*)"$', text, re.MULTILINE)
+    return nodes, edges, {key: [label] for key, label in clusters}
 
 
 class Drawings(unittest.TestCase):
@@ -55,11 +62,14 @@ class Drawings(unittest.TestCase):
         self.assertEqual(svg_parts(ROOT / "docs" / "images" / "days.svg"), days)
 
     def test_tree_beside_table(self):
-        nodes, edges = dot_parts(drawn(ROOT / "examples" / "classes" / "last_1.txt", True))
-        self.assertEqual(nodes, {"root": [], "t0": ["0"], "t1": ["1"], "t2": ["2"], "t3": ["3"], "t4": ["2"], "t5": ["3"],
-                                 "start": [], "s0": ["0"], "s1": ["1"], "s2": ["2"], "s3": ["3"]})
-        self.assertEqual(edges["s1->s2"], ["snack"])
-        self.assertEqual(edges["t4->t5"], ["lunch"])
+        nodes, edges, clusters = dot_parts(drawn(ROOT / "examples" / "classes" / "last_1.txt", True))
+        one, two = ["2", 1, "#cfe8ff"], ["3", 2, "#ffe3b3"]
+        self.assertEqual(nodes, {"root": [], "t0": ["0", 1, "white"], "t1": ["1", 1, "white"], "t2": one, "t3": two, "t4": one,
+                                 "t5": two, "start": [], "s0": ["0", 1, "white"], "s1": ["1", 1, "white"], "s2": one, "s3": two})
+        self.assertEqual(edges, {"root->t0": [], "t0->t1": ["breakfast"], "t1->t2": ["snack"], "t2->t3": ["lunch"],
+                                 "t0->t4": ["snack"], "t4->t5": ["lunch"], "start->s0": [], "s0->s1": ["breakfast"],
+                                 "s0->s2": ["snack"], "s1->s2": ["snack"], "s2->s3": ["lunch"]})
+        self.assertEqual(clusters, {"cluster_tree": ["prefix tree: 6 states"], "cluster_table": ["last 1: 4 states, 2 joins"]})
 
 
 class Command(unittest.TestCase):
@@ -97,8 +107,8 @@ class Command(unittest.TestCase):
         self.assertFalse((self.folder / out).exists())
 
     def test_graphviz_missing(self):
-        for tool in ["env", "python3", "cat"]:
-            (self.folder / tool).symlink_to(subprocess.check_output(["which", tool], text=True).strip())
+        for tool in ["python3", "cat"]:
+            (self.folder / tool).symlink_to(shutil.which(tool))
         listing = self.stand_in("listing", f"cat {BOOK.with_suffix('.listing')}\n")
         self.fails("picture: the command 'dot' is missing: it is in Debian's package graphviz", "days.png", listing,
                    PATH=str(self.folder))
