@@ -19,8 +19,9 @@ pub mod Functions
 -- the prefix tree, and the end of its joining
 pub mod Trees
 pub mod Ends
--- numbering: arcs in order, groups in first-met order, what a table admits, and the numbering law
+-- numbering: arcs in order, their names as a set of bits, groups in first-met order, what a table admits, and the numbering law
 pub mod Arcs
+pub mod NameSets
 pub mod Meeting
 pub mod FirstMet
 pub mod Admits

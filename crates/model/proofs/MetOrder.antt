@@ -21,7 +21,7 @@ use Rattle.model.proofs.Meeting.{metWith-grown}
 -- ---- what is met is only added to
 
 -- all looks together only add
-metFrom-appends : (n i : ℕ) (ts : List Transition) (met : List ℕ) → (more : List ℕ) × (metFrom n i ts met ≡ met ++ more)
+pub metFrom-appends : (n i : ℕ) (ts : List Transition) (met : List ℕ) → (more : List ℕ) × (metFrom n i ts met ≡ met ++ more)
 unfolding metFrom
 metFrom-appends zero i ts met = ([], sym (append-nil met))
 metFrom-appends (suc n) i ts met = go (ltb i (length met)) (λ m. metFrom-appends n (suc i) ts m)
@@ -36,7 +36,7 @@ metFrom-appends (suc n) i ts met = go (ltb i (length met)) (λ m. metFrom-append
         (q .more ++ r .0, r .1 ∙ ap (λ (m : List ℕ). m ++ r .0) (q .begins) ∙ append-assoc met (q .more) (r .0))
 
 -- past the last met group nothing more is met
-metFrom-ends : (n i : ℕ) (ts : List Transition) (met : List ℕ) → length met ≤ i → metFrom n i ts met ≡ met
+pub metFrom-ends : (n i : ℕ) (ts : List Transition) (met : List ℕ) → length met ≤ i → metFrom n i ts met ≡ met
 unfolding metFrom
 metFrom-ends zero i ts met h = refl
 metFrom-ends (suc n) i ts met h =
@@ -98,7 +98,7 @@ unfolding metByStates
 metByStates-step i m s states h = rw (lt-ltb i m h, metByStates)
 
 -- first-met order takes one look
-metFrom-step :
+pub metFrom-step :
     (n i : ℕ) (ts : List Transition) (met : List ℕ) → i < length met →
     metFrom (suc n) i ts met ≡ metFrom n (suc i) ts (metWith met (arcsOutOf (getD met i 0) ts))
 unfolding metFrom

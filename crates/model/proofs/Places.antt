@@ -77,17 +77,22 @@ nth-of-index (y ∷ ys) x m = go (eq-dec x y) (nth-of-index ys x) (List·Memᴰ�
         let low : indexIn x ys < length ys = r .0 in
         subst Place (sym (index-there x y ys d)) (omega arith, r .1)
 
--- an element of the front has its place there
-pub index-in-front : (x : ℕ) (xs ys : List ℕ) → In x xs → indexIn x (xs ++ ys) < length xs
-index-in-front x [] ys m = absurd (List·Memᴰ·not-nil m)
-index-in-front x (z ∷ xs) ys m = go (eq-dec x z) (List·Memᴰ·cases-cons m) (λ n. index-in-front x xs ys n)
+-- an element of the front has the same place in the whole
+pub index-front : (x : ℕ) (xs ys : List ℕ) → In x xs → indexIn x (xs ++ ys) ≡ indexIn x xs
+index-front x [] ys m = absurd (List·Memᴰ·not-nil m)
+index-front x (z ∷ xs) ys m = go (eq-dec x z) (List·Memᴰ·cases-cons m) (λ n. index-front x xs ys n)
   where
     go :
-        (x ≡ z) ⊎ (x ≡ z → ⊥) → (x ≡ z) ⊎ In x xs → (In x xs → indexIn x (xs ++ ys) < length xs) →
-        indexIn x (z ∷ (xs ++ ys)) < suc (length xs)
-    go (inl e) n again = omega (arith, index-here x z (xs ++ ys) e)
+        (x ≡ z) ⊎ (x ≡ z → ⊥) → (x ≡ z) ⊎ In x xs → (In x xs → indexIn x (xs ++ ys) ≡ indexIn x xs) →
+        indexIn x (z ∷ (xs ++ ys)) ≡ indexIn x (z ∷ xs)
+    go (inl e) n again = index-here x z (xs ++ ys) e ∙ sym (index-here x z xs e)
     go (inr d) (inl e) again = absurd (d e)
-    go (inr d) (inr n) again = omega (arith, index-there x z (xs ++ ys) d, again n)
+    go (inr d) (inr n) again = index-there x z (xs ++ ys) d ∙ ap suc (again n) ∙ sym (index-there x z xs d)
+
+-- and so a place there
+pub index-in-front : (x : ℕ) (xs ys : List ℕ) → In x xs → indexIn x (xs ++ ys) < length xs
+index-in-front x xs ys m =
+    subst (λ (i : ℕ). i < length xs) (sym (index-front x xs ys m)) (nth-of-index xs x m .0)
 
 -- and one that is not there, but comes next, has the next place
 pub index-after : (x : ℕ) (xs ys : List ℕ) → (In x xs → ⊥) → indexIn x (xs ++ (x ∷ ys)) ≡ length xs

@@ -19,7 +19,7 @@ use Rattle.tables.specs.Accepting.{StateField, Ready}
 use Rattle.tables.specs.Walking.{WalkedAs}
 use Rattle.tables.specs.declared.Walk.{Walk}
 use Rattle.tables.proofs.ArcLaws.{NamesBelow, state-ascends}
-use Rattle.tables.proofs.NameSets.{ones-nameSet}
+use Rattle.model.proofs.NameSets.{ones-nameSet}
 use Rattle.plans.specs.declared.walking.Ended.{Ended}
 use Rattle.plans.specs.Parts.{EndsOver}
 

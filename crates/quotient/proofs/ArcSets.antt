@@ -11,7 +11,7 @@ use Rattle.model.specs.Tables.{Arc, nameSet}
 use Rattle.model.specs.Limits.{name-limit}
 use Rattle.cells.specs.Cells.{cellAt}
 use Rattle.quotient.specs.Gathered.{ArcsAt}
-use Rattle.quotient.proofs.NameSets.{ones-nameSet, trailing-nameSet, nameSet-rest}
+use Rattle.model.proofs.NameSets.{ones-nameSet, trailing-nameSet, nameSet-rest}
 
 -- there is a first arc, with the name m, and the others after it
 pub record ArcsMore (n : ℕ) (work : List ℕ) (row set m : ℕ) (arcs : List Arc) : Type 0 where

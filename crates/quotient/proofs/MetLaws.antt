@@ -20,10 +20,11 @@ use Rattle.model.specs.Tables.{Arc}
 use Rattle.model.specs.Joinings.{Transition, treeOf, transitionsOf}
 use Rattle.model.specs.Quotients.{arcsOutOf, metWith, metFrom, metGroups}
 use Rattle.model.proofs.Tests.{tells-isIn, not-told, eq-dec}
-use Rattle.model.proofs.Places.{nth-in, index-here, index-there, nth-of-index, index-after}
+use Rattle.model.proofs.Places.{nth-in, nth-of-index, index-after, index-front}
 use Rattle.model.proofs.Trees.{treeOf-tree}
 use Rattle.model.proofs.Meeting.{metWith-grown}
 use Rattle.model.proofs.FirstMet.{met-few}
+use Rattle.model.proofs.MetOrder.{metFrom-appends, metFrom-ends, metFrom-step}
 use Rattle.cells.specs.Cells.{cellAt}
 use Rattle.quotient.specs.Gathered.{ArcsAt, Gathered}
 use Rattle.quotient.specs.Numbered.{MetAs, MeetingOne, Meeting}
@@ -31,18 +32,6 @@ use Rattle.quotient.proofs.ArcSets.{arcs-more, arcs-done}
 use Rattle.quotient.proofs.TreeArcs.{labels-fit, label-low, root-group, tree-some}
 
 -- ---- one target
-
--- an element of the front has the same place in the whole
-index-front : (x : ℕ) (xs ys : List ℕ) → In x xs → indexIn x (xs ++ ys) ≡ indexIn x xs
-index-front x [] ys m = absurd (List·Memᴰ·not-nil m)
-index-front x (z ∷ xs) ys m = go (eq-dec x z) (List·Memᴰ·cases-cons m) (λ n. index-front x xs ys n)
-  where
-    go :
-        (x ≡ z) ⊎ (x ≡ z → ⊥) → (x ≡ z) ⊎ In x xs → (In x xs → indexIn x (xs ++ ys) ≡ indexIn x xs) →
-        indexIn x (z ∷ (xs ++ ys)) ≡ indexIn x (z ∷ xs)
-    go (inl e) n again = index-here x z (xs ++ ys) e ∙ sym (index-here x z xs e)
-    go (inr d) (inl e) again = absurd (d e)
-    go (inr d) (inr n) again = index-there x z (xs ++ ys) d ∙ ap suc (again n) ∙ sym (index-there x z xs d)
 
 -- the i-th group met
 pub met-nth : {n : ℕ} {met numbers : List ℕ} {count : ℕ} (seen : List ℕ) → MetAs n met numbers count seen → (i : ℕ) → i < count →
@@ -238,35 +227,9 @@ pub record Numbering (rows : List Word) (groups met numbers : List ℕ) (i count
 
 -- all looks together only add
 metFrom-adds : (n i : ℕ) (ts : List Transition) (met : List ℕ) → length met ≤ length (metFrom n i ts met)
-unfolding metFrom
-metFrom-adds zero i ts met = omega arith
-metFrom-adds (suc n) i ts met = go (ltb i (length met)) (λ m. metFrom-adds n (suc i) ts m)
-  where
-    go :
-        (b : Bool) → ((m : List ℕ) → length m ≤ length (metFrom n (suc i) ts m)) →
-        length met ≤ length (metFrom n (suc i) ts (cond b (metWith met (arcsOutOf (getD met i 0) ts)) met))
-    go false again = again met
-    go true again =
-        omega (
-          arith,
-          again (metWith met (arcsOutOf (getD met i 0) ts)),
-          metWith-length met (arcsOutOf (getD met i 0) ts),
-        )
-
--- one look
-metFrom-look :
-    (n i : ℕ) (ts : List Transition) (met : List ℕ) → i < length met →
-    metFrom (suc n) i ts met ≡ metFrom n (suc i) ts (metWith met (arcsOutOf (getD met i 0) ts))
-unfolding metFrom
-metFrom-look n i ts met h = rw (lt-ltb i (length met) h)
-
--- past the last met group nothing more is met
-metFrom-past : (n i : ℕ) (ts : List Transition) (met : List ℕ) → length met ≤ i → metFrom n i ts met ≡ met
-unfolding metFrom
-metFrom-past zero i ts met h = refl
-metFrom-past (suc n) i ts met h =
-    let past : length met ≤ suc i = omega arith in
-    rw (le-ltb i (length met) h) (metFrom-past n (suc i) ts met past)
+metFrom-adds n i ts met =
+    let more = metFrom-appends n i ts met in
+    omega (arith, ap length (more .1), length-append met (more .0))
 
 root-new : (g : ℕ) → g ∷ [] ≡ cond (isIn g []) [] ([] ++ (g ∷ []))
 unfolding isIn any
@@ -348,7 +311,7 @@ module _ (rows : List Word) (groups work next : List ℕ) (gathered : Gathered r
       let g-is : g ≡ getD seen i 0 = e ∙ met-nth seen (r .so-far) i h in
       let g-low : g < length (treeOf rows) = omega (arith, met-low seen (r .so-far) i h) in
       let goes-on : metGroups (treeOf rows) groups ≡ metFrom looks (suc i) ts (metWith seen (arcsOutOf g ts)) =
-      r .comes-to ∙ ap (λ (n : ℕ). metFrom n i ts seen) k ∙ metFrom-look looks i ts seen (omega arith)
+      r .comes-to ∙ ap (λ (n : ℕ). metFrom n i ts seen) k ∙ metFrom-step looks i ts seen (omega arith)
       ∙ ap (λ (x : ℕ). metFrom looks (suc i) ts (metWith seen (arcsOutOf x ts))) (sym g-is) in
       record {
         after = metWith seen (arcsOutOf g ts);
@@ -395,5 +358,5 @@ module _ (rows : List Word) (groups work next : List ℕ) (gathered : Gathered r
   numbering-end met numbers i count r h =
       let counted : count ≡ length (r .seen) = r .so-far .counted in
       subst (λ (l : List ℕ). MetAs (length (treeOf rows)) met numbers count l)
-      (sym (r .comes-to ∙ metFrom-past (r .looks) i (transitionsOf (treeOf rows) groups) (r .seen) (omega arith)))
+      (sym (r .comes-to ∙ metFrom-ends (r .looks) i (transitionsOf (treeOf rows) groups) (r .seen) (omega arith)))
       (r .so-far)

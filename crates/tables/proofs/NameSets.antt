@@ -1,5 +1,4 @@
--- Sets of names in 64 bits: the set of ascending arcs has as many bits as there are arcs, its lowest bit is the first arc's name, and
--- without that bit it is the set of the others; and one more name put into the set with `|` and `<<`. Assumes nothing.
+-- Sets of names in 64 bits: one more name put into the set with `|` and `<<`. Assumes nothing.
 use mathlib.Core.Path.{_≡_, refl, sym, ap, _∙_}
 use mathlib.Core.List.{List, [], _∷_}
 use Prim.Native.Nat.{ℕ, zero, suc, _+_, _*_, _-_, _/_, _%_, _^_, _≤_, _<_}
@@ -12,86 +11,6 @@ use lib.ListN.{length}
 use lib.Pow.{pow-pos, pow-mono, pow-lt, pow-add}
 use Rattle.model.specs.Tables.{Arc, arc, nameSet}
 use Rattle.model.proofs.Arcs.{Ascending}
-
--- a number is q times 2 ^ k
-record Multiple (k n : ℕ) : Type 0 where
-  times : ℕ
-  is : n ≡ times * 2 ^ k
-
--- a multiple of a higher power is one of a lower
-multiple-lower : (j k n : ℕ) → j ≤ k → Multiple k n → Multiple j n
-multiple-lower j k n h m =
-    let split : k ≡ (k - j) + j = omega arith in
-    record {
-      times = m .times * 2 ^ (k - j);
-      is = m .is ∙ ap (λ (e : ℕ). m .times * 2 ^ e) split ∙ ap (λ (p : ℕ). m .times * p) (pow-add 2 (k - j) j)
-          ∙ sym (mul-assoc (m .times) (2 ^ (k - j)) (2 ^ j));
-    }
-
--- twice a multiple of 2 ^ k and 2 ^ k more
-one-more : (q k : ℕ) → 2 ^ k + q * 2 ^ suc k ≡ (2 * q + 1) * 2 ^ k
-one-more q k = rw pow-suc (ring (2 ^ k))
-  where
-    ring : (p : ℕ) → p + q * (p * 2) ≡ (2 * q + 1) * p
-    ring p = omega arith
-
-multiple-set : (next : ℕ) (arcs : List Arc) → Ascending next arcs → Multiple next (nameSet arcs)
-unfolding nameSet
-multiple-set next [] up = record { times = 0; is = sym (zero-mul (2 ^ next)) }
-multiple-set next (a ∷ arcs) up =
-    let rest = multiple-set (suc (a .name)) arcs (up .1) in
-    multiple-lower next (a .name) (2 ^ (a .name) + nameSet arcs) (up .0)
-    (record { times = 2 * rest .times + 1; is = ap (λ (n : ℕ). 2 ^ (a .name) + n) (rest .is) ∙ one-more (rest .times) (a .name) })
-
-ones-shifted : (q k : ℕ) → ones (q * 2 ^ k) ≡ ones q
-unfolding ones
-ones-shifted q k = ap ones (sym (add-zero (q * 2 ^ k))) ∙ ones-cat k q 0 (pow-pos k) ∙ add-zero (ones q)
-
-ones-one : (k : ℕ) → ones (2 ^ k) ≡ 1
-unfolding ones
-ones-one k = ap ones (sym (one-mul (2 ^ k))) ∙ ones-shifted 1 k
-
--- as many bits as arcs
-pub ones-nameSet : (next : ℕ) (arcs : List Arc) → Ascending next arcs → ones (nameSet arcs) ≡ length arcs
-unfolding nameSet ones
-ones-nameSet next [] up = refl
-ones-nameSet next (a ∷ arcs) up =
-    let rest = multiple-set (suc (a .name)) arcs (up .1) in
-    let k = a .name in
-    let count : ones (rest .times) ≡ length arcs =
-    sym (ones-shifted (rest .times) (suc k)) ∙ ap ones (sym (rest .is)) ∙ ones-nameSet (suc k) arcs (up .1) in
-    ap (λ (n : ℕ). ones (2 ^ k + n)) (rest .is)
-    ∙ ap ones (add-comm (2 ^ k) (rest .times * 2 ^ suc k))
-    ∙ ones-cat (suc k) (rest .times) (2 ^ k) (pow-lt {i = k} {j = suc k} (omega arith))
-    ∙ ap (λ (n : ℕ). ones (rest .times) + n) (ones-one k)
-    ∙ omega (arith, count)
-
--- an odd number with i zeros after it
-trailing-shifted : (d m i : ℕ) → m % 2 ≡ 1 → i < d → trailingZeros d (m * 2 ^ i) ≡ i
-unfolding trailingZeros
-trailing-shifted zero m i o h = let z : ⊥ = omega arith in absurd z
-trailing-shifted (suc d) m zero o h =
-    ap (λ (x : ℕ). under (x % 2) (trailingZeros d (x / 2))) (mul-one m) ∙ ap (λ (r : ℕ). under r (trailingZeros d (m / 2))) o
-trailing-shifted (suc d) m (suc i) o h =
-    ap (λ (r : ℕ). under r (trailingZeros d (m * 2 ^ suc i / 2))) (shifted-even m i)
-    ∙ ap (λ (x : ℕ). suc (trailingZeros d x)) (shifted-half m i)
-    ∙ ap suc (trailing-shifted d m i o (omega arith))
-
--- the lowest bit is the first arc's name
-pub trailing-nameSet : (next : ℕ) (a : Arc) (arcs : List Arc) → Ascending next (a ∷ arcs) → a .name < 64
-    → trailingZeros 64 (nameSet (a ∷ arcs)) ≡ a .name
-unfolding nameSet
-trailing-nameSet next a arcs up h =
-    let rest = multiple-set (suc (a .name)) arcs (up .1) in
-    let odd : (2 * rest .times + 1) % 2 ≡ 1 = omega arith in
-    ap (λ (n : ℕ). trailingZeros 64 (2 ^ (a .name) + n)) (rest .is)
-    ∙ ap (trailingZeros 64) (one-more (rest .times) (a .name))
-    ∙ trailing-shifted 64 (2 * rest .times + 1) (a .name) odd h
-
--- without the first arc's bit the set is that of the others
-pub nameSet-rest : (a : Arc) (arcs : List Arc) → nameSet (a ∷ arcs) - 2 ^ (a .name) ≡ nameSet arcs
-unfolding nameSet
-nameSet-rest a arcs = omega arith
 
 -- one more name above those in the set
 pub with-name : (names a : ℕ) → names < 2 ^ a → a < 64 → bitOr names (1 * 2 ^ a % 2 ^ 64) ≡ names + 2 ^ a
