@@ -1,24 +1,38 @@
 # Targets: see `make help`. The toolchain is the Rattle kit; its command is rt.
 .DEFAULT_GOAL := help
-.PHONY: help run test check lib example bench-walk fmt
+.PHONY: help run test check lib listing example book text picture images test-book test-outside test-c fuzz bench bench-search fmt
 
 help:
-	@echo "make run      what is proved so far, in one line"
-	@echo "make test     the whole gate, from nothing; its last line is 'N passed, 0 failed'"
-	@echo "make check    prove what changed since the last check"
-	@echo "make lib      target/staticlib/libplans.a, for C; its header is include/plans.h"
-	@echo "make example  build examples/*.c over it with gcc, run them, and compare what they print"
-	@echo "make bench-walk  what a walk costs as a multiple of one memset of 65,536 bytes, and the stack that calls use"
-	@echo "make fmt      put every .rt and .antt file into the layout"
+	@echo "make run           lists a shipped book of forty days: the model that the library infers from it"
+	@echo "make test          the whole gate, from nothing; its last line is 'N passed, 0 failed'"
+	@echo
+	@echo "make book TEXT=days.txt OUT=days.book [CLASS=\"2 1\"]   a book from lines of names"
+	@echo "make text BOOK=days.book [OUT=days.txt]               a book as such text"
+	@echo "make picture BOOK=days.book OUT=days.svg              a drawing of a book's table (Graphviz)"
+	@echo "make images        the drawings under docs/images, anew"
+	@echo
+	@echo "make lib           target/staticlib/libplans.a, for C; its header is include/plans.h"
+	@echo "make example       builds examples/*.c over it with gcc, runs them, and compares what they print"
+	@echo "make listing       target/bin/listing: a book on standard input, its listing on standard output"
+	@echo
+	@echo "make check         proves what changed since the last check"
+	@echo "make test-book     tests of the book scripts, the texts and the drawings"
+	@echo "make test-outside  compares the library with an independent implementation on generated inputs"
+	@echo "make test-c        the header and the library from C, with sanitizers and under valgrind"
+	@echo "make fuzz SECONDS=600   the comparison of test-outside with new inputs, as long as asked"
+	@echo "make bench         what calls cost, as multiples of one memset and beside a second implementation"
+	@echo "make bench-search SECONDS=300   looks for books that cost more"
+	@echo "make fmt           puts every .rt and .antt file into the layout"
 
-# Every target that needs the kit asks for it here, so that a newcomer reads what is missing.
-.PHONY: kit
+# Every target that needs a tool asks for it here, so that a newcomer reads what is missing.
+.PHONY: kit python
 kit:
 	@command -v rt >/dev/null || { echo "make: the command 'rt' is missing: it comes with the Rattle kit (rattle-kit-5)"; exit 1; }
+python:
+	@command -v python3 >/dev/null || { echo "make: the command 'python3' is missing: it is in Debian's package python3"; exit 1; }
 
-run: kit
-	@echo "make run: proving what has changed; from nothing that takes about eight minutes" >&2
-	@rt check >/dev/null 2>&1 && echo "proved so far: $$(scripts/proved)" || { echo "make run: the proofs do not check; 'make check' says why"; exit 1; }
+run: listing
+	@target/bin/listing < examples/books/days.book
 
 test: kit
 	@scripts/gate
@@ -29,11 +43,46 @@ check: kit
 lib: kit
 	@rt staticlib plans
 
+listing: kit
+	@scripts/listing
+
 example: lib
 	@scripts/example
 
-bench-walk: lib
-	@scripts/bench-walk
+book: python
+	@[ -n "$(TEXT)" ] && [ -n "$(OUT)" ] || { echo 'make book: say TEXT=days.txt OUT=days.book, and CLASS="2 1", CLASS=seen or CLASS="last 1" if wanted'; exit 1; }
+	@scripts/book book "$(TEXT)" "$(OUT)" $(if $(CLASS),--class "$(CLASS)")
+
+text: python
+	@[ -n "$(BOOK)" ] || { echo "make text: say BOOK=days.book, and OUT=days.txt if wanted"; exit 1; }
+	@scripts/book text "$(BOOK)" $(if $(OUT),"$(OUT)")
+
+picture: python listing
+	@[ -n "$(BOOK)" ] && [ -n "$(OUT)" ] || { echo "make picture: say BOOK=days.book OUT=days.svg (or .png)"; exit 1; }
+	@scripts/picture "$(BOOK)" "$(OUT)"
+
+images: python listing
+	@scripts/images
+
+test-book: python
+	@scripts/test-book
+
+test-outside: lib
+	@scripts/test-outside
+
+test-c: lib
+	@scripts/test-c
+
+fuzz: lib
+	@[ -n "$(SECONDS)" ] || { echo "make fuzz: say SECONDS=600"; exit 1; }
+	@scripts/test-outside --seconds "$(SECONDS)"
+
+bench: lib
+	@scripts/bench
+
+bench-search: lib
+	@[ -n "$(SECONDS)" ] || { echo "make bench-search: say SECONDS=300"; exit 1; }
+	@scripts/bench search "$(SECONDS)"
 
 fmt: kit
 	@rt fmt
