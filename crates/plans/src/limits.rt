@@ -9,6 +9,12 @@ pub const INPUT_LIMIT: usize = 65535;
 
 pub const WORK_BYTES: usize = 65536;
 
+// A book's table has at most so many bytes.
+pub const TABLE_BYTES: usize = 5830;
+
+// The shortest text that takes every listing, in bytes.
+pub const LISTING_BYTES: usize = 32768;
+
 // The refusals of lent slices.
 pub const BAD_SIZES: u8 = 1;
 
