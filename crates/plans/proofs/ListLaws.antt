@@ -171,7 +171,7 @@ module _ (book work text : List ℕ) where
 -- ---- for callers
 
 -- the listing lies within the text
-pub listing-within : (book work work′ text text′ : List ℕ) (r : ℕ) → ListSays book work work′ text text′ r → r ≤ length text′
-listing-within book work work′ text text′ r says =
+pub listing-within : {book work work′ text text′ : List ℕ} {r : ℕ} → ListSays book work work′ text text′ r → r ≤ length text′
+listing-within {book} {work} {work′} {text} says =
     let bytes = listed book work text in
     omega (arith, says .gives .length-is, ap length (says .gives .text-is), length-append bytes (drop (length bytes) text))
