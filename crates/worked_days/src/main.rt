@@ -1,11 +1,11 @@
-// The worked days, as files, each with its listing; then document 01's edges for books, put together here, each with the first line
-// that it comes to. The file `stdout` has what document 01 and the sources give.
+// The worked days and the sources' examples, as files, each with its listing; then document 01's edges for books, each with the first
+// line that it comes to. The file `stdout` has what document 01 gives, and for the sources' examples the listings of examples/sources.
 mod edges;
 
 use libc::STDOUT_FILENO;
 use plans::limits::LISTING_BYTES;
 
-// One more day is a file in data/ and a line here.
+// Document 01's days and its example, and two days more. One more is a file in data/ and a line here.
 fn days() {
     day(b"P1.book");
     day(b"P2.book");
@@ -19,6 +19,20 @@ fn days() {
     day(b"P10.book");
     day(b"P11.book");
     day(b"P12.book");
+    day(b"Q1.book");
+    day(b"Q2.book");
+    day(b"example.book");
+}
+
+// The sources' examples, from the surfaces of document 000 and the entries of document 002.
+fn sources() {
+    day(b"example_32.book");
+    day(b"surface_inventaris.book");
+    day(b"surface_boek.book");
+    day(b"surface_schrijver.book");
+    day(b"surface_text.book");
+    day(b"entry_2_2.book");
+    day(b"entry_2_1.book");
 }
 
 // The name of a file, and its book's listing.
@@ -46,6 +60,7 @@ fn list(book: &[u8]) {
 
 fn main() {
     days();
+    sources();
     edges::lent();
     edges::fields();
     edges::names();
