@@ -27,6 +27,7 @@ use Rattle.model.proofs.Writable.{Writable}
 use Rattle.model.proofs.FieldLaws.{first-of, when-none}
 use Rattle.model.proofs.StateBodies.{states-read-back}
 use Rattle.model.proofs.WritableStates.{states-writable}
+use Rattle.model.proofs.WrittenLengths.{table-bytes}
 use Rattle.model.proofs.Reading.{accepted-has-row, accepted-entries, reads-written, written-length, rewrites-same}
 
 -- ---- what an accepted book and a like book give
@@ -117,7 +118,7 @@ demand-3 =
 -- ---- tables read back
 
 -- what build writes can be read
-book-writable : (s : List ℕ) → Accepted s → Writable (length (bookOf s .names)) (bookStates (bookOf s))
+pub book-writable : (s : List ℕ) → Accepted s → Writable (length (bookOf s .names)) (bookStates (bookOf s))
 unfolding bookStates
 book-writable s ok =
     let f = bookOf s in
@@ -134,7 +135,7 @@ book-writable s ok =
         accepted-entries s ok ((w ▸ a) ++ b .0) (b .1) a (Memᴰ·append-left (b .0) (Memᴰ·append-right w (here refl)))
 
 -- the table of a book is read back: its names, its class and its states
-read-table :
+pub read-table :
     (s : List ℕ) → Accepted s →
     readFields table (bookTable (bookOf s))
     ≡ accepted-file (file 3 (bookOf s .names) (bookOf s .class-is) (map stateBody (bookStates (bookOf s))))
@@ -148,8 +149,8 @@ read-states s ok =
     ap (λ (r : Read). statesIn (r .file-is .items)) (read-table s ok)
     ∙ states-read-back (bookStates (bookOf s))
 
--- it is no longer than an input may be
-table-length : (s : List ℕ) → Accepted s → length (bookTable (bookOf s)) ≤ input-limit
+-- it takes few bytes
+pub table-length : (s : List ℕ) → Accepted s → length (bookTable (bookOf s)) ≤ table-bytes
 unfolding bookTable
 table-length s ok = written-length s (bookStates (bookOf s)) ok (book-writable s ok)
 
@@ -158,7 +159,7 @@ read-no-fault : (s work : List ℕ) → Accepted s → work-bytes ≤ length wor
 unfolding tableFault sizesFault
 read-no-fault s work ok long =
     let bytes : List ℕ = bookTable (bookOf s) in
-    let short : length bytes ≤ input-limit = table-length s ok in
+    let short : length bytes ≤ input-limit = omega (arith, table-length s ok) in
     let sizes : when (ltb input-limit (length bytes) || ltb (length work) work-bytes) bad-sizes ≡ 0 =
     ap (λ (t : Bool). when t bad-sizes)
     (or-false (le-ltb input-limit (length bytes) short) (le-ltb (length work) work-bytes long)) in

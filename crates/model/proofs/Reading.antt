@@ -6,7 +6,7 @@ use mathlib.Core.List.{List, [], _∷_, _++_, map, List·Memᴰ as In, List·Mem
 use Prim.Native.Nat.{ℕ, suc, _≤_, _<_}
 use native.Mathlib.Omega.{arith}
 use lib.ListN.{length, length-append}
-use Rattle.model.specs.Limits.{name-limit, state-limit, input-limit, when, firstOf, bad-numbering}
+use Rattle.model.specs.Limits.{name-limit, state-limit, when, firstOf, bad-numbering}
 use Rattle.model.specs.Fields.{file, table, readFields, readWith, default-class, accepted-file}
 use Rattle.model.specs.Tables.{State, fieldBytes, nameFields, classField, stateFields, stateBody, tableBytes}
 use Rattle.model.specs.Tables.{isFirstMet}
@@ -17,7 +17,7 @@ use Rattle.model.proofs.FieldLaws.{first-of}
 use Rattle.model.proofs.StateBodies.{body-ok}
 use Rattle.model.proofs.Books.{accepted-book, tells-allBelow}
 use Rattle.model.proofs.ReadBack.{reads-table}
-use Rattle.model.proofs.WrittenLengths.{name-fields-length, names-few, state-fields-length}
+use Rattle.model.proofs.WrittenLengths.{table-bytes, name-fields-length, names-few, state-fields-length}
 use Rattle.model.proofs.Rewriting.{bytes-of, rewritten-same}
 
 -- a list that is not empty has an element
@@ -52,10 +52,10 @@ reads-written s states ok w =
     (λ t m. body-ok (length names) t (w .ascending t m) (λ a n. w .names-below t a m n)) (w .some-state) (w .few-states)
     (suc (length bytes)) (omega arith)
 
--- and has no more bytes than an input may have
+-- and takes few bytes
 pub written-length :
     (s : List ℕ) (states : List State) → Accepted s → Writable (length (bookOf s .names)) states →
-    length (tableBytes (bookOf s .names) (bookOf s .class-is) states) ≤ input-limit
+    length (tableBytes (bookOf s .names) (bookOf s .class-is) states) ≤ table-bytes
 unfolding tableBytes classField fieldBytes
 written-length s states ok w =
     let b = accepted-book s ok in

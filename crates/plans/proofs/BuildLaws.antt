@@ -1,13 +1,14 @@
 -- What a build gives back: refused for the lent sizes, by the book's own refusals, or as inference gives it; and that its numbers
--- are small. Then what demand 3 says of the table that is written. Assumes nothing.
-use mathlib.Core.Path.{_≡_, refl, sym, ap, _∙_, subst}
-use mathlib.Core.Bool.{Bool, true, false, cond, _||_}
-use mathlib.Core.List.{List, [], _∷_, _++_}
-use Prim.Native.Nat.{ℕ, zero, suc, _-_, _≤_, _<_}
+-- are small. Then what a build that is not refused left in the output. Assumes nothing.
+use mathlib.Core.Path.{_≡_, refl, sym, ap, _∙_}
+use mathlib.Core.Bool.{Bool, true, false, cond}
+use mathlib.Core.List.{List}
+use Prim.Native.Nat.{ℕ, _-_, _≤_, _<_}
 use native.Mathlib.Omega.{arith}
 use borrow.Author.Tests.{ltb-false, eqb-true}
 use lib.Dec.{eqb, ltb}
-use lib.ListN.{length}
+use lib.ListN.{length, take, drop, length-append}
+use lib.Seq.{take-append-seam}
 use Rattle.model.specs.Limits.{when, firstOf, input-limit, work-bytes, state-limit, bad-sizes, tree-too-large}
 use Rattle.model.specs.Fields.{File, Read, default-class, readFields}
 use Rattle.model.specs.Fields as fields
@@ -30,7 +31,7 @@ use Rattle.inference.specs.declared.Inferred.{Inferred}
 use Rattle.plans.specs.declared.Built.{Built}
 use Rattle.plans.specs.Says.{over, unless, Gives, BuildGives}
 use Rattle.plans.specs.Parts.{NoTable}
-use Rattle.plans.proofs.CallLaws.{SizesBad, SizesFit, sizes-fit, first-refuses, gives-none}
+use Rattle.plans.proofs.CallLaws.{SizesBad, sizes-fit, first-refuses, unless-accepted, gives-none}
 
 -- ---- how large the numbers of an accepted book are
 
@@ -50,6 +51,10 @@ accepted-few s ok =
     let size = length (treeOf (bookOf s .items)) in
     ltb-false state-limit size
     (when-none (ltb state-limit size) tree-too-large (omega arith) (first-of (readFields fields.book s .number) _ ok .1))
+
+pub joins-few : (s : List ℕ) → Accepted s → joinsOf (bookOf s) ≤ state-limit
+unfolding joinsOf
+joins-few s ok = omega (arith, accepted-few s ok)
 
 -- a book has at most as many states as its prefix tree
 states-few : (f : File) → length (bookStates f) ≤ length (treeOf (f .items))
@@ -160,7 +165,6 @@ module _ (book work out : List ℕ) where
   pub inferred-small :
       (out′ : List ℕ) (i : Inferred) → work-bytes ≤ length work → readFields fields.book book .number ≡ 0 →
       inferred.Gives (bookOf book) out out′ i → Small i
-  unfolding joinsOf
   inferred-small out′ i room e gives =
       let f = bookOf book in
       let fault = inferFault f out in
@@ -170,9 +174,35 @@ module _ (book work out : List ℕ) where
       small-unless fault (length (bookStates f)) state-limit
       (λ none. omega (arith, states-few f, accepted-few book (accepted-by e none))) in
       let joins : unless fault 0 (joinsOf f) ≤ state-limit =
-      small-unless fault (joinsOf f) state-limit (λ none. omega (arith, accepted-few book (accepted-by e none))) in
+      small-unless fault (joinsOf f) state-limit (λ none. joins-few book (accepted-by e none)) in
       record {
         length-small = omega (arith, gives .length-is);
         states-small = omega (arith, gives .states-are);
         joins-small = omega (arith, gives .joins-are);
       }
+
+-- ---- what a build that is not refused left in the output
+
+pub record Front (book work out out′ : List ℕ) (r : Built) : Type 0 where
+  pub no-refusal : buildFault book work out ≡ 0
+  pub within : r .length ≤ length out′
+  pub bytes-are : take (r .length) out′ ≡ bookTable (bookOf book)
+  pub joins-are : r .joins ≡ joinsOf (bookOf book)
+
+pub built-front :
+    (book work out out′ : List ℕ) (r : Built) → BuildGives book work out out′ r → r .number ≡ 0 → Front book work out out′ r
+built-front book work out out′ r gives none =
+    let fault : buildFault book work out ≡ 0 = sym (gives .number-is) ∙ none in
+    let table = bookTable (bookOf book) in
+    let size : r .length ≡ length table = gives .length-is ∙ unless-accepted (buildFault book work out) 0 (length table) fault in
+    let wrote : out′ ≡ over table out =
+    gives .output-is ∙ unless-accepted (buildFault book work out) out (over table out) fault in
+    record {
+      no-refusal = fault;
+      within = omega (arith, size, ap length wrote, length-append table (drop (length table) out));
+      bytes-are =
+          ap (λ (n : ℕ). take n out′) size
+          ∙ ap (λ (l : List ℕ). take (length table) l) wrote
+          ∙ take-append-seam table (drop (length table) out);
+      joins-are = gives .joins-are ∙ unless-accepted (buildFault book work out) 0 (joinsOf (bookOf book)) fault;
+    }

@@ -1,11 +1,8 @@
 -- What build writes is the table that demand 3 speaks of: `build-handed-over`. Assumes nothing.
-use mathlib.Core.Path.{_≡_, refl, sym, ap, _∙_, subst}
-use mathlib.Core.Bool.{Bool, true}
-use mathlib.Core.List.{List, _++_}
+use mathlib.Core.Path.{_≡_, sym, ap, _∙_, subst}
+use mathlib.Core.Bool.{true}
+use mathlib.Core.List.{List}
 use Prim.Native.Nat.{ℕ}
-use lib.ListN.{length, take, drop}
-use lib.Seq.{take-append-seam}
-use Rattle.model.specs.Limits.{when, firstOf}
 use Rattle.model.specs.Tables.{State, admits}
 use Rattle.model.specs.Classes.{Word, InClass}
 use Rattle.model.specs.Quotients.{bookStates, bookTable}
@@ -13,10 +10,8 @@ use Rattle.model.specs.Calls.{sizesFault, outputFault, bookOf, bookFault, build
 use Rattle.model.specs.Claims.{Accepted}
 use Rattle.model.proofs.FieldLaws.{first-of}
 use Rattle.model.proofs.Demands.{demands}
-use Rattle.plans.specs.declared.Built.{Built}
-use Rattle.plans.specs.Says.{over, unless, BuildSays}
-use Rattle.plans.specs.Handed.{AdmittedBy, HandedOver, BuildHandedOver}
-use Rattle.plans.proofs.CallLaws.{unless-accepted}
+use Rattle.plans.specs.Handed.{HandedOver, BuildHandedOver}
+use Rattle.plans.proofs.BuildLaws.{built-front}
 
 -- a build that is not refused is that of an accepted book
 accepted-book : (book work out : List ℕ) → buildFault book work out ≡ 0 → Accepted book
@@ -40,13 +35,6 @@ table-handed-over book ok =
 
 pub build-handed-over : BuildHandedOver
 build-handed-over book work work′ out out′ r says none =
-    let fault : buildFault book work out ≡ 0 = sym (says .gives .number-is) ∙ none in
-    let table = bookTable (bookOf book) in
-    let size : r .length ≡ length table = says .gives .length-is ∙ unless-accepted (buildFault book work out) 0 (length table) fault in
-    let wrote : out′ ≡ over table out =
-    says .gives .output-is ∙ unless-accepted (buildFault book work out) out (over table out) fault in
-    let front : take (r .length) out′ ≡ table =
-    ap (λ (n : ℕ). take n out′) size
-    ∙ ap (λ (l : List ℕ). take (length table) l) wrote
-    ∙ take-append-seam table (drop (length table) out) in
-    subst (λ (bytes : List ℕ). HandedOver book bytes) (sym front) (table-handed-over book (accepted-book book work out fault))
+    let front = built-front book work out out′ r (says .gives) none in
+    subst (λ (bytes : List ℕ). HandedOver book bytes) (sym (front .bytes-are))
+    (table-handed-over book (accepted-book book work out (front .no-refusal)))

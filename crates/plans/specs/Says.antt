@@ -1,14 +1,16 @@
--- What the public entries say (document 01, "What is given back" and "Walking a row"): the result, and every lent byte, are
--- equal to what a definition of `model` gives. Assumes nothing.
+-- What the public entries say (document 01, "What is given back", "Walking a row" and the listing of "Worked days"): the result, and
+-- every lent byte, are equal to what a definition of `model` gives. Assumes nothing.
 use mathlib.Core.Path.{_≡_}
-use mathlib.Core.Bool.{Bool, true, false, cond}
+use mathlib.Core.Bool.{Bool, true, false, cond, _||_}
 use mathlib.Core.List.{List, [], _∷_, _++_}
 use Prim.Native.Nat.{ℕ, zero, suc}
-use lib.Dec.{eqb}
+use lib.Dec.{eqb, ltb}
 use lib.ListN.{length, drop, replicate}
+use Rattle.model.specs.Limits.{work-bytes}
 use Rattle.model.specs.Tables.{outcome, longestBeginning, nextNames, nextCount}
 use Rattle.model.specs.Quotients.{bookStates, bookTable}
 use Rattle.model.specs.Calls.{bookOf, buildFault, joinsOf, rewriteFault, rewritten, walkFault, tableStates}
+use Rattle.model.specs.Listing.{listingOf}
 use Rattle.plans.specs.declared.Built.{Built}
 use Rattle.plans.specs.declared.Walked.{Walked}
 
@@ -83,4 +85,28 @@ pub record WalkSays (table row work work′ beginning : List ℕ) (number result
 pub record WalkedSays (table row work work′ : List ℕ) (r : Walked) : Type 0 where
   pub gives : WalkGives table row work (r .number) (r .outcome) (r .names) (r .count)
   pub length-is : r .length ≡ length (walkedPart table row work)
+  pub work-zero : work′ ≡ zeroed work
+
+-- ---- a book listed
+
+-- a text of so many bytes takes every listing
+abbrev pub listing-bytes : ℕ
+listing-bytes = 32768
+
+-- a working area and a text of so many bytes are too little for a listing
+abbrev pub tooLittle : ℕ → ℕ → Bool
+tooLittle work text = ltb work work-bytes || ltb text listing-bytes
+
+-- the text of a book's listing, a refusal's included; nothing where too little is lent
+unfoldable pub listed : List ℕ → List ℕ → List ℕ → List ℕ
+listed book work text = cond (tooLittle (length work) (length text)) [] (listingOf book)
+
+-- the listing at the front of the text, which is untouched beyond it, and its length
+pub record ListGives (book work text text′ : List ℕ) (r : ℕ) : Type 0 where
+  pub text-is : text′ ≡ over (listed book work text) text
+  pub length-is : r ≡ length (listed book work text)
+
+-- the same with the working area before and after: what list_book promises
+pub record ListSays (book work work′ text text′ : List ℕ) (r : ℕ) : Type 0 where
+  pub gives : ListGives book work text text′ r
   pub work-zero : work′ ≡ zeroed work

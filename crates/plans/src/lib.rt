@@ -1,13 +1,15 @@
-// The public entries: a book's table built, a table rewritten, a row walked over a table. Any bytes may be lent; each call ends with a result or one
-// numbered refusal, leaves every byte of the working area zero, and leaves the output as it was where it refuses.
+// The public entries: a book's table built, a table rewritten, a row walked over a table, a book listed as text. Any bytes may be
+// lent; each call ends with a result or one numbered refusal, leaves every byte of the working area zero, and leaves the output as it
+// was where it refuses.
 mod building;
-mod limits;
+pub mod limits;
+mod listing;
 mod rewriting;
 mod walking;
 
 use cells::clear;
 ghost use mathlib.Core.Path.{_≡_};
-ghost use Rattle.plans.specs.Says.{BuildSays, RewriteSays, WalkSays, WalkedSays};
+ghost use Rattle.plans.specs.Says.{BuildSays, RewriteSays, WalkSays, WalkedSays, ListSays};
 
 // What a call that writes a table gives back: a refusal's number or 0, then the table's length in bytes, its states, and the
 // joins: tree states less table states.
@@ -71,6 +73,16 @@ pub fn walk_row<'a>(
     *count = ended.count;
     let taken = ended.taken;
     &row[..taken]
+}
+
+// Writes the listing of a book at the front of the text and returns its length. A book that is refused has a listing too, `refused`
+// and its number; a result of 0 says that too little was lent: a working area under 65,536 bytes, or a text under 32,768.
+pub fn list_book(book: &[u8], work: &mut [u8], text: &mut [u8]) -> usize
+    ensures { λ r. ⌜ ListSays (now (book .entry)) (now (work .entry)) (now (work .exit)) (now (text .entry)) (now (text .exit)) r ⌝ }
+{
+    let length = listing::list(book, work, text);
+    clear(work);
+    length
 }
 
 // build_table for C.

@@ -1,4 +1,5 @@
-// The numbers that document 01 fixes for lent slices, by the names that model/specs/Limits has for them, and their test.
+// The sizes of slices: those that document 01 fixes, by the names that model/specs/Limits has for them, and their test; and those that
+// follow from its limits.
 ghost use mathlib.Core.Path.{_≡_};
 ghost use mathlib.Core.Bool.{_||_};
 ghost use lib.Dec.{ltb};
@@ -8,6 +9,12 @@ ghost use Rattle.model.specs.Limits.{input-limit, work-bytes};
 pub const INPUT_LIMIT: usize = 65535;
 
 pub const WORK_BYTES: usize = 65536;
+
+// A book's table has at most so many bytes: table-bytes of model/proofs/WrittenLengths.
+pub const TABLE_BYTES: usize = 5830;
+
+// A text of so many bytes takes every listing: listing-bytes of specs/Says.
+pub const LISTING_BYTES: usize = 32768;
 
 // The refusals of lent slices.
 pub const BAD_SIZES: u8 = 1;

@@ -1,0 +1,1 @@
+-- The proof of the listing program: what it prints lies within the text. Assumes nothing.

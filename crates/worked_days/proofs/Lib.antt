@@ -1,0 +1,1 @@
+-- The proofs of worked_days: its loops, and that what is printed lies within its text. Assumes nothing.
