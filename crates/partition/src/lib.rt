@@ -107,9 +107,11 @@ fn climb(
     while matched {
         c = numbers::wide16(outs[c]);
         v = numbers::wide16(outs[v]);
-        let joins = join_states(groups, c, v);
-        joined = joined | joins;
-        matched = joins & is_matched(ins, keys, groups, c, v);
+        if !join_states(groups, c, v) {
+            return joined;
+        }
+        joined = true;
+        matched = is_matched(ins, keys, groups, c, v);
     }
     joined
 }

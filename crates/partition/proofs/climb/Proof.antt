@@ -1,20 +1,21 @@
 -- `climb` meets its contract. The invariant of its loop: what holds after some joins. Assumes nothing.
 use mathlib.Core.Path.{_≡_, refl, sym, _∙_, subst}
-use mathlib.Core.Bool.{Bool, true, _&&_}
+use mathlib.Core.Bool.{Bool, true}
 use Prim.Native.Nat.{ℕ, _<_}
 use native.Mathlib.Omega.{arith}
 use lib.ListN.{length, getD}
+use Rattle.indexed.specs.Partitions.{sum}
 use Rattle.partition.proofs.ClimbLaws.{
   ClimbedTo,
-  due,
   climbed-start,
   join-ready,
   match-ready,
   climbed-more,
+  climbed-stop,
   climbed-end,
-  climb-less,
 }
 use borrow.Author.Needs.{needs}
+use borrow.Author.Tests.{not-true, not-false}
 use Rattle.partition.proofs.climb.Statement.{statement}
 use Rattle.partition.proofs.climb.Tie as tie
 
@@ -23,7 +24,7 @@ Inv-loop ins outs keys groups₀ first second c₀ v₀ joined₀ matched₀ gro
     ClimbedTo (length groups₀) ins outs keys groups₀ groups first second c v joined matched
 
 abbrev μ-loop : tie.MeasureT-loop
-μ-loop ins outs keys groups₀ first second c₀ v₀ joined₀ matched₀ groups c v joined matched = due groups matched
+μ-loop ins outs keys groups₀ first second c₀ v₀ joined₀ matched₀ groups c v joined matched = sum groups
 
 -- so far, at a turn of the loop
 so-far :
@@ -84,9 +85,30 @@ join-states-requires c κs =
     (here .loop .groups) (here .loop .c) (here .loop .v) (left .wide16 .result) (right .wide162 .result) (here .loop .joined)
     (so-far going) (left .wide16 .ensures) (right .wide162 .ensures)
 
+same-length : tie.Need-same-length Inv-loop μ-loop
+same-length c =
+    let joins = c .before .before .before in
+    let here = joins .before .before .before .before .before .before .before in
+    joins .join-states .ensures .labelled .size ∙ here .loop .inv .labelled .size
+
+returns : tie.Need-returns Inv-loop μ-loop
+returns c =
+    let joins = c .before .before .before in
+    let right = joins .before .before in
+    let left = right .before .before in
+    let going = left .before .before in
+    let here = going .before in
+    let at = here .before .before .before .before .before in
+    climbed-stop (length (at .args .groups .now)) (at .args .ins .now) (at .args .outs .now) (at .args .keys .now)
+    (at .args .groups .now) (at .args .first) (at .args .second) (at .pre .0)
+    (here .loop .groups) (here .loop .c) (here .loop .v) (left .wide16 .result) (right .wide162 .result) (here .loop .joined)
+    (so-far going) (left .wide16 .ensures) (right .wide162 .ensures)
+    (joins .join-states .last .0) (joins .join-states .result) (joins .join-states .ensures)
+    (not-true (joins .join-states .result) (c .if1 .taken))
+
 is-matched-requires : tie.Need-is-matched-requires Inv-loop μ-loop
 is-matched-requires c κs =
-    let joins = c .before .before .before in
+    let joins = c .before .before .before .before in
     let right = joins .before .before in
     let left = right .before .before in
     let going = left .before .before in
@@ -100,19 +122,14 @@ is-matched-requires c κs =
 
 loop-less : tie.Need-loop-less Inv-loop μ-loop
 loop-less c =
-    let joins = c .before .before .before .before in
-    let right = joins .before .before in
-    let left = right .before .before in
-    let going = left .before .before in
-    let here = going .before in
-    subst (λ (b : Bool). due (joins .join-states .last .0) (joins .join-states .result && c .is-matched .result) < due (here .loop .groups) b)
-    (sym (going .loop-test .taken))
-    (climb-less (length (here .loop .groups)) (left .wide16 .result) (right .wide162 .result) (here .loop .groups)
-    (joins .join-states .last .0) (joins .join-states .result) (c .is-matched .result) (joins .join-states .ensures))
+    let fails = c .before .before in
+    let joins = fails .before .before .before in
+    joins .join-states .ensures .some (not-false (joins .join-states .result) (fails .if1 .left))
 
 loop-again : tie.Need-loop-again Inv-loop μ-loop
 loop-again c =
-    let joins = c .before .before .before .before in
+    let fails = c .before .before in
+    let joins = fails .before .before .before in
     let right = joins .before .before in
     let left = right .before .before in
     let going = left .before .before in
@@ -123,13 +140,13 @@ loop-again c =
     (here .loop .groups) (here .loop .c) (here .loop .v) (left .wide16 .result) (right .wide162 .result) (here .loop .joined)
     (so-far going) (left .wide16 .ensures) (right .wide162 .ensures)
     (joins .join-states .last .0) (joins .join-states .result) (joins .join-states .ensures)
-    (c .is-matched .result) (c .is-matched .ensures)
+    (c .is-matched .result) (not-false (joins .join-states .result) (fails .if1 .left)) (c .is-matched .ensures)
 
-same-length : tie.Need-same-length Inv-loop μ-loop
-same-length c = c .before .loop .inv .labelled .size
+same-length-2 : tie.Need-same-length-2 Inv-loop μ-loop
+same-length-2 c = c .before .loop .inv .labelled .size
 
-returns : tie.Need-returns Inv-loop μ-loop
-returns c =
+returns-2 : tie.Need-returns-2 Inv-loop μ-loop
+returns-2 c =
     let here = c .before in
     let at = here .before .before .before .before .before in
     climbed-end (length (at .args .groups .now)) (at .args .ins .now) (at .args .outs .now) (at .args .keys .now)
@@ -151,8 +168,10 @@ climb-spec =
     shared-slice-read-wide16-2
     wide16-requires-2
     join-states-requires
+    same-length
+    returns
     is-matched-requires
     loop-less
     loop-again
-    same-length
-    returns)
+    same-length-2
+    returns-2)
