@@ -12,7 +12,7 @@ use borrow.Author.Tests.{eqb-true, eqb-false, eq-eqb}
 use Rattle.indexed.specs.Partitions.{Labelled}
 use Rattle.indexed.specs.Passes.{ByEnds}
 use Rattle.functions.specs.Parts.{FirstEnd, EndLabel}
-use Rattle.functions.proofs.FillLaws.{Filled}
+use Rattle.partition.proofs.FillLaws.{Filled}
 
 -- no accepting state of the class of v stands before u
 abbrev pub NoEnd : List ℕ → List ℕ → ℕ → ℕ → Type 0

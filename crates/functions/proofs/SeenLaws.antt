@@ -14,7 +14,7 @@ use Rattle.model.specs.Limits.{name-limit}
 use Rattle.indexed.specs.Trees.{Arrays}
 use Rattle.indexed.specs.Passes.{SeenSets, BySeen}
 use Rattle.functions.specs.Parts.{SeenAt, FirstSeen}
-use Rattle.functions.proofs.FillLaws.{Filled}
+use Rattle.partition.proofs.FillLaws.{Filled}
 
 -- one bit more: the shift loses nothing
 pub with-bit : (seen name : ℕ) → name < name-limit → bitOr seen ((1 * 2 ^ name) % 2 ^ 64) ≡ bitOr seen (2 ^ name)

@@ -1,11 +1,13 @@
-// Partitions of states by number: two groups made one, and a pass that joins along arcs with keys. A partition is a slice that
-// gives each state the number of its group, the lowest label of it.
+// Partitions of states by number: each state by itself, two groups made one, and a pass that joins along arcs with keys. A
+// partition is a slice that gives each state the number of its group, the lowest label of it.
 use cells::numbers;
 ghost use mathlib.Core.Path.{_≡_};
 ghost use mathlib.Core.Bool.{cond, true};
 ghost use Prim.Native.Nat.{ℕ, _-_, _<_, _≤_};
 ghost use lib.Dec.{eqb};
 ghost use lib.ListN.{length, getD};
+ghost use Rattle.model.specs.Limits.{state-limit};
+ghost use Rattle.model.specs.Lists.{numbersFrom};
 ghost use Rattle.indexed.specs.Partitions.{Labelled};
 ghost use Rattle.indexed.specs.Passes.{relabelled, Passed};
 ghost use Rattle.cells.specs.Cells.{work-bytes};
@@ -14,6 +16,18 @@ ghost use Rattle.partition.specs.Steps.{Ready, Judged, Matched, Climbed,
 
 // A key of this or more is none.
 const NAME_LIMIT: u8 = 64;
+
+// Writes each state's own number.
+pub fn own(numbers: &mut [u16])
+    requires { ⌜ length (now numbers) ≤ state-limit ⌝ }
+    ensures { λ _. ⌜ now (numbers .exit) ≡ numbersFrom (length (now (numbers .entry))) 0 ⌝ }
+{
+    let mut v = 0;
+    while v < numbers.len() {
+        numbers[v] = numbers::narrow16(v);
+        v += 1;
+    }
+}
 
 // A label after y is joined to x.
 fn new_label(g: u16, x: u16, y: u16) -> u16

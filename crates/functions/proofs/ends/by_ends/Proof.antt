@@ -5,7 +5,7 @@ use native.Mathlib.Omega.{arith}
 use lib.ListN.{length}
 use Rattle.functions.specs.Parts.{EndLabel}
 use Rattle.indexed.specs.Partitions.{Labelled}
-use Rattle.functions.proofs.FillLaws.{Filled, filled-none, filled-more}
+use Rattle.partition.proofs.FillLaws.{Filled, filled-none, filled-more}
 use Rattle.functions.proofs.EndLaws.{by-ends-all, label-low}
 use Rattle.functions.proofs.ends.by_ends.Statement.{statement}
 use Rattle.functions.proofs.ends.by_ends.Tie as tie

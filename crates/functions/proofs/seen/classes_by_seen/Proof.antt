@@ -4,7 +4,7 @@ use Prim.Native.Nat.{_-_, _≤_}
 use native.Mathlib.Omega.{arith}
 use lib.ListN.{length}
 use Rattle.functions.specs.Parts.{FirstSeen}
-use Rattle.functions.proofs.FillLaws.{Filled, filled-none, filled-more}
+use Rattle.partition.proofs.FillLaws.{Filled, filled-none, filled-more}
 use Rattle.functions.proofs.SeenLaws.{by-seen-all}
 use Rattle.functions.proofs.seen.classes_by_seen.Statement.{statement}
 use Rattle.functions.proofs.seen.classes_by_seen.Tie as tie
