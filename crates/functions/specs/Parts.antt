@@ -3,11 +3,11 @@
 use mathlib.Core.Path.{_≡_}
 use mathlib.Core.Bool.{Bool, cond, Bool·beq}
 use mathlib.Core.List.{List}
-use Prim.Native.Nat.{ℕ, _^_, _<_, _≤_}
-use lib.Bits.{bitOr}
+use Prim.Native.Nat.{ℕ, _+_, _/_, _%_, _^_, _<_, _≤_}
+use lib.Bits.{bitOr, bitXor}
 use lib.Dec.{eqb}
-use lib.ListN.{getD}
-use Rattle.model.specs.Limits.{name-limit}
+use lib.ListN.{getD, set}
+use Rattle.model.specs.Limits.{name-limit, state-limit}
 use Rattle.indexed.specs.Trees.{up}
 
 -- the j-th ancestor of v among n states
@@ -26,6 +26,22 @@ pub record KeyAt (enlarge : Bool) (parents names seen : List ℕ) (v answer : �
 pub record SeenAt (parents names seen : List ℕ) (v answer : ℕ) : Type 0 where
   pub root : v ≡ 0 → answer ≡ 0
   pub arc : 0 < v → answer ≡ bitOr (getD seen (getD parents v 0) 0) (2 ^ getD names v 0)
+
+-- the bucket of a set, below 512: all its parts folded into nine bits
+abbrev folded : ℕ → ℕ → ℕ
+folded x k = bitXor x (x / 2 ^ k)
+
+unfoldable pub bucketOf : ℕ → ℕ
+bucketOf seen = folded (folded (folded seen 32) 16) 9 % state-limit
+
+-- the states in the list of a bucket: each is the first with its set
+abbrev pub Listed : List ℕ → ℕ → ℕ → Type 0
+Listed seen b u = (bucketOf (getD seen u 0) ≡ b) × ((k : ℕ) → k < u → getD seen k 0 ≡ getD seen u 0 → ⊥)
+
+-- state v put at the end of list b where it is the first with its set, else nothing
+pub record Linked (b v first : ℕ) (links heads links′ heads′ : List ℕ) : Type 0 where
+  pub pushed : first ≡ v → (links′ ≡ set links v (getD heads b 0)) × (heads′ ≡ set heads b (v + 1))
+  pub kept : (first ≡ v → ⊥) → (links′ ≡ links) × (heads′ ≡ heads)
 
 -- the first state with the set of v
 pub record FirstSeen (seen : List ℕ) (v answer : ℕ) : Type 0 where
