@@ -1,12 +1,12 @@
--- What the parts promise: an ancestor, the key and the set of one state, the first state with a seen set, the first accepting
--- state of a class. Assumes nothing.
+-- What the parts promise: an ancestor, the key and the set of one state, the first state with a seen set and the lists in which it
+-- is sought, the first accepting state of a class. Assumes nothing.
 use mathlib.Core.Path.{_≡_}
 use mathlib.Core.Bool.{Bool, cond, Bool·beq}
 use mathlib.Core.List.{List}
-use Prim.Native.Nat.{ℕ, _+_, _/_, _%_, _^_, _<_, _≤_}
+use Prim.Native.Nat.{ℕ, suc, _+_, _/_, _%_, _^_, _<_, _≤_}
 use lib.Bits.{bitOr, bitXor}
 use lib.Dec.{eqb}
-use lib.ListN.{getD, set}
+use lib.ListN.{length, getD, set}
 use Rattle.model.specs.Limits.{name-limit, state-limit}
 use Rattle.indexed.specs.Trees.{up}
 
@@ -55,6 +55,13 @@ pub record FirstEnd (accepts classes : List ℕ) (v answer : ℕ) : Type 0 where
   pub accepting : getD accepts answer 0 ≡ 1
   pub alike : getD classes answer 0 ≡ getD classes v 0
   pub first : (u : ℕ) → u < answer → getD accepts u 0 ≡ 1 → getD classes u 0 ≡ getD classes v 0 → ⊥
+
+-- for each class the first accepting state of it among the first i, plus one; 0 where there is none
+pub record Firsts (accepts classes : List ℕ) (i : ℕ) (firsts : List ℕ) : Type 0 where
+  pub size : length firsts ≡ state-limit
+  pub none :
+      (class : ℕ) → getD firsts class 0 ≡ 0 → (u : ℕ) → u < i → getD accepts u 0 ≡ 1 → getD classes u 0 ≡ class → ⊥
+  pub some : (class u : ℕ) → getD firsts class 0 ≡ suc u → (getD classes u 0 ≡ class) × (u < i) × FirstEnd accepts classes u u
 
 -- the group of v at the start: that state where v accepts, v itself otherwise
 pub record EndLabel (accepts classes : List ℕ) (v answer : ℕ) : Type 0 where
