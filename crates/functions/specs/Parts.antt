@@ -27,10 +27,11 @@ pub record SeenAt (parents names seen : List ℕ) (v answer : ℕ) : Type 0 wher
   pub root : v ≡ 0 → answer ≡ 0
   pub arc : 0 < v → answer ≡ bitOr (getD seen (getD parents v 0) 0) (2 ^ getD names v 0)
 
--- the bucket of a set, below 512: all its parts folded into nine bits
+-- a number's bits from the k-th on laid over its lowest
 abbrev folded : ℕ → ℕ → ℕ
 folded x k = bitXor x (x / 2 ^ k)
 
+-- the bucket of a set, below 512. Only that equal sets have one bucket is used
 unfoldable pub bucketOf : ℕ → ℕ
 bucketOf seen = folded (folded (folded seen 32) 16) 9 % state-limit
 

@@ -1,4 +1,5 @@
 // The partition at the start: accepting states of one class are joined, every other state is by itself.
+use crate::STATE_LIMIT;
 use cells::numbers;
 ghost use mathlib.Core.Path.{_≡_};
 ghost use Prim.Native.Nat.{_+_, _<_, _≤_};
@@ -10,7 +11,7 @@ ghost use Rattle.functions.specs.Parts.{Firsts, EndLabel};
 
 // A state's group at the start, by the first accepting states of the classes so far; an accepting state whose class has none
 // becomes it.
-fn end_label(accepts: &[u8], classes: &[u16], firsts: &mut [u16; 512], v: usize) -> usize
+fn end_label(accepts: &[u8], classes: &[u16], firsts: &mut [u16; STATE_LIMIT], v: usize) -> usize
     requires few { ⌜ length (now classes) ≤ state-limit ⌝ }
     requires accepts_size { ⌜ length (now accepts) ≡ length (now classes) ⌝ }
     requires labelled { ⌜ Labelled (length (now classes)) (now classes) ⌝ }
@@ -38,7 +39,7 @@ pub fn by_ends(accepts: &[u8], classes: &[u16], groups: &mut [u16])
     requires labelled { ⌜ Labelled (length (now groups)) (now classes) ⌝ }
     ensures { λ _. ⌜ ByEnds (length (now (groups .entry))) (now (accepts .entry)) (now (classes .entry)) (now (groups .exit)) ⌝ }
 {
-    let mut firsts = [0u16; 512];
+    let mut firsts = [0u16; STATE_LIMIT];
     let mut v = 0;
     while v < groups.len() {
         let label = end_label(accepts, classes, &mut firsts, v);

@@ -1,4 +1,5 @@
 // The set of names seen on the way to each state, as 64 bits, and the classes of states with the same set.
+use crate::STATE_LIMIT;
 use cells::numbers;
 ghost use mathlib.Core.Path.{_≡_};
 ghost use Prim.Native.Nat.{_^_, _<_, _≤_};
@@ -55,7 +56,13 @@ fn bucket(set: u64) -> usize
 }
 
 // The first state with the set of state v, sought in the list of the set's bucket, where the first state with each set is.
-fn first_seen(seen: &[u64], links: &[u16; 512], heads: &[u16; 512], b: usize, v: usize) -> usize
+fn first_seen(
+    seen: &[u64],
+    links: &[u16; STATE_LIMIT],
+    heads: &[u16; STATE_LIMIT],
+    b: usize,
+    v: usize,
+) -> usize
     requires few { ⌜ length (now seen) ≤ state-limit ⌝ }
     requires inside { ⌜ v < length (now seen) ⌝ }
     requires list { ⌜ b ≡ bucketOf (getD (now seen) v 0) ⌝ }
@@ -76,7 +83,13 @@ fn first_seen(seen: &[u64], links: &[u16; 512], heads: &[u16; 512], b: usize, v:
 }
 
 // Puts state v at the end of list b where it is the first with its set.
-fn link(links: &mut [u16; 512], heads: &mut [u16; 512], b: usize, v: usize, first: usize)
+fn link(
+    links: &mut [u16; STATE_LIMIT],
+    heads: &mut [u16; STATE_LIMIT],
+    b: usize,
+    v: usize,
+    first: usize,
+)
     requires inside { ⌜ v < state-limit ⌝ }
     requires below { ⌜ b < state-limit ⌝ }
     ensures { λ _.
@@ -95,8 +108,8 @@ pub fn classes_by_seen(seen: &[u64], classes: &mut [u16])
     requires seen_size { ⌜ length (now seen) ≡ length (now classes) ⌝ }
     ensures { λ _. ⌜ BySeen (length (now (classes .entry))) (now (seen .entry)) (now (classes .exit)) ⌝ }
 {
-    let mut links = [0u16; 512];
-    let mut heads = [0u16; 512];
+    let mut links = [0u16; STATE_LIMIT];
+    let mut heads = [0u16; STATE_LIMIT];
     let mut v = 0;
     while v < classes.len() {
         let b = bucket(seen[v]);

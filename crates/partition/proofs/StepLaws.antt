@@ -1,6 +1,6 @@
 -- Laws of one turn of a pass: a state without a key; a cell whose state is believed; a cell that is overwritten. Then: where every
 -- state is settled, the partition is closed. Assumes nothing.
-use mathlib.Core.Path.{_≡_, refl, sym, ap, ap₂, _∙_, subst, subst₂}
+use mathlib.Core.Path.{_≡_, refl, sym, ap, ap₂, _∙_, subst}
 use mathlib.Core.Bool.{Bool, true, false, _&&_, _||_}
 use mathlib.Core.List.{List}
 use Prim.Native.Nat.{ℕ, _<_, _≤_}

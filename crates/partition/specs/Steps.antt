@@ -1,6 +1,6 @@
--- What a pass along arcs with keys needs, and what its turn at one state and its climb from two states promise. The working area holds a cell for each row, a
--- group, and each column, a key; what a cell holds counts only where it is believed, so the area may hold anything at the start.
--- Assumes nothing.
+-- What a pass along arcs with keys needs, and what its turn at one state and its climb from two states promise. The working area
+-- holds a cell for each row, a group, and each column, a key; what a cell holds counts only where it is believed, so the area may
+-- hold anything at the start. Assumes nothing.
 use mathlib.Core.Path.{_≡_}
 use mathlib.Core.Bool.{Bool, true, false}
 use mathlib.Core.List.{List}

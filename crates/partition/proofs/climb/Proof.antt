@@ -1,9 +1,8 @@
 -- `climb` meets its contract. The invariant of its loop: what holds after some joins. Assumes nothing.
-use mathlib.Core.Path.{_≡_, refl, sym, _∙_, subst}
+use mathlib.Core.Path.{refl, _∙_, subst}
 use mathlib.Core.Bool.{Bool, true}
-use Prim.Native.Nat.{ℕ, _<_}
 use native.Mathlib.Omega.{arith}
-use lib.ListN.{length, getD}
+use lib.ListN.{length}
 use Rattle.indexed.specs.Partitions.{sum}
 use Rattle.partition.proofs.ClimbLaws.{
   ClimbedTo,

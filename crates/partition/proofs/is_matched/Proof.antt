@@ -1,5 +1,5 @@
 -- `is_matched` meets its contract: the state that ins lead to is one of the partition's, and its group is the row. Assumes nothing.
-use mathlib.Core.Path.{_≡_, sym, ap, subst}
+use mathlib.Core.Path.{sym, ap, subst}
 use Prim.Native.Nat.{ℕ, _<_}
 use native.Mathlib.Omega.{arith}
 use lib.ListN.{length, getD}

@@ -1,11 +1,11 @@
 -- `pass_at` meets its contract: one law for each answer. Facts about the row, the cell and its state first, each at the
 -- place where it becomes known. Assumes nothing.
 use mathlib.Core.Path.{_≡_, sym, ap, ap₂, _∙_, subst}
-use Prim.Native.Nat.{ℕ, _<_, _≤_}
+use Prim.Native.Nat.{ℕ, _<_}
 use native.Mathlib.Omega.{arith}
 use lib.ListN.{length, getD}
 use Rattle.model.specs.Limits.{name-limit}
-use Rattle.cells.specs.Cells.{row-count, column-count, work-bytes, cellAt}
+use Rattle.cells.specs.Cells.{row-count, column-count, cellAt}
 use Rattle.partition.specs.Steps.{Believed, Matched, rowOf, cellOf}
 use Rattle.partition.proofs.StepLaws.{passed-without, passed-climb, passed-set}
 use Rattle.partition.proofs.ClimbLaws.{matched-by}

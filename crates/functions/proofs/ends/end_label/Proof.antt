@@ -1,5 +1,4 @@
 -- `end_label` meets its contract: one law for each end. Assumes nothing.
-use mathlib.Core.Path.{_≡_}
 use Prim.Native.Nat.{_-_, _<_}
 use native.Mathlib.Omega.{arith}
 use Rattle.model.specs.Limits.{state-limit}

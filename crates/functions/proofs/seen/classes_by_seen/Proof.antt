@@ -1,6 +1,6 @@
 -- `classes_by_seen` meets its contract. The invariant of its loop: the first v classes are right, and the lists are those of the
 -- first v states. Assumes nothing.
-use mathlib.Core.Path.{_≡_, sym, _∙_, subst}
+use mathlib.Core.Path.{sym, subst}
 use Prim.Native.Nat.{_-_, _≤_}
 use native.Mathlib.Omega.{arith}
 use lib.ListN.{length}

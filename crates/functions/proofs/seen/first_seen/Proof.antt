@@ -1,6 +1,5 @@
 -- `first_seen` meets its contract. The invariant of its loop: no state of the list from `at` on has the set. Assumes nothing.
-use mathlib.Core.Path.{_≡_}
-use Prim.Native.Nat.{ℕ, suc, _-_, _<_}
+use Prim.Native.Nat.{_-_, _<_}
 use native.Mathlib.Omega.{arith}
 use Rattle.indexed.specs.Chains.{Searched}
 use Rattle.indexed.proofs.Chains.{searched-start, searched-on}
