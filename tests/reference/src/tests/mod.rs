@@ -32,7 +32,7 @@ fn built(book: &[u8]) -> Result<Built, Refusal> {
     build(book, ENOUGH, &mut Random::new(1))
 }
 
-/// Distinct names of two letters, ascending.
+/// Distinct names, ascending.
 fn many_names(count: usize) -> Vec<String> {
-    (0..count).map(|number| format!("n{}{}", (b'a' + (number / 26) as u8) as char, (b'a' + (number % 26) as u8) as char)).collect()
+    (0..count).map(|number| format!("n{number:02}")).collect()
 }
