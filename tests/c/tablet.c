@@ -1,5 +1,5 @@
-/* The library used as the tablet's program uses it: builds a book, walks rows, offers the names that may come next, and meets each
- * refusal. All of it runs in a thread with a stack of STACK_BYTES, which scripts/test-c sets; 0 leaves the system's own. */
+/* The library used as the tablet's program uses it: builds a book, walks rows, offers the names that may come next, and meets
+ * each refusal. All of it runs in a thread with a stack of STACK_BYTES, which scripts/test-c sets; 0 leaves the system's own. */
 #include <pthread.h>
 #include <stdio.h>
 #include <string.h>
@@ -130,9 +130,10 @@ static void refused_lengths(void)
     check("1: no working area", build(&book, 0, 0, &again).number == PLANS_BAD_SIZES);
     check("1: no working area to rewrite", rewrite(&table, 0, 0, &again).number == PLANS_BAD_SIZES);
     check("1: no working area to walk", walk(&table, row, 1, 0).number == PLANS_BAD_SIZES);
-    check("13: an output one byte short", build(&book, PLANS_WORK_BYTES, built.length - 1, &again).number == PLANS_OUTPUT_TOO_SHORT);
-    check("13: no output", rewrite(&table, PLANS_WORK_BYTES, 0, &again).number == PLANS_OUTPUT_TOO_SHORT);
     check("an output just long enough", build(&book, PLANS_WORK_BYTES, built.length, &again).number == PLANS_OK);
+    built = build(&book, PLANS_WORK_BYTES, built.length - 1, &again);
+    check("13: an output one byte short", built.number == PLANS_OUTPUT_TOO_SHORT);
+    check("13: no output", rewrite(&table, PLANS_WORK_BYTES, 0, &again).number == PLANS_OUTPUT_TOO_SHORT);
     memset(book.bytes, 0, sizeof book.bytes);
     book.length = sizeof book.bytes;
     refused_build("1: a book of 65,536 bytes", PLANS_BAD_SIZES);

@@ -4,11 +4,19 @@
 
 enum { NONE, TABLE_BYTE, LARGE_TABLE, BEYOND_TABLE, WORK_BYTE, REFUSAL, REWRITTEN_BYTE, NEXT_NAMES };
 
-plans_built real_plans_build(const uint8_t *book, size_t book_len, uint8_t *work, size_t work_len, uint8_t *out, size_t out_len);
-plans_built real_plans_rewrite(const uint8_t *table, size_t table_len, uint8_t *work, size_t work_len, uint8_t *out, size_t out_len);
-plans_walked real_plans_walk(const uint8_t *table, size_t table_len, const uint8_t *row, size_t row_len, uint8_t *work, size_t work_len);
+plans_built real_plans_build(const uint8_t *book, size_t book_len,
+                             uint8_t *work, size_t work_len,
+                             uint8_t *out, size_t out_len);
+plans_built real_plans_rewrite(const uint8_t *table, size_t table_len,
+                               uint8_t *work, size_t work_len,
+                               uint8_t *out, size_t out_len);
+plans_walked real_plans_walk(const uint8_t *table, size_t table_len,
+                             const uint8_t *row, size_t row_len,
+                             uint8_t *work, size_t work_len);
 
-plans_built plans_build(const uint8_t *book, size_t book_len, uint8_t *work, size_t work_len, uint8_t *out, size_t out_len)
+plans_built plans_build(const uint8_t *book, size_t book_len,
+                        uint8_t *work, size_t work_len,
+                        uint8_t *out, size_t out_len)
 {
     plans_built built = real_plans_build(book, book_len, work, work_len, out, out_len);
 
@@ -25,7 +33,9 @@ plans_built plans_build(const uint8_t *book, size_t book_len, uint8_t *work, siz
     return built;
 }
 
-plans_built plans_rewrite(const uint8_t *table, size_t table_len, uint8_t *work, size_t work_len, uint8_t *out, size_t out_len)
+plans_built plans_rewrite(const uint8_t *table, size_t table_len,
+                          uint8_t *work, size_t work_len,
+                          uint8_t *out, size_t out_len)
 {
     plans_built built = real_plans_rewrite(table, table_len, work, work_len, out, out_len);
 
@@ -34,7 +44,9 @@ plans_built plans_rewrite(const uint8_t *table, size_t table_len, uint8_t *work,
     return built;
 }
 
-plans_walked plans_walk(const uint8_t *table, size_t table_len, const uint8_t *row, size_t row_len, uint8_t *work, size_t work_len)
+plans_walked plans_walk(const uint8_t *table, size_t table_len,
+                        const uint8_t *row, size_t row_len,
+                        uint8_t *work, size_t work_len)
 {
     plans_walked walked = real_plans_walk(table, table_len, row, row_len, work, work_len);
 

@@ -15,6 +15,8 @@ pub struct Counts {
     pub outcomes: [usize; 4],
     /// How many accepted builds joined states, for each class by its field's bytes.
     pub joined: BTreeMap<[u8; 3], usize>,
+    /// The most states that the prefix tree of such a build had.
+    pub largest_tree: usize,
 }
 
 impl Counts {
@@ -26,6 +28,7 @@ impl Counts {
                 if built.joins > 0 {
                     let class = read_table(&built.bytes).expect("a built table can be read").class;
                     *self.joined.entry(class.bytes()).or_default() += 1;
+                    self.largest_tree = self.largest_tree.max(built.states + built.joins);
                 }
             }
             Err(refusal) => self.refused[usize::from(refusal.number())] += 1,
@@ -47,6 +50,7 @@ impl Counts {
         self.inputs += more.inputs;
         self.refused.iter_mut().zip(more.refused).for_each(|(sum, count)| *sum += count);
         self.outcomes.iter_mut().zip(more.outcomes).for_each(|(sum, count)| *sum += count);
+        self.largest_tree = self.largest_tree.max(more.largest_tree);
         for (class, count) in &more.joined {
             *self.joined.entry(*class).or_default() += count;
         }

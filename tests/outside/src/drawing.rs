@@ -1,6 +1,6 @@
 //! Books, tables and rows drawn at random.
 
-use reference::fields::{Class, CLASS, NAME, NAMES_LIMIT, NAME_LENGTH_LIMIT, ROW, ROW_LIMIT};
+use reference::fields::{Class, CLASS, NAME, NAMES_LIMIT, NAME_LENGTH_LIMIT, ROW, ROWS_LIMIT, ROW_LIMIT};
 use reference::random::Random;
 use reference::table::{write_field, Arc, State, Table};
 use std::collections::BTreeSet;
@@ -94,7 +94,7 @@ pub fn draw_rows(random: &mut Random, names: usize, entries: usize) -> Vec<Vec<u
         let row = draw_row(random, &letters, &rows, length);
         left -= row.len();
         rows.push(row);
-        if left == 0 || rows.len() == 256 || random.once_in(12) {
+        if left == 0 || rows.len() == ROWS_LIMIT || (entries <= SMALL && random.once_in(12)) {
             return rows;
         }
     }

@@ -104,7 +104,7 @@ fn report(options: &Options, tallies: Vec<Tally>) -> ExitCode {
         results.push((kind.what, tally.mismatch.or(too_few)));
         all.add(&tally.counts);
     }
-    println!("{:>9} inputs: all kinds", all.inputs);
+    println!("{:>9} inputs: all kinds; {} or more were promised", all.inputs, options.count);
     results.extend(coverage(options, &all));
     for (what, wrong) in &results {
         if let Some(wrong) = wrong {
@@ -121,7 +121,8 @@ fn coverage(options: &Options, all: &Counts) -> Vec<(&'static str, Option<String
     let least_joined = all.joined.values().min().unwrap_or(&0);
     println!("accepted: {}; refusals 1 to 13: {:?}", all.refused[0], &all.refused[1..]);
     println!("walks admitted, on the way, stopped: {:?}", &all.outcomes[1..]);
-    println!("classes with builds that joined states: {}, in each at least {least_joined} such builds", all.joined.len());
+    println!("classes with builds that joined states: {}, in each {least_joined} or more such builds", all.joined.len());
+    println!("largest prefix tree of such a build: {} states", all.largest_tree);
     let says = |wrong: bool, what: &str| wrong.then(|| what.to_string());
     vec![
         ("all inputs", says(all.inputs < options.count, "fewer than promised")),

@@ -21,14 +21,14 @@ impl Groups {
     pub fn alone(tree: &PrefixTree) -> Groups {
         let mut arcs = tree.arcs.clone();
         arcs.sort();
-        Groups { group_of: (0..tree.len()).collect(), accepting: tree.accepting.clone(), arcs }
+        Groups { group_of: (0..tree.states()).collect(), accepting: tree.accepting.clone(), arcs }
     }
 
     pub fn is_group(&self, state: usize) -> bool {
         self.group_of[state] == state
     }
 
-    fn join(&mut self, step: Step) {
+    pub fn join(&mut self, step: Step) {
         let Step { least, other } = step;
         for group in &mut self.group_of {
             if *group == other {
@@ -89,7 +89,7 @@ pub fn full_joining(tree: &PrefixTree, class: Class, random: &mut Random) -> Gro
 }
 
 /// Every open step. `values` holds f of each tree state, for the classes that have one.
-fn open_steps(groups: &Groups, class: Class, values: &[usize]) -> Vec<Step> {
+pub fn open_steps(groups: &Groups, class: Class, values: &[usize]) -> Vec<Step> {
     let mut open = OpenSteps::none(groups.group_of.len());
     open_forks(groups, &mut open);
     match class {

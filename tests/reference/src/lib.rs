@@ -45,7 +45,7 @@ pub fn build(book: &[u8], lent: Lent, random: &mut Random) -> Result<Built, Refu
     let tree = PrefixTree::of_rows(&book.rows)?;
     let groups = joining::full_joining(&tree, book.class, random);
     let states = table::number_groups(&groups);
-    let joins = tree.len() - states.len();
+    let joins = tree.states() - states.len();
     fit(&Table { names: book.names, class: book.class, states }, joins, lent.output)
 }
 

@@ -47,12 +47,7 @@ impl PrefixTree {
     }
 
     /// How many states it has.
-    pub fn len(&self) -> usize {
+    pub fn states(&self) -> usize {
         self.words.len()
-    }
-
-    /// Never: the root is always there.
-    pub fn is_empty(&self) -> bool {
-        self.words.is_empty()
     }
 }

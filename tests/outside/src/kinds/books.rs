@@ -17,15 +17,20 @@ pub fn every_class(run: &mut Run) -> Result<(), Mismatch> {
     Ok(())
 }
 
-/// A book of up to 220 names' numbers, one in twenty of up to 520, with outputs just long enough and just too short.
+/// A book of up to 220 names' numbers, one in twenty of up to 520, built with outputs of any length that is enough and of one at
+/// the boundary; its table rewritten at each boundary.
 pub fn large(run: &mut Run) -> Result<(), Mismatch> {
     let entries = if run.random.once_in(20) { run.random.between(400, 520) } else { run.random.between(60, 220) };
     let class = draw_class(&mut run.random);
     let book = draw_book(&mut run.random, class, entries).bytes();
-    if let Some(built) = run.compare(Task::Build, &book)? {
-        for output in [built.bytes.len() - 1, built.bytes.len()] {
-            run.compare_lent(Task::Rewrite, &built.bytes, Lent { work: WORK_BYTES, output })?;
-        }
+    let Some(built) = run.compare(Task::Build, &book)? else {
+        return Ok(());
+    };
+    let boundaries = [built.bytes.len() - 1, built.bytes.len(), built.bytes.len() + 1];
+    let output = boundaries[run.random.below(boundaries.len())];
+    run.compare_lent(Task::Build, &book, Lent { work: WORK_BYTES, output })?;
+    for output in boundaries {
+        run.compare_lent(Task::Rewrite, &built.bytes, Lent { work: WORK_BYTES, output })?;
     }
     Ok(())
 }

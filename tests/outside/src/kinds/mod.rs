@@ -20,13 +20,13 @@ const fn kind(what: &'static str, share: usize, case: fn(&mut Run) -> Result<(),
 }
 
 pub const KINDS: &[Kind] = &[
-    kind("books of all 47 classes, built", 130, books::every_class),
-    kind("large books built, their tables rewritten", 10, books::large),
+    kind("books of all 46 classes and with no class field, built", 130, books::every_class),
+    kind("large books built, their tables rewritten", 30, books::large),
     kind("books with a row of each length from 0 to 65, built", 15, books::row_lengths),
     kind("books damaged at every byte, built", 180, books::damaged),
     kind("books cut at every length, built", 40, books::cut),
     kind("books with fields swapped, repeated, left out and shuffled, built", 40, books::moved),
-    kind("tables rewritten", 40, tables::rewritten),
+    kind("tables of all 46 classes, rewritten", 40, tables::rewritten),
     kind("tables damaged at every byte, rewritten", 130, tables::damaged),
     kind("tables cut at every length, rewritten", 40, tables::cut),
     kind("tables with fields swapped, repeated, left out and shuffled, rewritten", 30, tables::moved),

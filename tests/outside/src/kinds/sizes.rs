@@ -134,21 +134,21 @@ fn chain_of_states(count: usize) -> Vec<u8> {
     Table { names: vec![b"n".to_vec()], class: Class::SeenSet, states }.bytes()
 }
 
-/// Eight rows with different first names: seven of 64 and one of 63 need 512 states, eight of 64 need 513. Of the classes with
-/// few joins, so that the reference is quick.
+/// Eight rows with different first names: seven of 64 and one of 63 need 512 states, eight of 64 need 513. Mostly of many names,
+/// so that few states are joined and the reference is quick.
 fn tree_limit(run: &mut Run) -> Result<(), Mismatch> {
     for last in [ROW_LIMIT - 1, ROW_LIMIT] {
-        let names = draw_names(&mut run.random, NAMES_LIMIT);
+        let used = if run.random.once_in(8) { run.random.between(4, 16) } else { NAMES_LIMIT };
         let mut rows = vec![];
         for first in 0..8 {
             let length = if first == 7 { last } else { ROW_LIMIT };
-            let mut row: Vec<u8> = (0..length).map(|_| run.random.below(NAMES_LIMIT) as u8).collect();
+            let mut row: Vec<u8> = (0..length).map(|_| run.random.below(used) as u8).collect();
             row[0] = first;
             rows.push(row);
         }
-        let classes = [Class::SeenSet, Class::LastNames { j: 3 }, Class::Context { k: 4, h: 2 }];
-        let class = classes[run.random.below(classes.len())];
-        run.compare(Task::Build, &Draft { names, class: Some(class), rows }.bytes())?;
+        let names = draw_names(&mut run.random, NAMES_LIMIT);
+        let class = draw_class(&mut run.random);
+        run.compare(Task::Build, &Draft { names, class, rows }.bytes())?;
     }
     Ok(())
 }

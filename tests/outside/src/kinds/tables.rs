@@ -2,7 +2,7 @@
 
 use crate::comparing::{Mismatch, Run, Task};
 use crate::damage::{damaged_everywhere, moved_fields};
-use crate::drawing::{draw_small_book, draw_table};
+use crate::drawing::{all_classes, draw_small_book, draw_table};
 use reference::fields::{read_table, STATES_LIMIT};
 use reference::random::Random;
 use reference::table::Table;
@@ -19,16 +19,25 @@ pub fn draw_small_table(random: &mut Random) -> Table {
     read_table(&built.bytes).expect("a built table can be read")
 }
 
+/// A table with every class, and one of any number of states.
 pub fn rewritten(run: &mut Run) -> Result<(), Mismatch> {
     let states = run.random.between(1, STATES_LIMIT);
-    let tables = [draw_small_table(&mut run.random), draw_table(&mut run.random, states)];
-    for table in tables {
-        let bytes = table.bytes();
-        let rewritten = run.compare(Task::Rewrite, &bytes)?;
-        if rewritten.is_none_or(|built| built.bytes != bytes) {
-            let what = "an accepted table is not rewritten as it was".into();
-            return Err(Mismatch::new("plans_rewrite", what, &[("table", &bytes)]));
-        }
+    let large = draw_table(&mut run.random, states);
+    same_bytes(run, &large.bytes())?;
+    let mut table = draw_small_table(&mut run.random);
+    for class in all_classes().into_iter().flatten() {
+        table.class = class;
+        same_bytes(run, &table.bytes())?;
+    }
+    Ok(())
+}
+
+/// An accepted table is rewritten to the same bytes.
+fn same_bytes(run: &mut Run, table: &[u8]) -> Result<(), Mismatch> {
+    let rewritten = run.compare(Task::Rewrite, table)?;
+    if rewritten.is_none_or(|built| built.bytes != table) {
+        let what = "an accepted table is not rewritten to the same bytes".into();
+        return Err(Mismatch::new("plans_rewrite", what, &[("table", table)]));
     }
     Ok(())
 }

@@ -2,6 +2,7 @@
 
 mod edges;
 mod examples;
+mod open_steps;
 mod refusals;
 mod worked_days;
 
