@@ -1,0 +1,17 @@
+/* The structs of include/plans.h lie in memory as those of crates/plans/src/lib.rt, which are #[repr(C)]: compiled, never run. */
+#include <stddef.h>
+
+#include "plans.h"
+
+_Static_assert(sizeof(plans_built) == 16, "size of plans_built");
+_Static_assert(offsetof(plans_built, number) == 0, "plans_built.number");
+_Static_assert(offsetof(plans_built, length) == 4, "plans_built.length");
+_Static_assert(offsetof(plans_built, states) == 8, "plans_built.states");
+_Static_assert(offsetof(plans_built, joins) == 12, "plans_built.joins");
+
+_Static_assert(sizeof(plans_walked) == 16, "size of plans_walked");
+_Static_assert(offsetof(plans_walked, number) == 0, "plans_walked.number");
+_Static_assert(offsetof(plans_walked, outcome) == 1, "plans_walked.outcome");
+_Static_assert(offsetof(plans_walked, count) == 2, "plans_walked.count");
+_Static_assert(offsetof(plans_walked, length) == 4, "plans_walked.length");
+_Static_assert(offsetof(plans_walked, names) == 8, "plans_walked.names");

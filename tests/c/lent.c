@@ -1,0 +1,128 @@
+#include <stdio.h>
+#include <stdlib.h>
+#include <string.h>
+
+#include "lent.h"
+
+enum { BEFORE = 0xEE };
+
+typedef plans_built table_call(const uint8_t *, size_t, uint8_t *, size_t, uint8_t *, size_t);
+
+static unsigned passed;
+static unsigned failed;
+
+void check(const char *what, int holds)
+{
+    if (holds) {
+        passed++;
+    } else {
+        failed++;
+        printf("FAILED: %s\n", what);
+    }
+}
+
+unsigned summed_up(void)
+{
+    printf("%u passed, %u failed\n", passed, failed);
+    return failed;
+}
+
+/* A buffer of exactly `length` bytes; null where there are none. */
+static uint8_t *lend(size_t length)
+{
+    uint8_t *buffer;
+
+    if (length == 0)
+        return NULL;
+    buffer = malloc(length);
+    if (buffer == NULL) {
+        printf("FAILED: no memory\n");
+        exit(1);
+    }
+    memset(buffer, BEFORE, length);
+    return buffer;
+}
+
+static uint8_t *lend_copy(const uint8_t *bytes, size_t length)
+{
+    uint8_t *buffer = lend(length);
+
+    if (length > 0)
+        memcpy(buffer, bytes, length);
+    return buffer;
+}
+
+static int all_are(uint8_t value, const uint8_t *bytes, size_t from, size_t to)
+{
+    for (size_t i = from; i < to; i++)
+        if (bytes[i] != value)
+            return 0;
+    return 1;
+}
+
+static int same(const uint8_t *bytes, const uint8_t *others, size_t length)
+{
+    return length == 0 || memcmp(bytes, others, length) == 0;
+}
+
+static plans_built call_lent(table_call *call, const writing *from, size_t work_len, size_t out_len, writing *table)
+{
+    uint8_t *input = lend_copy(from->bytes, from->length);
+    uint8_t *work = lend(work_len);
+    uint8_t *out = lend(out_len);
+    plans_built built = call(input, from->length, work, work_len, out, out_len);
+
+    check("the working area is zero after the call", all_are(0, work, 0, work_len));
+    check("the input is as it was", same(input, from->bytes, from->length));
+    check("the table fits the output", built.length <= out_len);
+    check("the output beyond the table is as it was", all_are(BEFORE, out, built.length, out_len));
+    if (built.number != PLANS_OK)
+        check("a refusal gives zeros else", built.length == 0 && built.states == 0 && built.joins == 0);
+    if (built.length > 0)
+        memcpy(table->bytes, out, built.length);
+    table->length = built.length;
+    free(input);
+    free(work);
+    free(out);
+    return built;
+}
+
+plans_built build(const writing *book, size_t work_len, size_t out_len, writing *table)
+{
+    return call_lent(plans_build, book, work_len, out_len, table);
+}
+
+plans_built rewrite(const writing *from, size_t work_len, size_t out_len, writing *table)
+{
+    return call_lent(plans_rewrite, from, work_len, out_len, table);
+}
+
+plans_walked walk(const writing *table, const uint8_t *row, size_t row_len, size_t work_len)
+{
+    uint8_t *input = lend_copy(table->bytes, table->length);
+    uint8_t *names = lend_copy(row, row_len);
+    uint8_t *work = lend(work_len);
+    plans_walked walked = plans_walk(input, table->length, names, row_len, work, work_len);
+
+    check("the working area is zero after the walk", all_are(0, work, 0, work_len));
+    check("the table is as it was", same(input, table->bytes, table->length));
+    check("the row is as it was", same(names, row, row_len));
+    if (walked.number != PLANS_OK)
+        check("a refused walk gives zeros else", !walked.outcome && !walked.count && !walked.length && !walked.names);
+    free(input);
+    free(names);
+    free(work);
+    return walked;
+}
+
+void put_field(writing *to, uint8_t mark, const void *content, size_t length)
+{
+    uint8_t *at = to->bytes + to->length;
+
+    at[0] = mark;
+    at[1] = (uint8_t)(length >> 8);
+    at[2] = (uint8_t)length;
+    if (length > 0)
+        memcpy(at + 3, content, length);
+    to->length += 3 + length;
+}

@@ -1,0 +1,28 @@
+/* Calls with buffers of exactly the length passed, each from malloc, so that valgrind sees a byte read or written beside one.
+ * Every call is followed by a look at every lent byte. */
+#ifndef LENT_H
+#define LENT_H
+
+#include "plans.h"
+
+/* A book, a table or a row while it is written. */
+typedef struct {
+    uint8_t bytes[PLANS_INPUT_LIMIT + 1];
+    size_t length;
+} writing;
+
+/* One check more: counted, and printed where it does not hold. */
+void check(const char *what, int holds);
+
+/* How many checks did not hold, after the line 'N passed, M failed' has been printed. */
+unsigned summed_up(void);
+
+/* The calls; `work_len` and `out_len` are the lengths lent. What is written to the output goes to `table`. */
+plans_built build(const writing *book, size_t work_len, size_t out_len, writing *table);
+plans_built rewrite(const writing *from, size_t work_len, size_t out_len, writing *table);
+plans_walked walk(const writing *table, const uint8_t *row, size_t row_len, size_t work_len);
+
+/* Appends one field. */
+void put_field(writing *to, uint8_t mark, const void *content, size_t length);
+
+#endif

@@ -1,0 +1,253 @@
+/* The library used as the tablet's program uses it: builds a book, walks rows, offers the names that may come next, and meets
+ * each refusal. All of it runs in a thread with a stack of STACK_BYTES, which scripts/test-c sets; 0 leaves the system's own. */
+#include <pthread.h>
+#include <stdio.h>
+#include <string.h>
+
+#include "lent.h"
+
+enum { NAME = 1, CLASS = 2, ROW = 3, STATE = 4, NAMES = 4 };
+
+static const char *const names[NAMES] = {"breakfast", "dinner", "lunch", "snack"};
+static const char letters[] = "bdls";
+
+/* Static: the thread's stack is small. */
+static writing book;
+static writing table;
+static writing again;
+
+static size_t row_of(const char *day, uint8_t *row)
+{
+    size_t length = strlen(day);
+
+    for (size_t i = 0; i < length; i++)
+        row[i] = (uint8_t)(strchr(letters, day[i]) - letters);
+    return length;
+}
+
+static void put_day(const char *day)
+{
+    uint8_t row[8];
+    size_t length = row_of(day, row);
+
+    put_field(&book, ROW, row, length);
+}
+
+/* A book with the four names and the class, and no row. */
+static void start_book(uint8_t kind, uint8_t first, uint8_t second)
+{
+    const uint8_t class_bytes[] = {kind, first, second};
+
+    book.length = 0;
+    for (size_t i = 0; i < NAMES; i++)
+        put_field(&book, NAME, names[i], strlen(names[i]));
+    put_field(&book, CLASS, class_bytes, sizeof class_bytes);
+}
+
+static plans_built build_all(void)
+{
+    return build(&book, PLANS_WORK_BYTES, PLANS_INPUT_LIMIT, &table);
+}
+
+static plans_walked walk_day(const char *day)
+{
+    uint8_t row[8];
+    size_t length = row_of(day, row);
+
+    return walk(&table, row, length, PLANS_WORK_BYTES);
+}
+
+/* Worked days P6 and P7 of the scope document. */
+static void worked_days(void)
+{
+    static const char *const days[] = {"bsl", "dsl", "bsb"};
+    plans_built built;
+    plans_walked walked;
+
+    for (uint8_t h = 1; h <= 2; h++) {
+        start_book(0, 2, h);
+        for (size_t i = 0; i < 3; i++)
+            put_day(days[i]);
+        built = build_all();
+        check("the book is accepted", built.number == PLANS_OK);
+        check("states and joins", built.states == (h == 1 ? 6u : 7u) && built.joins == (h == 1 ? 2u : 1u));
+        for (size_t i = 0; i < 3; i++)
+            check("a row of the book is admitted", walk_day(days[i]).outcome == PLANS_ADMITTED);
+        walked = walk_day("dsb");
+        check("dsb", h == 1 ? walked.outcome == PLANS_ADMITTED : walked.outcome == PLANS_STOPS && walked.length == 2);
+    }
+}
+
+/* The user taps names until the day is admitted: of those offered, always the last. */
+static void tap_a_day(void)
+{
+    static const char *const offers[] = {"bd", "s", "bl", ""};
+    char day[8] = "";
+
+    start_book(0, 2, 1);
+    put_day("bsl");
+    put_day("dsl");
+    put_day("bsb");
+    build_all();
+    for (size_t taps = 0; taps < 4; taps++) {
+        plans_walked walked = walk_day(day);
+        char offered[NAMES + 1] = "";
+
+        for (size_t name = 0; name < NAMES; name++)
+            if (walked.names >> name & 1)
+                strncat(offered, &letters[name], 1);
+        check("the names offered", strcmp(offered, offers[taps]) == 0);
+        check("how many they are", walked.count == strlen(offers[taps]));
+        check("all taps are walked", walked.length == taps);
+        check("the outcome", walked.outcome == (taps == 3 ? PLANS_ADMITTED : PLANS_ON_THE_WAY));
+        if (walked.count > 0)
+            strncat(day, offered + walked.count - 1, 1);
+    }
+    check("the day tapped", strcmp(day, "dsl") == 0);
+}
+
+static void rewrite_it(void)
+{
+    plans_built built = build_all();
+    plans_built rewritten = rewrite(&table, PLANS_WORK_BYTES, built.length, &again);
+
+    check("a table is rewritten", rewritten.number == PLANS_OK && rewritten.states == built.states && rewritten.joins == 0);
+    check("to the same bytes", again.length == table.length && memcmp(again.bytes, table.bytes, table.length) == 0);
+}
+
+static void refused_build(const char *what, uint8_t number)
+{
+    check(what, build_all().number == number);
+}
+
+/* Refusals 1 and 13: the lengths lent. */
+static void refused_lengths(void)
+{
+    static const uint8_t row[] = {0};
+    plans_built built = build_all();
+
+    check("1: a short working area", build(&book, PLANS_WORK_BYTES - 1, 0, &again).number == PLANS_BAD_SIZES);
+    check("1: no working area", build(&book, 0, 0, &again).number == PLANS_BAD_SIZES);
+    check("1: no working area to rewrite", rewrite(&table, 0, 0, &again).number == PLANS_BAD_SIZES);
+    check("1: no working area to walk", walk(&table, row, 1, 0).number == PLANS_BAD_SIZES);
+    check("an output just long enough", build(&book, PLANS_WORK_BYTES, built.length, &again).number == PLANS_OK);
+    built = build(&book, PLANS_WORK_BYTES, built.length - 1, &again);
+    check("13: an output one byte short", built.number == PLANS_OUTPUT_TOO_SHORT);
+    check("13: no output", rewrite(&table, PLANS_WORK_BYTES, 0, &again).number == PLANS_OUTPUT_TOO_SHORT);
+    memset(book.bytes, 0, sizeof book.bytes);
+    book.length = sizeof book.bytes;
+    refused_build("1: a book of 65,536 bytes", PLANS_BAD_SIZES);
+    book.length--;
+    refused_build("3: one of 65,535", PLANS_MISPLACED);
+}
+
+/* Refusals 2 to 6, 8 and 9: one field is wrong. */
+static void refused_fields(void)
+{
+    static const uint8_t entries[65] = {NAMES};
+
+    book.length = 0;
+    refused_build("4: an empty book", PLANS_UNFINISHED);
+    start_book(0, 2, 1);
+    refused_build("4: a book with no row", PLANS_UNFINISHED);
+    put_field(&book, ROW, entries, 1);
+    refused_build("9: an entry that is no name's number", PLANS_BAD_ROW);
+    book.length--;
+    refused_build("2: a field cut off", PLANS_CUT_OFF);
+    start_book(0, 2, 1);
+    put_field(&book, ROW, entries, sizeof entries);
+    refused_build("9: a row of 65", PLANS_BAD_ROW);
+    start_book(0, 9, 1);
+    refused_build("8: k = 9", PLANS_BAD_CLASS);
+    book.length = 0;
+    put_field(&book, ROW, NULL, 0);
+    refused_build("3: a row before any name", PLANS_MISPLACED);
+    book.length = 0;
+    put_field(&book, NAME, "1", 1);
+    refused_build("5: a name that starts with a digit", PLANS_BAD_NAME);
+    book.length = 0;
+    put_field(&book, NAME, "b", 1);
+    put_field(&book, NAME, "a", 1);
+    refused_build("6: names not in order", PLANS_NAME_ORDER);
+}
+
+/* Refusals 7 and 10: one too many. */
+static void refused_counts(void)
+{
+    uint8_t row[64] = {0};
+
+    book.length = 0;
+    for (uint8_t i = 0; i < 65; i++) {
+        const uint8_t name[] = {(uint8_t)('A' + i / 8), (uint8_t)('A' + i % 8)};
+        put_field(&book, NAME, name, sizeof name);
+    }
+    refused_build("7: a 65th name", PLANS_TOO_MANY);
+    start_book(0, 2, 1);
+    for (size_t i = 0; i < 257; i++)
+        put_field(&book, ROW, row, 0);
+    refused_build("7: a 257th row", PLANS_TOO_MANY);
+    start_book(1, 0, 0);
+    for (uint8_t i = 0; i < 16; i++) {
+        row[0] = i % 4;
+        row[1] = i / 4;
+        put_field(&book, ROW, row, sizeof row);
+    }
+    refused_build("10: a tree of over 512 states", PLANS_TREE_TOO_LARGE);
+}
+
+static void refused_table(const char *what, uint8_t number)
+{
+    check(what, rewrite(&table, PLANS_WORK_BYTES, PLANS_INPUT_LIMIT, &again).number == number);
+    check(what, walk(&table, NULL, 0, PLANS_WORK_BYTES).number == number);
+}
+
+/* Refusals 7, 9, 11 and 12 of a table or a walk. */
+static void refused_states(void)
+{
+    static const uint8_t not_accepting[] = {0};
+    static const uint8_t wrong_first[] = {2};
+    static const uint8_t to_no_state[] = {0, 0, 0, 9};
+    static const uint8_t row[65] = {0};
+
+    start_book(0, 2, 1);
+    table = book;
+    put_field(&table, STATE, wrong_first, sizeof wrong_first);
+    refused_table("11: a state's first byte", PLANS_BAD_STATE);
+    table = book;
+    put_field(&table, STATE, to_no_state, sizeof to_no_state);
+    refused_table("12: an arc to no state", PLANS_BAD_NUMBERING);
+    table = book;
+    for (size_t i = 0; i < 513; i++)
+        put_field(&table, STATE, not_accepting, sizeof not_accepting);
+    refused_table("7: a 513th state", PLANS_TOO_MANY);
+    put_day("bsl");
+    build_all();
+    check("9: a walk of 65", walk(&table, row, sizeof row, PLANS_WORK_BYTES).number == PLANS_BAD_ROW);
+    check("a walk of 64", walk(&table, row, sizeof row - 1, PLANS_WORK_BYTES).number == PLANS_OK);
+    check("a walk of none", walk(&table, NULL, 0, PLANS_WORK_BYTES).outcome == PLANS_ON_THE_WAY);
+}
+
+static void *tablet(void *unused)
+{
+    worked_days();
+    tap_a_day();
+    rewrite_it();
+    refused_lengths();
+    refused_fields();
+    refused_counts();
+    refused_states();
+    return unused;
+}
+
+int main(void)
+{
+    pthread_attr_t attributes;
+    pthread_t thread;
+    int ready = pthread_attr_init(&attributes) == 0;
+
+    if (STACK_BYTES > 0)
+        ready = ready && pthread_attr_setstacksize(&attributes, STACK_BYTES) == 0;
+    ready = ready && pthread_create(&thread, &attributes, tablet, NULL) == 0 && pthread_join(thread, NULL) == 0;
+    check("the thread runs", ready);
+    return summed_up() != 0;
+}

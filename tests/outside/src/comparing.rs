@@ -1,0 +1,180 @@
+//! One call of the library compared with the reference: what it returns, and every byte of every buffer afterwards.
+
+use crate::buffers::{Buffer, Noise};
+use crate::counts::Counts;
+use crate::library::{plans_build, plans_rewrite, plans_walk, Built, TableCall, Walked};
+use reference::random::Random;
+use reference::refusal::Refusal;
+use reference::walk::walk;
+use reference::{Lent, INPUT_LIMIT, WORK_BYTES};
+use std::fmt::{Debug, Display, Formatter};
+
+/// The library and the reference differ, or a claim over several calls does not hold.
+#[derive(Clone, Debug)]
+pub struct Mismatch {
+    call: &'static str,
+    what: String,
+    inputs: Vec<(&'static str, Vec<u8>)>,
+}
+
+impl Mismatch {
+    pub fn new(call: &'static str, what: String, inputs: &[(&'static str, &[u8])]) -> Mismatch {
+        Mismatch { call, what, inputs: inputs.iter().map(|(name, bytes)| (*name, bytes.to_vec())).collect() }
+    }
+}
+
+impl Display for Mismatch {
+    fn fmt(&self, out: &mut Formatter) -> std::fmt::Result {
+        writeln!(out, "{}: {}", self.call, self.what)?;
+        for (name, bytes) in &self.inputs {
+            let hexadecimal: Vec<String> = bytes.iter().map(|byte| format!("{byte:02X}")).collect();
+            writeln!(out, "  {name}, {} bytes: {}", bytes.len(), hexadecimal.join(" "))?;
+        }
+        Ok(())
+    }
+}
+
+/// Whether the library is given a book to build or a table to rewrite.
+#[derive(Clone, Copy, Debug, PartialEq, Eq)]
+pub enum Task {
+    Build,
+    Rewrite,
+}
+
+impl Task {
+    fn call(self) -> (&'static str, TableCall) {
+        match self {
+            Task::Build => ("plans_build", plans_build),
+            Task::Rewrite => ("plans_rewrite", plans_rewrite),
+        }
+    }
+}
+
+/// One thread's buffers, generator and counts.
+pub struct Run {
+    pub random: Random,
+    pub counts: Counts,
+    noise: Noise,
+    input: Buffer,
+    row: Buffer,
+    work: Buffer,
+    output: Buffer,
+}
+
+impl Run {
+    pub fn new(seed: u64) -> Run {
+        let mut random = Random::new(seed);
+        Run {
+            noise: Noise::draw(&mut random),
+            random,
+            counts: Counts::default(),
+            input: Buffer::default(),
+            row: Buffer::default(),
+            work: Buffer::default(),
+            output: Buffer::default(),
+        }
+    }
+
+    /// A build or rewriting with buffers that are long enough. Gives back the table that both gave, none where both refused.
+    pub fn compare(&mut self, task: Task, input: &[u8]) -> Result<Option<reference::Built>, Mismatch> {
+        self.compare_lent(task, input, Lent { work: WORK_BYTES, output: INPUT_LIMIT })
+    }
+
+    /// The same with buffers of the given lengths.
+    pub fn compare_lent(&mut self, task: Task, input: &[u8], lent: Lent) -> Result<Option<reference::Built>, Mismatch> {
+        let expected = match task {
+            Task::Build => reference::build(input, lent, &mut self.random),
+            Task::Rewrite => reference::rewrite(input, lent),
+        };
+        let (name, call) = task.call();
+        let before = self.noise.part(lent.output, &mut self.random);
+        self.input.lend(input, &mut self.random);
+        self.work.lend(self.noise.part(lent.work, &mut self.random), &mut self.random);
+        self.output.lend(before, &mut self.random);
+        let (input_at, work_at, output_at) = (self.input.pointer(), self.work.pointer(), self.output.pointer());
+        // SAFETY: three buffers that do not overlap, each of the length passed
+        let given = unsafe { call(input_at, self.input.len(), work_at, self.work.len(), output_at, self.output.len()) };
+        let table = expected.as_ref().map_or(&[][..], |built| &built.bytes);
+        let (front, beyond) = self.output.content().split_at(table.len());
+        let wrong = difference(&built_of(&expected), &given)
+            .or_else(|| says(front != table, "the output's front is not the table"))
+            .or_else(|| says(beyond != &before[table.len()..], "the output was altered where it is to stay as it was"))
+            .or_else(|| self.buffers_after(input, &[]));
+        self.counts.count_built(&expected);
+        match wrong {
+            Some(wrong) => {
+                let lengths = format!("{wrong} (working area {} bytes, output {} bytes)", lent.work, lent.output);
+                Err(Mismatch::new(name, lengths, &[("input", input)]))
+            }
+            None => Ok(expected.ok()),
+        }
+    }
+
+    /// A walk with a working area of the least length. Gives back what the library gave.
+    pub fn compare_walk(&mut self, table: &[u8], row: &[u8]) -> Result<Walked, Mismatch> {
+        self.compare_walk_lent(table, row, WORK_BYTES)
+    }
+
+    /// The same with a working area of the given length.
+    pub fn compare_walk_lent(&mut self, table: &[u8], row: &[u8], work: usize) -> Result<Walked, Mismatch> {
+        let expected = walk(table, row, work);
+        self.input.lend(table, &mut self.random);
+        self.row.lend(row, &mut self.random);
+        self.work.lend(self.noise.part(work, &mut self.random), &mut self.random);
+        let (table_at, row_at, work_at) = (self.input.pointer(), self.row.pointer(), self.work.pointer());
+        // SAFETY: three buffers that do not overlap, each of the length passed
+        let given = unsafe { plans_walk(table_at, self.input.len(), row_at, self.row.len(), work_at, self.work.len()) };
+        let wrong = difference(&walked_of(&expected), &given).or_else(|| self.buffers_after(table, row));
+        self.counts.count_walked(&expected);
+        match wrong {
+            Some(wrong) => {
+                let lengths = format!("{wrong} (working area {work} bytes)");
+                Err(Mismatch::new("plans_walk", lengths, &[("table", table), ("row", row)]))
+            }
+            None => Ok(given),
+        }
+    }
+
+    /// What is wrong after a call with a buffer that is not the output's content.
+    fn buffers_after(&self, input: &[u8], row: &[u8]) -> Option<String> {
+        static ZEROS: [u8; 100_000] = [0; 100_000];
+        says(self.work.content() != &ZEROS[..self.work.len()], "a byte of the working area is not zero")
+            .or_else(|| says(self.input.content() != input, "the input was altered"))
+            .or_else(|| says(!row.is_empty() && self.row.content() != row, "the row was altered"))
+            .or_else(|| says(!self.input.guards_hold(), "a byte beside the input was altered"))
+            .or_else(|| says(!self.row.guards_hold(), "a byte beside the row was altered"))
+            .or_else(|| says(!self.work.guards_hold(), "a byte beside the working area was altered"))
+            .or_else(|| says(!self.output.guards_hold(), "a byte beside the output was altered"))
+    }
+}
+
+fn says(wrong: bool, what: &str) -> Option<String> {
+    wrong.then(|| what.to_string())
+}
+
+fn difference<T: PartialEq + Debug>(expected: &T, given: &T) -> Option<String> {
+    (expected != given).then(|| format!("expected {expected:?}, given {given:?}"))
+}
+
+/// What the library is to return for what the reference gives.
+fn built_of(expected: &Result<reference::Built, Refusal>) -> Built {
+    match expected {
+        Ok(built) => {
+            Built { number: 0, length: built.bytes.len() as u32, states: built.states as u32, joins: built.joins as u32 }
+        }
+        Err(refusal) => Built { number: refusal.number(), length: 0, states: 0, joins: 0 },
+    }
+}
+
+fn walked_of(expected: &Result<reference::walk::Walked, Refusal>) -> Walked {
+    match expected {
+        Ok(walked) => Walked {
+            number: 0,
+            outcome: walked.outcome as u8,
+            count: walked.count as u8,
+            length: walked.beginning.len() as u32,
+            names: walked.next_names,
+        },
+        Err(refusal) => Walked { number: refusal.number(), outcome: 0, count: 0, length: 0, names: 0 },
+    }
+}

@@ -1,0 +1,58 @@
+//! What the calls of a run have come to.
+
+use reference::fields::read_table;
+use reference::refusal::Refusal;
+use reference::walk::Walked;
+use reference::Built;
+use std::collections::BTreeMap;
+
+#[derive(Clone, Debug, Default)]
+pub struct Counts {
+    pub inputs: usize,
+    /// How often each refusal was given, by its number; at 0, how many calls were accepted.
+    pub refused: [usize; 14],
+    /// How many walks had each outcome, by its number.
+    pub outcomes: [usize; 4],
+    /// How many accepted builds joined states, for each class by its field's bytes.
+    pub joined: BTreeMap<[u8; 3], usize>,
+    /// The most states that the prefix tree of such a build had.
+    pub largest_tree: usize,
+}
+
+impl Counts {
+    pub fn count_built(&mut self, built: &Result<Built, Refusal>) {
+        self.inputs += 1;
+        match built {
+            Ok(built) => {
+                self.refused[0] += 1;
+                if built.joins > 0 {
+                    let class = read_table(&built.bytes).expect("a built table can be read").class;
+                    *self.joined.entry(class.bytes()).or_default() += 1;
+                    self.largest_tree = self.largest_tree.max(built.states + built.joins);
+                }
+            }
+            Err(refusal) => self.refused[usize::from(refusal.number())] += 1,
+        }
+    }
+
+    pub fn count_walked(&mut self, walked: &Result<Walked, Refusal>) {
+        self.inputs += 1;
+        match walked {
+            Ok(walked) => {
+                self.refused[0] += 1;
+                self.outcomes[walked.outcome as usize] += 1;
+            }
+            Err(refusal) => self.refused[usize::from(refusal.number())] += 1,
+        }
+    }
+
+    pub fn add(&mut self, more: &Counts) {
+        self.inputs += more.inputs;
+        self.refused.iter_mut().zip(more.refused).for_each(|(sum, count)| *sum += count);
+        self.outcomes.iter_mut().zip(more.outcomes).for_each(|(sum, count)| *sum += count);
+        self.largest_tree = self.largest_tree.max(more.largest_tree);
+        for (class, count) in &more.joined {
+            *self.joined.entry(*class).or_default() += count;
+        }
+    }
+}

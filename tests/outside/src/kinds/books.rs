@@ -1,0 +1,75 @@
+//! Books built.
+
+use crate::comparing::{Mismatch, Run, Task};
+use crate::damage::{damaged_everywhere, moved_fields};
+use crate::drawing::{all_classes, draw_book, draw_class, draw_names, draw_small_book, SMALL};
+use reference::fields::ROW_LIMIT;
+use reference::{Lent, WORK_BYTES};
+
+/// The same names and rows with every class.
+pub fn every_class(run: &mut Run) -> Result<(), Mismatch> {
+    let entries = run.random.between(0, SMALL);
+    let mut book = draw_book(&mut run.random, None, entries);
+    for class in all_classes() {
+        book.class = class;
+        run.compare(Task::Build, &book.bytes())?;
+    }
+    Ok(())
+}
+
+/// A book of up to 220 names' numbers, one in twenty of up to 520, built with outputs of any length that is enough and of one at
+/// the boundary; its table rewritten at each boundary.
+pub fn large(run: &mut Run) -> Result<(), Mismatch> {
+    let entries = if run.random.once_in(20) { run.random.between(400, 520) } else { run.random.between(60, 220) };
+    let class = draw_class(&mut run.random);
+    let book = draw_book(&mut run.random, class, entries).bytes();
+    let Some(built) = run.compare(Task::Build, &book)? else {
+        return Ok(());
+    };
+    let boundaries = [built.bytes.len() - 1, built.bytes.len(), built.bytes.len() + 1];
+    let output = boundaries[run.random.below(boundaries.len())];
+    run.compare_lent(Task::Build, &book, Lent { work: WORK_BYTES, output })?;
+    for output in boundaries {
+        run.compare_lent(Task::Rewrite, &built.bytes, Lent { work: WORK_BYTES, output })?;
+    }
+    Ok(())
+}
+
+/// A row of each length, the last too long by one, beside rows of a small book.
+pub fn row_lengths(run: &mut Run) -> Result<(), Mismatch> {
+    let mut book = draw_small_book(&mut run.random);
+    book.names = draw_names(&mut run.random, book.names.len().max(2));
+    book.rows.truncate(3);
+    let names = run.random.between(1, book.names.len());
+    for length in 0..=ROW_LIMIT + 1 {
+        let row = (0..length).map(|_| run.random.below(names) as u8).collect();
+        book.rows.push(row);
+        run.compare(Task::Build, &book.bytes())?;
+        book.rows.pop();
+    }
+    Ok(())
+}
+
+pub fn damaged(run: &mut Run) -> Result<(), Mismatch> {
+    let book = draw_small_book(&mut run.random).bytes();
+    for input in damaged_everywhere(&book, &mut run.random) {
+        run.compare(Task::Build, &input)?;
+    }
+    Ok(())
+}
+
+pub fn cut(run: &mut Run) -> Result<(), Mismatch> {
+    let book = draw_small_book(&mut run.random).bytes();
+    for length in 0..book.len() {
+        run.compare(Task::Build, &book[..length])?;
+    }
+    Ok(())
+}
+
+pub fn moved(run: &mut Run) -> Result<(), Mismatch> {
+    let book = draw_small_book(&mut run.random).bytes();
+    for input in moved_fields(&book, &mut run.random) {
+        run.compare(Task::Build, &input)?;
+    }
+    Ok(())
+}

@@ -1,0 +1,45 @@
+//! The calls of include/plans.h, declared again.
+
+#[repr(C)]
+#[derive(Clone, Copy, Debug, PartialEq, Eq)]
+pub struct Built {
+    pub number: u8,
+    pub length: u32,
+    pub states: u32,
+    pub joins: u32,
+}
+
+#[repr(C)]
+#[derive(Clone, Copy, Debug, PartialEq, Eq)]
+pub struct Walked {
+    pub number: u8,
+    pub outcome: u8,
+    pub count: u8,
+    pub length: u32,
+    pub names: u64,
+}
+
+/// `plans_build` and `plans_rewrite` have the same arguments: input, working area and output, each by pointer and length.
+pub type TableCall = unsafe extern "C" fn(*const u8, usize, *mut u8, usize, *mut u8, usize) -> Built;
+
+extern "C" {
+    pub fn plans_build(book: *const u8, book_len: usize, work: *mut u8, work_len: usize, out: *mut u8, out_len: usize) -> Built;
+
+    pub fn plans_rewrite(
+        table: *const u8,
+        table_len: usize,
+        work: *mut u8,
+        work_len: usize,
+        out: *mut u8,
+        out_len: usize,
+    ) -> Built;
+
+    pub fn plans_walk(
+        table: *const u8,
+        table_len: usize,
+        row: *const u8,
+        row_len: usize,
+        work: *mut u8,
+        work_len: usize,
+    ) -> Walked;
+}
