@@ -45,7 +45,7 @@ pub fn seen_sets(parents: &[u16], names: &[u8], seen: &mut [u64])
     }
 }
 
-// The bucket of a set.
+// The bucket of a set. Every name counts, so that the sets of a book are spread over the buckets.
 fn bucket(set: u64) -> usize
     ensures value { λ r. ⌜ r ≡ bucketOf set ⌝ }
     ensures below { λ r. ⌜ r < state-limit ⌝ }
@@ -55,7 +55,7 @@ fn bucket(set: u64) -> usize
     ((quarter ^ (quarter >> 9)) % 512) as usize
 }
 
-// The first state with the set of state v, sought in the list of the set's bucket, where the first state with each set is.
+// The first state with the set of state v, sought in the list of the set's bucket, which has the first state with each set.
 fn first_seen(
     seen: &[u64],
     links: &[u16; STATE_LIMIT],
