@@ -1,0 +1,91 @@
+//! The prefix tree of a book's rows, read from its bytes.
+
+use super::arcs::Arcs;
+use super::fields::{field_at, read_front, Front, ROW};
+use super::refusals::Refusal;
+use super::{index, State, STATES};
+use crate::book::{ROW_LENGTH, ROW_LIMIT};
+
+pub struct Tree {
+    pub count: usize,
+    pub parents: [State; STATES],
+    pub names: [u8; STATES],
+    pub accepts: [bool; STATES],
+    pub children: Arcs,
+}
+
+impl Tree {
+    pub fn new() -> Tree {
+        Tree {
+            count: 0,
+            parents: [0; STATES],
+            names: [0; STATES],
+            accepts: [false; STATES],
+            children: Arcs::new(),
+        }
+    }
+
+    /// Reads the book, row by row into the tree.
+    pub fn read(&mut self, book: &[u8]) -> Result<Front, Refusal> {
+        let front = read_front(book)?;
+        self.count = 0;
+        self.append(0, 0);
+        let mut fits = true;
+        let mut at = front.end;
+        let mut rows = 0;
+        while at < book.len() {
+            let (mark, row) = field_at(book, at)?;
+            check_row(mark, row, rows, front.names)?;
+            fits = fits && self.add(row);
+            rows += 1;
+            at += 3 + row.len();
+        }
+        if !fits {
+            return Err(Refusal::TreeTooLarge);
+        }
+        Ok(front)
+    }
+
+    fn append(&mut self, parent: State, name: u8) {
+        let v = self.count % STATES;
+        self.parents[v] = parent;
+        self.names[v] = name;
+        self.accepts[v] = false;
+        self.children.keys[v] = 0;
+        self.count += 1;
+    }
+
+    /// Adds a row; false where the tree would be too large.
+    fn add(&mut self, row: &[u8]) -> bool {
+        let mut state = 0;
+        for &name in row {
+            let key = usize::from(name);
+            if self.children.has(state, key) {
+                state = self.children.get(state, key);
+                continue;
+            }
+            if self.count == STATES {
+                return false;
+            }
+            let child = self.count as State;
+            self.children.put(state, key, child);
+            self.append(state, name);
+            state = child;
+        }
+        self.accepts[index(state)] = true;
+        true
+    }
+}
+
+fn check_row(mark: u8, row: &[u8], rows: usize, names: usize) -> Result<(), Refusal> {
+    if mark != ROW {
+        return Err(Refusal::Misplaced);
+    }
+    if rows == ROW_LIMIT {
+        return Err(Refusal::TooMany);
+    }
+    if row.len() > ROW_LENGTH || row.iter().any(|&name| usize::from(name) >= names) {
+        return Err(Refusal::BadRow);
+    }
+    Ok(())
+}
