@@ -21,6 +21,7 @@ fn main() {
          ("typical 512", |c| cases::typical_of(512, c)),
     ];
     println!("{:22} {:10} {:>9} {:>8} {:>7} {:>7}", "case", "class", "library", "fast", "tree", "states");
+    if let Some(n) = std::env::args().nth(2) { let bytes = cases::random_rows(n.parse().unwrap(), book::CLASSES[std::env::args().nth(3).unwrap().parse::<usize>().unwrap()]).bytes(); for _ in 0..60000 { black_box(fast.build(black_box(&bytes), &mut work2, &mut out2)); } return; }
     for (name, maker) in makers {
         for class in book::CLASSES {
             let bytes = maker(class).bytes();

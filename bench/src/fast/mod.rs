@@ -18,7 +18,7 @@ use arcs::Arcs;
 use contexts::Contexts;
 use partition::Partition;
 use refusals::Refusal;
-use suffixes::Suffixes;
+use suffixes::Firsts;
 use tree::Tree;
 use walk::Table;
 
@@ -36,9 +36,14 @@ fn index(state: State) -> usize {
 pub struct Fast {
     tree: Tree,
     partition: Partition,
-    suffixes: Suffixes,
+    firsts: Firsts,
     contexts: Contexts,
+    /// The values of f.
+    values: [u64; STATES],
+    /// Arcs against their direction: for each group and key a source.
     arrivals: [Arcs; 2],
+    /// How many arcs the groups have.
+    arcs: usize,
     /// Pairs of states to be joined.
     pending: Vec<(State, State)>,
     /// The groups that joins have enlarged.
@@ -54,9 +59,11 @@ impl Fast {
         Box::new(Fast {
             tree: Tree::new(),
             partition: Partition::new(),
-            suffixes: Suffixes::new(),
+            firsts: Firsts::new(),
             contexts: Contexts::new(),
+            values: [0; STATES],
             arrivals: [Arcs::new(), Arcs::new()],
+            arcs: 0,
             pending: Vec::with_capacity(STATES),
             changed: [false; STATES],
             met: Vec::with_capacity(STATES),
@@ -90,7 +97,7 @@ impl Fast {
 
     /// Joins by the class's rule until none applies.
     fn join(&mut self, class: Class) {
-        self.partition.reset(self.tree.count);
+        self.arcs = self.tree.count - 1;
         match class {
             Class::Context(k, h) => self.join_by_context(k, h),
             Class::SeenSet => self.join_by_seen_set(),
@@ -105,7 +112,10 @@ impl Fast {
         while let Some((v, w)) = pending.pop() {
             if let Some((stays, gone)) = self.partition.join(v, w) {
                 self.changed[index(stays)] = true;
-                self.tree.children.absorb(stays, gone, |a, b| pending.push((a, b)));
+                self.tree.children.absorb(stays, gone, |a, b| {
+                    self.arcs -= 1;
+                    pending.push((a, b));
+                });
                 for arrivals in &mut self.arrivals[..kinds] {
                     arrivals.absorb(stays, gone, |a, b| pending.push((a, b)));
                 }

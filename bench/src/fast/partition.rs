@@ -1,4 +1,4 @@
-//! The partition of the states: a forest whose roots stand for the groups.
+//! The partition of the states: a forest whose roots, the lowest states of the groups, stand for them.
 
 use super::{index, State, STATES};
 
@@ -40,9 +40,17 @@ impl Partition {
         at
     }
 
-    /// Puts a group that is a state by itself below another state.
-    pub fn place(&mut self, state: State, above: State) {
-        self.above[index(state)] = above;
+    /// Puts every state right below its root, or makes it one; what is above a state is lower. Returns the states' groups.
+    pub fn flatten(&mut self, count: usize) -> &[State; STATES] {
+        for v in 0..count {
+            self.above[v % STATES] = self.above[index(self.above[v % STATES])];
+        }
+        &self.above
+    }
+
+    /// Takes the partition of which each state's group is given, by its lowest state.
+    pub fn take(&mut self, groups: &[State]) {
+        self.above[..groups.len()].copy_from_slice(groups);
     }
 
     /// Makes the groups of two states one. Where they were two: the one that stays, and the one that is gone.

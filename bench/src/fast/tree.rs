@@ -3,6 +3,7 @@
 use super::arcs::Arcs;
 use super::fields::{field_at, read_front, Front, ROW};
 use super::refusals::Refusal;
+use super::suffixes::lengthen;
 use super::{index, State, STATES};
 use crate::book::{ROW_LENGTH, ROW_LIMIT};
 
@@ -11,6 +12,8 @@ pub struct Tree {
     pub parents: [State; STATES],
     pub names: [u8; STATES],
     pub accepts: [bool; STATES],
+    /// The last names of each state, as `suffixes` has them.
+    pub codes: [u64; STATES],
     pub children: Arcs,
 }
 
@@ -21,6 +24,7 @@ impl Tree {
             parents: [0; STATES],
             names: [0; STATES],
             accepts: [false; STATES],
+            codes: [0; STATES],
             children: Arcs::new(),
         }
     }
@@ -29,14 +33,14 @@ impl Tree {
     pub fn read(&mut self, book: &[u8]) -> Result<Front, Refusal> {
         let front = read_front(book)?;
         self.count = 0;
-        self.append(0, 0);
+        self.append(0, 0, 0);
         let mut fits = true;
         let mut at = front.end;
         let mut rows = 0;
         while at < book.len() {
             let (mark, row) = field_at(book, at)?;
-            check_row(mark, row, rows, front.names)?;
-            fits = fits && self.add(row);
+            check_row(mark, row, rows)?;
+            fits &= self.add(row, front.names)?;
             rows += 1;
             at += 3 + row.len();
         }
@@ -46,45 +50,58 @@ impl Tree {
         Ok(front)
     }
 
-    fn append(&mut self, parent: State, name: u8) {
+    fn append(&mut self, parent: State, name: u8, code: u64) {
         let v = self.count % STATES;
         self.parents[v] = parent;
         self.names[v] = name;
         self.accepts[v] = false;
+        self.codes[v] = code;
         self.children.keys[v] = 0;
         self.count += 1;
     }
 
-    /// Adds a row; false where the tree would be too large.
-    fn add(&mut self, row: &[u8]) -> bool {
+    /// Adds a row; false where the tree would be too large. A row with a number that is no name's is refused.
+    fn add(&mut self, row: &[u8], names: usize) -> Result<bool, Refusal> {
         let mut state = 0;
-        for &name in row {
+        let mut code = 0;
+        for (at, &name) in row.iter().enumerate() {
             let key = usize::from(name);
+            if key >= names {
+                return Err(Refusal::BadRow);
+            }
+            code = lengthen(code, name);
             if self.children.has(state, key) {
                 state = self.children.get(state, key);
                 continue;
             }
             if self.count == STATES {
-                return false;
+                return check_names(&row[at..], names).map(|()| false);
             }
             let child = self.count as State;
             self.children.put(state, key, child);
-            self.append(state, name);
+            self.append(state, name, code);
             state = child;
         }
         self.accepts[index(state)] = true;
-        true
+        Ok(true)
     }
 }
 
-fn check_row(mark: u8, row: &[u8], rows: usize, names: usize) -> Result<(), Refusal> {
+fn check_row(mark: u8, row: &[u8], rows: usize) -> Result<(), Refusal> {
     if mark != ROW {
         return Err(Refusal::Misplaced);
     }
     if rows == ROW_LIMIT {
         return Err(Refusal::TooMany);
     }
-    if row.len() > ROW_LENGTH || row.iter().any(|&name| usize::from(name) >= names) {
+    if row.len() > ROW_LENGTH {
+        return Err(Refusal::BadRow);
+    }
+    Ok(())
+}
+
+pub fn check_names(row: &[u8], names: usize) -> Result<(), Refusal> {
+    if row.iter().any(|&name| usize::from(name) >= names) {
         return Err(Refusal::BadRow);
     }
     Ok(())

@@ -2,6 +2,7 @@
 
 use super::fields::{field_at, read_front, STATE};
 use super::refusals::Refusal;
+use super::tree::check_names;
 use super::STATES;
 use crate::book::ROW_LENGTH;
 use crate::library::Walked;
@@ -69,9 +70,10 @@ impl Table {
 
     /// Walks the row over the table that was read.
     pub fn walk(&self, table: &[u8], row: &[u8]) -> Result<Walked, Refusal> {
-        if row.len() > ROW_LENGTH || row.iter().any(|&name| usize::from(name) >= self.names) {
+        if row.len() > ROW_LENGTH {
             return Err(Refusal::BadRow);
         }
+        check_names(row, self.names)?;
         let mut body = self.body(table, 0);
         let mut steps = 0;
         for &name in row {
