@@ -1,7 +1,5 @@
 //! Books as rows of name numbers, and their bytes.
 
-use std::collections::HashSet;
-
 pub const NAME_LIMIT: usize = 64;
 pub const ROW_LIMIT: usize = 256;
 pub const ROW_LENGTH: usize = 64;
@@ -115,16 +113,5 @@ impl Book {
 
     pub fn with_class(&self, class: Class) -> Book {
         Book { class, ..self.clone() }
-    }
-
-    /// How many states the prefix tree of the rows has.
-    pub fn tree_states(&self) -> usize {
-        let mut beginnings = HashSet::new();
-        for row in &self.rows {
-            for end in 1..=row.len() {
-                beginnings.insert(&row[..end]);
-            }
-        }
-        beginnings.len() + 1
     }
 }

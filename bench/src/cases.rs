@@ -1,8 +1,10 @@
 //! The books that are timed.
 
-use crate::book::{short_names, Book, Class, ROW_LENGTH, ROW_LIMIT, STATE_LIMIT};
+use crate::book::{short_names, Book, Class, CLASSES, ROW_LENGTH, ROW_LIMIT, STATE_LIMIT};
 use crate::random::Random;
 use std::collections::HashSet;
+use std::fs;
+use std::path::{Path, PathBuf};
 
 /// The names of typical days, in ascending order.
 const DAY_NAMES: [&str; 12] = [
@@ -21,33 +23,32 @@ const SKELETONS: [&[u8]; 5] = [
 /// How many names of a skeleton a day alters: one of these.
 const EDITS: [usize; 5] = [0, 0, 0, 1, 2];
 
-/// Rows gathered until their prefix tree has as many states as asked for.
+/// Rows whose prefix tree has no more states than asked for.
 struct Gathered {
     rows: Vec<Vec<u8>>,
     beginnings: HashSet<Vec<u8>>,
+    limit: usize,
 }
 
 impl Gathered {
-    fn new() -> Gathered {
-        Gathered { rows: Vec::new(), beginnings: HashSet::new() }
+    fn new(limit: usize) -> Gathered {
+        Gathered { rows: Vec::new(), beginnings: HashSet::from([Vec::new()]), limit }
     }
 
-    fn states(&self) -> usize {
-        self.beginnings.len() + 1
+    fn is_full(&self) -> bool {
+        self.beginnings.len() == self.limit || self.rows.len() == ROW_LIMIT
     }
 
-    /// Adds the row, cut where the tree would have more than `limit` states.
-    fn add(&mut self, row: &[u8], limit: usize) {
-        let mut end = 0;
-        while end < row.len() {
-            let known = self.beginnings.contains(&row[..=end]);
-            if !known && self.states() == limit {
-                break;
-            }
-            end += 1;
-            self.beginnings.insert(row[..end].to_vec());
+    /// Adds the row if its states fit.
+    fn add(&mut self, row: &[u8]) {
+        let new: Vec<Vec<u8>> = (1..=row.len())
+            .map(|end| row[..end].to_vec())
+            .filter(|beginning| !self.beginnings.contains(beginning))
+            .collect();
+        if self.beginnings.len() + new.len() <= self.limit {
+            self.beginnings.extend(new);
+            self.rows.push(row.to_vec());
         }
-        self.rows.push(row[..end].to_vec());
     }
 }
 
@@ -68,46 +69,84 @@ fn varied_day(random: &mut Random) -> Vec<u8> {
     day
 }
 
-fn day_book(rows: Vec<Vec<u8>>, class: Class) -> Book {
+fn day_book(rows: Vec<Vec<u8>>) -> Book {
     let names = DAY_NAMES.iter().map(|name| name.as_bytes().to_vec()).collect();
-    Book { names, class, rows }
+    Book { names, class: Class::Context(2, 1), rows }
 }
 
 /// 40 days.
-pub fn typical(class: Class) -> Book {
+pub fn typical() -> Book {
     let mut random = Random::new(1);
-    day_book((0..40).map(|_| varied_day(&mut random)).collect(), class)
+    day_book((0..40).map(|_| varied_day(&mut random)).collect())
 }
 
-/// As many varied days as give a prefix tree of `states` states.
-pub fn typical_of(states: usize, class: Class) -> Book {
+/// Varied days with a prefix tree of so many states.
+pub fn typical_of(states: usize) -> Book {
     let mut random = Random::new(2);
-    let mut gathered = Gathered::new();
-    while gathered.states() < states && gathered.rows.len() < ROW_LIMIT {
-        gathered.add(&varied_day(&mut random), states);
+    let mut gathered = Gathered::new(states);
+    while !gathered.is_full() {
+        gathered.add(&varied_day(&mut random));
     }
-    day_book(gathered.rows, class)
+    day_book(gathered.rows)
 }
 
 /// Random rows of up to 24 of so many names, with a prefix tree of 510 states.
-pub fn random_rows(names: usize, class: Class) -> Book {
+pub fn random_rows(names: usize) -> Book {
     let mut random = Random::new(names as u64);
-    let mut gathered = Gathered::new();
-    while gathered.states() < 510 && gathered.rows.len() < ROW_LIMIT {
+    let mut gathered = Gathered::new(510);
+    while !gathered.is_full() {
         let length = 1 + random.below(24);
         let row: Vec<u8> = (0..length).map(|_| random.below(names) as u8).collect();
-        gathered.add(&row, 510);
+        gathered.add(&row);
     }
-    Book { names: short_names(names), class, rows: gathered.rows }
+    Book { names: short_names(names), class: Class::Context(2, 1), rows: gathered.rows }
 }
 
 /// Eight rows, each one name of its own and then one name that they share: 512 states.
-pub fn nearly_one_name(class: Class) -> Book {
-    let mut gathered = Gathered::new();
-    for first in 1..=8 {
-        let mut row = vec![0; ROW_LENGTH];
+pub fn nearly_one_name() -> Book {
+    let rows = (1..=8).map(|first| {
+        let length = if first == 8 { ROW_LENGTH - 1 } else { ROW_LENGTH };
+        let mut row = vec![0; length];
         row[0] = first;
-        gathered.add(&row, STATE_LIMIT);
+        row
+    });
+    Book { names: short_names(9), class: Class::Context(2, 1), rows: rows.collect() }
+}
+
+/// The books of 510 and 512 states, with what they are called.
+pub fn large() -> [(&'static str, Book); 4] {
+    [
+        ("random rows, 10 names", random_rows(10)),
+        ("random rows, 3 names", random_rows(3)),
+        ("random rows, 2 names", random_rows(2)),
+        ("nearly one name", nearly_one_name()),
+    ]
+}
+
+/// Where the search keeps the worst book of a class.
+pub fn worst_path(class: Class) -> PathBuf {
+    Path::new(env!("CARGO_MANIFEST_DIR")).join("books").join(format!("{}.book", class.file_label()))
+}
+
+/// The worst books that the search has kept, none for a class that it has not come to.
+pub fn worst_found() -> Result<Vec<Book>, String> {
+    let mut books = Vec::new();
+    for path in CLASSES.map(worst_path) {
+        if path.exists() {
+            let bytes = fs::read(&path).map_err(|error| format!("{}: {error}", path.display()))?;
+            books.push(Book::read(&bytes));
+        }
     }
-    Book { names: short_names(9), class, rows: gathered.rows }
+    Ok(books)
+}
+
+/// A table of one name in which each of 512 states leads to the next, the last to itself.
+pub fn chain_table() -> Vec<u8> {
+    let mut table = vec![1, 0, 1, b's', 2, 0, 3, 0, 2, 1];
+    for state in 0..STATE_LIMIT {
+        let target = (state + 1).min(STATE_LIMIT - 1) as u16;
+        let [high, low] = target.to_be_bytes();
+        table.extend_from_slice(&[4, 0, 4, u8::from(state + 1 == STATE_LIMIT), 0, high, low]);
+    }
+    table
 }

@@ -1,4 +1,4 @@
-//! The least time of calls, taken in turn.
+//! The least times of calls, made in turn.
 
 use crate::library::WORK_BYTES;
 use std::hint::black_box;
@@ -11,37 +11,41 @@ pub struct Effort {
     pub rounds: usize,
 }
 
-/// The least time of each call in nanoseconds, over rounds in which each is made once.
-pub fn least(calls: &mut [&mut dyn FnMut()], effort: Effort) -> Vec<f64> {
+/// The least time of a memset in nanoseconds, and the least of each call as a multiple of it.
+pub struct Times {
+    pub memset: f64,
+    pub calls: Vec<f64>,
+}
+
+/// How often a round makes the memset: the caches are those of the calls at first.
+const MEMSETS: usize = 8;
+
+/// Times rounds in which each call is made once.
+pub fn time(calls: &mut [&mut dyn FnMut()], effort: Effort) -> Times {
+    let mut area = vec![0; WORK_BYTES];
+    let mut memset = f64::INFINITY;
     let mut least = vec![f64::INFINITY; calls.len()];
     let begun = Instant::now();
     let mut rounds = 0;
     while rounds < effort.rounds || begun.elapsed() < effort.time {
+        for value in 0..MEMSETS {
+            memset = memset.min(once(&mut || set(&mut area, value as u8)));
+        }
         for (call, least) in calls.iter_mut().zip(&mut least) {
-            let start = Instant::now();
-            call();
-            let time = start.elapsed().as_nanos() as f64;
-            *least = least.min(time);
+            *least = least.min(once(call));
         }
         rounds += 1;
     }
-    least
+    Times { memset, calls: least.iter().map(|time| time / memset).collect() }
 }
 
-/// The memset that times are given in.
-pub struct Memset {
-    area: Vec<u8>,
-    value: u8,
+fn once(call: &mut dyn FnMut()) -> f64 {
+    let start = Instant::now();
+    call();
+    start.elapsed().as_nanos() as f64
 }
 
-impl Memset {
-    pub fn new() -> Memset {
-        Memset { area: vec![0; WORK_BYTES], value: 0 }
-    }
-
-    pub fn run(&mut self) {
-        self.value = self.value.wrapping_add(1);
-        self.area.fill(black_box(self.value));
-        black_box(&mut self.area);
-    }
+fn set(area: &mut [u8], value: u8) {
+    area.fill(black_box(value));
+    black_box(area);
 }

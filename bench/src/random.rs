@@ -19,9 +19,4 @@ impl Random {
     pub fn below(&mut self, bound: usize) -> usize {
         (self.next() % bound as u64) as usize
     }
-
-    /// True once in `n` draws.
-    pub fn once_in(&mut self, n: usize) -> bool {
-        self.below(n) == 0
-    }
 }

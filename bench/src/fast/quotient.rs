@@ -35,7 +35,9 @@ fn prepare(fast: &mut Fast) -> (usize, usize) {
     let mut states = 0;
     for v in 0..count as State {
         let group = groups[index(v)];
-        fast.accepting[index(group)] |= fast.tree.accepts[index(v)];
+        if fast.tree.accepts[index(v)] {
+            fast.accepting[index(group)] = true;
+        }
         states += usize::from(group == v);
     }
     (states, 4 * states + 3 * fast.arcs)

@@ -1,6 +1,6 @@
 //! The last nine names of a state as one number, seven bits a name, and the first state with the same last names.
 
-use super::{index, State, STATES};
+use super::{State, STATES};
 
 const SLOTS: usize = 2 * STATES;
 const NAME_BITS: u32 = 7;
