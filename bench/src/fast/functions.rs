@@ -38,12 +38,10 @@ impl Fast {
         self.partition.reset(self.tree.count);
         self.firsts.forget();
         let values = &self.values;
-        for v in 0..self.tree.count as State {
-            if self.tree.accepts[index(v)] {
-                let first = self.firsts.first(v, values[index(v)], |w| values[index(w)]);
-                if first != v {
-                    self.pending.push((first, v));
-                }
+        for &v in &self.tree.ends {
+            let first = self.firsts.first(v, values[index(v)], |w| values[index(w)]);
+            if first != v {
+                self.pending.push((first, v));
             }
         }
     }

@@ -4,15 +4,18 @@ use super::{index, State, STATES};
 
 pub struct Partition {
     above: [State; STATES],
+    /// Every state is right below its root, or is one.
+    flat: bool,
 }
 
 impl Partition {
     pub fn new() -> Partition {
-        Partition { above: [0; STATES] }
+        Partition { above: [0; STATES], flat: true }
     }
 
     /// Every state by itself.
     pub fn reset(&mut self, count: usize) {
+        self.flat = true;
         for (state, above) in self.above[..count].iter_mut().enumerate() {
             *above = state as State;
         }
@@ -42,14 +45,18 @@ impl Partition {
 
     /// Puts every state right below its root, or makes it one; what is above a state is lower. Returns the states' groups.
     pub fn flatten(&mut self, count: usize) -> &[State; STATES] {
-        for v in 0..count {
-            self.above[v % STATES] = self.above[index(self.above[v % STATES])];
+        if !self.flat {
+            for v in 0..count {
+                self.above[v % STATES] = self.above[index(self.above[v % STATES])];
+            }
+            self.flat = true;
         }
         &self.above
     }
 
     /// Takes the partition of which each state's group is given, by its lowest state.
     pub fn take(&mut self, groups: &[State]) {
+        self.flat = true;
         self.above[..groups.len()].copy_from_slice(groups);
     }
 
@@ -61,6 +68,7 @@ impl Partition {
         }
         let (stays, gone) = (x.min(y), x.max(y));
         self.above[index(gone)] = stays;
+        self.flat = false;
         Some((stays, gone))
     }
 }

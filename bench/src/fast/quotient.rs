@@ -32,14 +32,10 @@ fn prepare(fast: &mut Fast) -> (usize, usize) {
     let groups = fast.partition.flatten(count);
     fast.accepting[..count].fill(false);
     fast.numbers[..count].fill(NOT_MET);
-    let mut states = 0;
-    for v in 0..count as State {
-        let group = groups[index(v)];
-        if fast.tree.accepts[index(v)] {
-            fast.accepting[index(group)] = true;
-        }
-        states += usize::from(group == v);
+    for &end in &fast.tree.ends {
+        fast.accepting[index(groups[index(end)])] = true;
     }
+    let states = groups[..count].iter().zip(0..).filter(|&(&group, v)| group == v).count();
     (states, 4 * states + 3 * fast.arcs)
 }
 

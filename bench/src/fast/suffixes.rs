@@ -20,15 +20,29 @@ pub fn above(code: u64, length: u8) -> Option<u8> {
     (cut(code >> (NAME_BITS * u32::from(length)), 1) as u8).checked_sub(1)
 }
 
+/// How many codes of up to two names there are.
+const SHORT_CODES: usize = 1 << (2 * NAME_BITS);
+
 /// The first state for each code.
 pub struct Firsts {
+    /// By the code itself. An entry counts only where it is an earlier state with that code, so that nothing is cleared.
+    short: [State; SHORT_CODES],
     /// One more than a state's number, 0 for none.
     slots: [State; SLOTS],
 }
 
 impl Firsts {
     pub fn new() -> Firsts {
-        Firsts { slots: [0; SLOTS] }
+        Firsts { short: [0; SHORT_CODES], slots: [0; SLOTS] }
+    }
+
+    /// The first state with this code of one or two names. States are asked for in ascending order.
+    pub fn first_of_short(&mut self, v: State, code: u64, code_of: impl Fn(State) -> u64) -> State {
+        let entry = &mut self.short[code as usize % SHORT_CODES];
+        if *entry >= v || code_of(*entry) != code {
+            *entry = v;
+        }
+        *entry
     }
 
     pub fn forget(&mut self) {

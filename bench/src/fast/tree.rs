@@ -11,7 +11,8 @@ pub struct Tree {
     pub count: usize,
     pub parents: [State; STATES],
     pub names: [u8; STATES],
-    pub accepts: [bool; STATES],
+    /// The state where each row ends.
+    pub ends: Vec<State>,
     /// The last names of each state, as `suffixes` has them.
     pub codes: [u64; STATES],
     pub children: Arcs,
@@ -23,7 +24,7 @@ impl Tree {
             count: 0,
             parents: [0; STATES],
             names: [0; STATES],
-            accepts: [false; STATES],
+            ends: Vec::with_capacity(ROW_LIMIT),
             codes: [0; STATES],
             children: Arcs::new(),
         }
@@ -32,8 +33,9 @@ impl Tree {
     /// Reads the book, row by row into the tree.
     pub fn read(&mut self, book: &[u8]) -> Result<Front, Refusal> {
         let front = read_front(book)?;
-        self.count = 0;
-        self.append(0, 0, 0);
+        self.count = 1;
+        self.ends.clear();
+        self.children.keys[0] = 0;
         let mut fits = true;
         let mut at = front.end;
         let mut rows = 0;
@@ -50,18 +52,9 @@ impl Tree {
         Ok(front)
     }
 
-    fn append(&mut self, parent: State, name: u8, code: u64) {
-        let v = self.count % STATES;
-        self.parents[v] = parent;
-        self.names[v] = name;
-        self.accepts[v] = false;
-        self.codes[v] = code;
-        self.children.keys[v] = 0;
-        self.count += 1;
-    }
-
     /// Adds a row; false where the tree would be too large. A row with a number that is no name's is refused.
     fn add(&mut self, row: &[u8], names: usize) -> Result<bool, Refusal> {
+        let mut count = self.count;
         let mut state = 0;
         let mut code = 0;
         for (at, &name) in row.iter().enumerate() {
@@ -74,15 +67,20 @@ impl Tree {
                 state = self.children.get(state, key);
                 continue;
             }
-            if self.count == STATES {
+            if count == STATES {
                 return check_names(&row[at..], names).map(|()| false);
             }
-            let child = self.count as State;
+            let child = count as State;
             self.children.put(state, key, child);
-            self.append(state, name, code);
+            self.children.keys[index(child)] = 0;
+            self.parents[index(child)] = state;
+            self.names[index(child)] = name;
+            self.codes[index(child)] = code;
+            count += 1;
             state = child;
         }
-        self.accepts[index(state)] = true;
+        self.count = count;
+        self.ends.push(state);
         Ok(true)
     }
 }
