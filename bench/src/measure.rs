@@ -20,23 +20,33 @@ pub struct Times {
 /// How often a round makes the memset: the caches are those of the calls at first.
 const MEMSETS: usize = 8;
 
-/// Times rounds in which each call is made once.
-pub fn time(calls: &mut [&mut dyn FnMut()], effort: Effort) -> Times {
-    let mut area = vec![0; WORK_BYTES];
-    let mut memset = f64::INFINITY;
-    let mut least = vec![f64::INFINITY; calls.len()];
-    let begun = Instant::now();
-    let mut rounds = 0;
-    while rounds < effort.rounds || begun.elapsed() < effort.time {
-        for value in 0..MEMSETS {
-            memset = memset.min(once(&mut || set(&mut area, value as u8)));
-        }
-        for (call, least) in calls.iter_mut().zip(&mut least) {
-            *least = least.min(once(call));
-        }
-        rounds += 1;
+/// The area of the memset, the same for all calls that are timed.
+pub struct Timer {
+    area: Vec<u8>,
+}
+
+impl Timer {
+    pub fn new() -> Timer {
+        Timer { area: vec![0; WORK_BYTES] }
     }
-    Times { memset, calls: least.iter().map(|time| time / memset).collect() }
+
+    /// Times rounds in which each call is made once.
+    pub fn time(&mut self, calls: &mut [&mut dyn FnMut()], effort: Effort) -> Times {
+        let mut memset = f64::INFINITY;
+        let mut least = vec![f64::INFINITY; calls.len()];
+        let begun = Instant::now();
+        let mut rounds = 0;
+        while rounds < effort.rounds || begun.elapsed() < effort.time {
+            for value in 0..MEMSETS {
+                memset = memset.min(once(&mut || set(&mut self.area, value as u8)));
+            }
+            for (call, least) in calls.iter_mut().zip(&mut least) {
+                *least = least.min(once(call));
+            }
+            rounds += 1;
+        }
+        Times { memset, calls: least.iter().map(|time| time / memset).collect() }
+    }
 }
 
 fn once(call: &mut dyn FnMut()) -> f64 {

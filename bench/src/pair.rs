@@ -2,7 +2,7 @@
 
 use crate::fast::Fast;
 use crate::library::{self, Built, Walked, INPUT_LIMIT, WORK_BYTES};
-use crate::measure::{time, Effort, Times};
+use crate::measure::{Effort, Timer, Times};
 use std::hint::black_box;
 
 /// What is lent to a call.
@@ -21,11 +21,12 @@ pub struct Pair {
     fast: Box<Fast>,
     to_library: Lent,
     to_fast: Lent,
+    timer: Timer,
 }
 
 impl Pair {
     pub fn new() -> Pair {
-        Pair { fast: Fast::new(), to_library: Lent::new(), to_fast: Lent::new() }
+        Pair { fast: Fast::new(), to_library: Lent::new(), to_fast: Lent::new(), timer: Timer::new() }
     }
 
     /// Builds by both. The result, or the two where they differ.
@@ -50,25 +51,25 @@ impl Pair {
     }
 
     pub fn time_builds(&mut self, book: &[u8], effort: Effort) -> Times {
-        let Pair { fast, to_library, to_fast } = self;
+        let Pair { fast, to_library, to_fast, timer } = self;
         let mut by_library = || {
             black_box(library::build(black_box(book), &mut to_library.work, &mut to_library.out));
         };
         let mut by_fast = || {
             black_box(fast.build(black_box(book), &mut to_fast.work, &mut to_fast.out));
         };
-        time(&mut [&mut by_library, &mut by_fast], effort)
+        timer.time(&mut [&mut by_library, &mut by_fast], effort)
     }
 
     pub fn time_walks(&mut self, table: &[u8], row: &[u8], effort: Effort) -> Times {
-        let Pair { fast, to_library, to_fast } = self;
+        let Pair { fast, to_library, to_fast, timer } = self;
         let mut by_library = || {
             black_box(library::walk(black_box(table), black_box(row), &mut to_library.work));
         };
         let mut by_fast = || {
             black_box(fast.walk(black_box(table), black_box(row), &mut to_fast.work));
         };
-        time(&mut [&mut by_library, &mut by_fast], effort)
+        timer.time(&mut [&mut by_library, &mut by_fast], effort)
     }
 
     /// The library alone, in memsets.
@@ -77,6 +78,6 @@ impl Pair {
         let mut by_library = || {
             black_box(library::build(black_box(book), work, out));
         };
-        time(&mut [&mut by_library], effort).calls[0]
+        self.timer.time(&mut [&mut by_library], effort).calls[0]
     }
 }
