@@ -7,9 +7,8 @@ use std::fs;
 use std::path::{Path, PathBuf};
 
 /// The names of typical days, in ascending order.
-const DAY_NAMES: [&str; 12] = [
-    "bread", "breakfast", "coffee", "dessert", "dinner", "fruit", "lunch", "salad", "snack", "soup", "tea", "yoghurt",
-];
+const DAY_NAMES: [&str; 12] =
+    ["bread", "breakfast", "coffee", "dessert", "dinner", "fruit", "lunch", "salad", "snack", "soup", "tea", "yoghurt"];
 
 /// The days that typical days vary, as numbers of the names above.
 const SKELETONS: [&[u8]; 5] = [

@@ -59,9 +59,7 @@ mod calls {
 
 pub fn build(book: &[u8], work: &mut [u8], out: &mut [u8]) -> Built {
     // SAFETY: each pointer comes with the length of the slice it was taken from, and the slices do not overlap
-    unsafe {
-        calls::plans_build(book.as_ptr(), book.len(), work.as_mut_ptr(), work.len(), out.as_mut_ptr(), out.len())
-    }
+    unsafe { calls::plans_build(book.as_ptr(), book.len(), work.as_mut_ptr(), work.len(), out.as_mut_ptr(), out.len()) }
 }
 
 pub fn rewrite(table: &[u8], work: &mut [u8], out: &mut [u8]) -> Built {

@@ -4,6 +4,7 @@
 mod bars;
 mod book;
 mod cases;
+mod clock;
 mod fast;
 mod library;
 mod measure;

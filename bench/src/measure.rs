@@ -1,5 +1,6 @@
 //! The least times of calls, made in turn.
 
+use crate::clock::nanoseconds;
 use crate::library::WORK_BYTES;
 use std::hint::black_box;
 use std::time::{Duration, Instant};
@@ -38,21 +39,15 @@ impl Timer {
         let mut rounds = 0;
         while rounds < effort.rounds || begun.elapsed() < effort.time {
             for value in 0..MEMSETS {
-                memset = memset.min(once(&mut || set(&mut self.area, value as u8)));
+                memset = memset.min(nanoseconds(&mut || set(&mut self.area, value as u8)));
             }
             for (call, least) in calls.iter_mut().zip(&mut least) {
-                *least = least.min(once(call));
+                *least = least.min(nanoseconds(call));
             }
             rounds += 1;
         }
         Times { memset, calls: least.iter().map(|time| time / memset).collect() }
     }
-}
-
-fn once(call: &mut dyn FnMut()) -> f64 {
-    let start = Instant::now();
-    call();
-    start.elapsed().as_nanos() as f64
 }
 
 fn set(area: &mut [u8], value: u8) {

@@ -9,7 +9,7 @@ use crate::pair::Pair;
 use crate::stack;
 use std::time::Duration;
 
-const EFFORT: Effort = Effort { time: Duration::from_millis(60), rounds: 30 };
+const EFFORT: Effort = Effort { time: Duration::from_millis(120), rounds: 30 };
 
 struct Bench {
     pair: Pair,

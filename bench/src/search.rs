@@ -36,13 +36,14 @@ pub fn run(seconds: u32) -> Result<(), String> {
             None => 0.0,
         };
         let mut worst = before;
+        let mut start = search.costliest(class, &kept);
         while Instant::now() < end {
-            let start = search.start(class, &kept);
             let found = search.climb(start, end)?;
             if found.cost > worst {
                 worst = found.cost;
                 keep(&found.book)?;
             }
+            start = search.start(class, &kept);
         }
         println!("{:10}{before:10.1} memsets before, {worst:10.1} now", class.label());
     }
@@ -60,16 +61,26 @@ fn keep(book: &Book) -> Result<(), String> {
 }
 
 impl Search {
-    /// A book to begin with: one kept for any class, one that is timed, or random rows.
-    fn start(&mut self, class: Class, kept: &[Book]) -> Book {
-        match self.random.below(3) {
-            0 if !kept.is_empty() => kept[self.random.below(kept.len())].with_class(class),
-            1 => {
-                let books = cases::large();
-                books[self.random.below(books.len())].1.with_class(class)
+    /// The costliest in this class of the books that are kept for any class or timed.
+    fn costliest(&mut self, class: Class, kept: &[Book]) -> Book {
+        let mut worst = Found { book: cases::nearly_one_name().with_class(class), cost: 0.0 };
+        let large = cases::large().map(|(_, book)| book);
+        for book in kept.iter().chain(&large) {
+            let book = book.with_class(class);
+            let cost = self.pair.time_library(&book.bytes(), TRY);
+            if cost > worst.cost {
+                worst = Found { book, cost };
             }
-            _ => self.random_book(class),
         }
+        worst.book
+    }
+
+    /// A book to begin with again: one that is kept for any class, or random rows.
+    fn start(&mut self, class: Class, kept: &[Book]) -> Book {
+        if kept.is_empty() || self.random.below(2) == 0 {
+            return self.random_book(class);
+        }
+        kept[self.random.below(kept.len())].with_class(class)
     }
 
     fn random_book(&mut self, class: Class) -> Book {

@@ -1,6 +1,8 @@
 //! Build and walk a second time, written for speed: the yardstick for the library. It shares no code with it, keeps its memory
 //! between calls, and does the same job: it refuses in the same order and leaves the lent working area zero.
 
+#![forbid(unsafe_code)]
+
 mod arcs;
 mod contexts;
 mod fields;
