@@ -23,12 +23,17 @@ fn thread_nanoseconds() -> f64 {
     time.seconds as f64 * 1e9 + time.nanoseconds as f64
 }
 
-/// The nanoseconds of a call: the lesser of the time passed, which is more exact for a short call, and the thread's time, in which
-/// a long call is not charged for others on the same core.
+/// For calls of less, the thread's clock is not exact enough.
+const LONG_CALL: f64 = 100_000.0;
+
+/// The nanoseconds of a call. A long one is not charged for others on the same core.
 pub fn nanoseconds(call: &mut dyn FnMut()) -> f64 {
     let thread_start = thread_nanoseconds();
     let start = Instant::now();
     call();
     let passed = start.elapsed().as_nanos() as f64;
+    if passed < LONG_CALL {
+        return passed;
+    }
     passed.min(thread_nanoseconds() - thread_start)
 }

@@ -56,14 +56,14 @@ impl Bench {
         let class = book.class.label();
         let (built, _) = self.pair.build(&bytes).map_err(|what| format!("{case}, {class}: {what}"))?;
         let times = self.pair.time_builds(&bytes, EFFORT);
-        self.show_case(case, &class, built, &times, bars);
+        self.show_case(case, &class, Some(built), &times, bars);
         Ok(())
     }
 
     fn time_walk(&mut self, case: &str, table: &[u8], row: &[u8], bars: &[Bar]) -> Result<(), String> {
         self.pair.walk(table, row).map_err(|what| format!("{case}: {what}"))?;
         let times = self.pair.time_walks(table, row, EFFORT);
-        self.show_case(case, "", Built::default(), &times, bars);
+        self.show_case(case, "", None, &times, bars);
         Ok(())
     }
 
@@ -73,12 +73,13 @@ impl Bench {
         Ok(table.to_vec())
     }
 
-    fn show_case(&mut self, case: &str, class: &str, built: Built, times: &Times, bars: &[Bar]) {
+    fn show_case(&mut self, case: &str, class: &str, built: Option<Built>, times: &Times, bars: &[Bar]) {
         let (library, fast) = (times.calls[0], times.calls[1]);
         let ratio = library / fast;
-        let (tree, states) = (built.states + built.joins, built.states);
+        let tree = built.map_or(String::new(), |built| (built.states + built.joins).to_string());
+        let states = built.map_or(String::new(), |built| built.states.to_string());
         let memset = times.memset;
-        println!("{case:26}{class:10}{tree:6}{states:8}{library:10.1}{fast:9.1}{ratio:8.2}{memset:8.0}");
+        println!("{case:26}{class:10}{tree:>6}{states:>8}{library:10.1}{fast:9.1}{ratio:8.2}{memset:8.0}");
         let of = format!("{case} {class}");
         for &bar in bars {
             self.bars.take(bar, library, &of);
