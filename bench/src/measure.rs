@@ -12,14 +12,34 @@ pub struct Effort {
     pub rounds: usize,
 }
 
-/// The least time of a memset in nanoseconds, and the least of each call as a multiple of it.
-pub struct Times {
-    pub memset: f64,
-    pub calls: Vec<f64>,
+/// The least times in nanoseconds, of a memset and of each of N calls.
+#[derive(Clone, Copy)]
+pub struct Times<const N: usize> {
+    memset: f64,
+    calls: [f64; N],
 }
 
-/// How often a round makes the memset: the caches are those of the calls at first.
-const MEMSETS: usize = 8;
+impl<const N: usize> Times<N> {
+    pub const NONE: Times<N> = Times { memset: f64::INFINITY, calls: [f64::INFINITY; N] };
+
+    /// The lesser of these times and those of another measurement.
+    pub fn or_less(self, other: Times<N>) -> Times<N> {
+        let calls = std::array::from_fn(|i| self.calls[i].min(other.calls[i]));
+        Times { memset: self.memset.min(other.memset), calls }
+    }
+
+    pub fn memset(&self) -> f64 {
+        self.memset
+    }
+
+    /// The calls as multiples of the memset.
+    pub fn in_memsets(&self) -> [f64; N] {
+        self.calls.map(|time| time / self.memset)
+    }
+}
+
+/// How often a round makes the memset: the first ones after a long call find other data in the caches.
+const MEMSETS: usize = 32;
 
 /// The area of the memset, the same for all calls that are timed.
 pub struct Timer {
@@ -32,21 +52,20 @@ impl Timer {
     }
 
     /// Times rounds in which each call is made once.
-    pub fn time(&mut self, calls: &mut [&mut dyn FnMut()], effort: Effort) -> Times {
-        let mut memset = f64::INFINITY;
-        let mut least = vec![f64::INFINITY; calls.len()];
+    pub fn time<const N: usize>(&mut self, mut calls: [&mut dyn FnMut(); N], effort: Effort) -> Times<N> {
+        let mut least = Times::NONE;
         let begun = Instant::now();
         let mut rounds = 0;
         while rounds < effort.rounds || begun.elapsed() < effort.time {
             for value in 0..MEMSETS {
-                memset = memset.min(nanoseconds(&mut || set(&mut self.area, value as u8)));
+                least.memset = least.memset.min(nanoseconds(&mut || set(&mut self.area, value as u8)));
             }
-            for (call, least) in calls.iter_mut().zip(&mut least) {
-                *least = least.min(nanoseconds(call));
+            for (i, call) in calls.iter_mut().enumerate() {
+                least.calls[i] = least.calls[i].min(nanoseconds(call));
             }
             rounds += 1;
         }
-        Times { memset, calls: least.iter().map(|time| time / memset).collect() }
+        least
     }
 }
 

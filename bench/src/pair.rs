@@ -50,7 +50,7 @@ impl Pair {
         Ok(one)
     }
 
-    pub fn time_builds(&mut self, book: &[u8], effort: Effort) -> Times {
+    pub fn time_builds(&mut self, book: &[u8], effort: Effort) -> Times<2> {
         let Pair { fast, to_library, to_fast, timer } = self;
         let mut by_library = || {
             black_box(library::build(black_box(book), &mut to_library.work, &mut to_library.out));
@@ -58,10 +58,10 @@ impl Pair {
         let mut by_fast = || {
             black_box(fast.build(black_box(book), &mut to_fast.work, &mut to_fast.out));
         };
-        timer.time(&mut [&mut by_library, &mut by_fast], effort)
+        timer.time([&mut by_library, &mut by_fast], effort)
     }
 
-    pub fn time_walks(&mut self, table: &[u8], row: &[u8], effort: Effort) -> Times {
+    pub fn time_walks(&mut self, table: &[u8], row: &[u8], effort: Effort) -> Times<2> {
         let Pair { fast, to_library, to_fast, timer } = self;
         let mut by_library = || {
             black_box(library::walk(black_box(table), black_box(row), &mut to_library.work));
@@ -69,7 +69,7 @@ impl Pair {
         let mut by_fast = || {
             black_box(fast.walk(black_box(table), black_box(row), &mut to_fast.work));
         };
-        timer.time(&mut [&mut by_library, &mut by_fast], effort)
+        timer.time([&mut by_library, &mut by_fast], effort)
     }
 
     /// The library alone, in memsets.
@@ -78,6 +78,7 @@ impl Pair {
         let mut by_library = || {
             black_box(library::build(black_box(book), work, out));
         };
-        self.timer.time(&mut [&mut by_library], effort).calls[0]
+        let [cost] = self.timer.time([&mut by_library], effort).in_memsets();
+        cost
     }
 }
