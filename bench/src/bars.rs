@@ -1,0 +1,54 @@
+//! The bars: each a limit, and the worst figure that was measured against it.
+
+#[derive(Clone, Copy, PartialEq, Eq)]
+pub enum Bar {
+    TypicalDefault,
+    Typical,
+    Large,
+    Worst,
+    Walk,
+    Ratio,
+    Stack,
+}
+
+const BARS: [(Bar, &str, f64); 7] = [
+    (Bar::TypicalDefault, "typical (2,1), memsets", 8.0),
+    (Bar::Typical, "typical, any class, memsets", 30.0),
+    (Bar::Large, "512-state books, memsets", 200.0),
+    (Bar::Worst, "worst books found, memsets", 4000.0),
+    (Bar::Walk, "walk of 64 names over 512 states, memsets", 12.0),
+    (Bar::Ratio, "library to fast, ratio", 1.2),
+    (Bar::Stack, "stack of a call, KiB", 32.0),
+];
+
+/// The worst figure for each bar, and of what it is.
+pub struct Bars {
+    worst: Vec<(f64, String)>,
+}
+
+impl Bars {
+    pub fn new() -> Bars {
+        Bars { worst: vec![(0.0, "nothing".to_string()); BARS.len()] }
+    }
+
+    pub fn take(&mut self, bar: Bar, figure: f64, of: &str) {
+        for ((known, _, _), worst) in BARS.iter().zip(&mut self.worst) {
+            if *known == bar && figure > worst.0 {
+                *worst = (figure, of.to_string());
+            }
+        }
+    }
+
+    /// Prints every bar; true where all are met. A bar that nothing was measured against is missed.
+    pub fn show(&self) -> bool {
+        println!("\n{:44}{:>8}{:>10}  {:8}of", "bar", "limit", "worst", "");
+        let mut all_met = true;
+        for ((_, name, limit), (figure, of)) in BARS.iter().zip(&self.worst) {
+            let met = *figure > 0.0 && figure <= limit;
+            let verdict = if met { "met" } else { "MISSED" };
+            println!("{name:44}{limit:>8.1}{figure:>10.2}  {verdict:8}{of}");
+            all_met &= met;
+        }
+        all_met
+    }
+}

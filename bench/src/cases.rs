@@ -1,0 +1,151 @@
+//! The books that are timed.
+
+use crate::book::{short_names, Book, Class, CLASSES, ROW_LENGTH, ROW_LIMIT, STATE_LIMIT};
+use crate::random::Random;
+use std::collections::HashSet;
+use std::fs;
+use std::path::{Path, PathBuf};
+
+/// The names of typical days, in ascending order.
+const DAY_NAMES: [&str; 12] =
+    ["bread", "breakfast", "coffee", "dessert", "dinner", "fruit", "lunch", "salad", "snack", "soup", "tea", "yoghurt"];
+
+/// The days that typical days vary, as numbers of the names above.
+const SKELETONS: [&[u8]; 5] = [
+    &[1, 2, 5, 8, 9, 6, 3, 10, 8, 4],
+    &[1, 10, 0, 8, 6, 7, 5, 8, 4, 0, 3],
+    &[1, 2, 11, 5, 6, 3, 2, 9, 4],
+    &[11, 5, 10, 8, 7, 6, 8, 9, 4, 7, 3],
+    &[1, 2, 8, 9, 6, 5, 10, 8, 4, 10],
+];
+
+/// How many names of a skeleton a day alters: one of these.
+const EDITS: [usize; 5] = [0, 0, 0, 1, 2];
+
+/// Rows whose prefix tree has no more states than asked for.
+struct Gathered {
+    rows: Vec<Vec<u8>>,
+    beginnings: HashSet<Vec<u8>>,
+    limit: usize,
+}
+
+impl Gathered {
+    fn new(limit: usize) -> Gathered {
+        Gathered { rows: Vec::new(), beginnings: HashSet::from([Vec::new()]), limit }
+    }
+
+    fn is_full(&self) -> bool {
+        self.beginnings.len() == self.limit || self.rows.len() == ROW_LIMIT
+    }
+
+    /// Adds the row if its states fit.
+    fn add(&mut self, row: &[u8]) {
+        let new: Vec<Vec<u8>> = (1..=row.len())
+            .map(|end| row[..end].to_vec())
+            .filter(|beginning| !self.beginnings.contains(beginning))
+            .collect();
+        if self.beginnings.len() + new.len() <= self.limit {
+            self.beginnings.extend(new);
+            self.rows.push(row.to_vec());
+        }
+    }
+}
+
+/// A skeleton, often with one or two names left out, put in or replaced.
+fn varied_day(random: &mut Random) -> Vec<u8> {
+    let mut day = SKELETONS[random.below(SKELETONS.len())].to_vec();
+    for _ in 0..EDITS[random.below(EDITS.len())] {
+        let at = random.below(day.len());
+        let name = random.below(DAY_NAMES.len()) as u8;
+        match random.below(3) {
+            0 => {
+                day.remove(at);
+            }
+            1 => day.insert(at, name),
+            _ => day[at] = name,
+        }
+    }
+    day
+}
+
+fn day_book(rows: Vec<Vec<u8>>) -> Book {
+    let names = DAY_NAMES.iter().map(|name| name.as_bytes().to_vec()).collect();
+    Book { names, class: Class::Context(2, 1), rows }
+}
+
+/// 40 days.
+pub fn typical() -> Book {
+    let mut random = Random::new(1);
+    day_book((0..40).map(|_| varied_day(&mut random)).collect())
+}
+
+/// Varied days with a prefix tree of so many states.
+pub fn typical_of(states: usize) -> Book {
+    let mut random = Random::new(2);
+    let mut gathered = Gathered::new(states);
+    while !gathered.is_full() {
+        gathered.add(&varied_day(&mut random));
+    }
+    day_book(gathered.rows)
+}
+
+/// Random rows of up to 24 of so many names, with a prefix tree of 510 states.
+pub fn random_rows(names: usize) -> Book {
+    let mut random = Random::new(names as u64);
+    let mut gathered = Gathered::new(510);
+    while !gathered.is_full() {
+        let length = 1 + random.below(24);
+        let row: Vec<u8> = (0..length).map(|_| random.below(names) as u8).collect();
+        gathered.add(&row);
+    }
+    Book { names: short_names(names), class: Class::Context(2, 1), rows: gathered.rows }
+}
+
+/// Eight rows, each one name of its own and then one name that they share: 512 states.
+pub fn nearly_one_name() -> Book {
+    let rows = (1..=8).map(|first| {
+        let length = if first == 8 { ROW_LENGTH - 1 } else { ROW_LENGTH };
+        let mut row = vec![0; length];
+        row[0] = first;
+        row
+    });
+    Book { names: short_names(9), class: Class::Context(2, 1), rows: rows.collect() }
+}
+
+/// The books of 510 and 512 states, with what they are called.
+pub fn large() -> [(&'static str, Book); 4] {
+    [
+        ("random rows, 10 names", random_rows(10)),
+        ("random rows, 3 names", random_rows(3)),
+        ("random rows, 2 names", random_rows(2)),
+        ("nearly one name", nearly_one_name()),
+    ]
+}
+
+/// Where the search keeps the worst book of a class.
+pub fn worst_path(class: Class) -> PathBuf {
+    Path::new(env!("CARGO_MANIFEST_DIR")).join("books").join(format!("{}.book", class.file_label()))
+}
+
+/// The worst books that the search has kept, none for a class that it has not come to.
+pub fn worst_found() -> Result<Vec<Book>, String> {
+    let mut books = Vec::new();
+    for path in CLASSES.map(worst_path) {
+        if path.exists() {
+            let bytes = fs::read(&path).map_err(|error| format!("{}: {error}", path.display()))?;
+            books.push(Book::read(&bytes));
+        }
+    }
+    Ok(books)
+}
+
+/// A table of one name in which each of 512 states leads to the next, the last to itself.
+pub fn chain_table() -> Vec<u8> {
+    let mut table = vec![1, 0, 1, b's', 2, 0, 3, 0, 2, 1];
+    for state in 0..STATE_LIMIT {
+        let target = (state + 1).min(STATE_LIMIT - 1) as u16;
+        let [high, low] = target.to_be_bytes();
+        table.extend_from_slice(&[4, 0, 4, u8::from(state + 1 == STATE_LIMIT), 0, high, low]);
+    }
+    table
+}

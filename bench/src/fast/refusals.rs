@@ -1,0 +1,18 @@
+//! The refusals, with their numbers.
+
+#[derive(Clone, Copy, Debug, PartialEq, Eq)]
+pub enum Refusal {
+    BadSizes = 1,
+    CutOff = 2,
+    Misplaced = 3,
+    Unfinished = 4,
+    BadName = 5,
+    NameOrder = 6,
+    TooMany = 7,
+    BadClass = 8,
+    BadRow = 9,
+    TreeTooLarge = 10,
+    BadState = 11,
+    BadNumbering = 12,
+    OutputTooShort = 13,
+}

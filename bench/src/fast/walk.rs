@@ -1,0 +1,108 @@
+//! Tables read and walked.
+
+use super::fields::{field_at, read_front, STATE};
+use super::refusals::Refusal;
+use super::tree::check_names;
+use super::STATES;
+use crate::book::ROW_LENGTH;
+use crate::library::Walked;
+
+const ADMITTED: u8 = 1;
+const ON_THE_WAY: u8 = 2;
+const STOPS: u8 = 3;
+
+/// Where the states of a table stand in its bytes.
+pub struct Table {
+    names: usize,
+    count: usize,
+    /// The offset of each state's body and its end.
+    places: [(u16, u16); STATES],
+}
+
+/// The names and targets of a state's arcs.
+fn arcs(body: &[u8]) -> impl Iterator<Item = (u8, usize)> + '_ {
+    body[1..].chunks_exact(3).map(|arc| (arc[0], usize::from(u16::from_be_bytes([arc[1], arc[2]]))))
+}
+
+impl Table {
+    pub fn new() -> Table {
+        Table { names: 0, count: 0, places: [(0, 0); STATES] }
+    }
+
+    /// Reads the table and judges it wholly.
+    pub fn read(&mut self, table: &[u8]) -> Result<(), Refusal> {
+        let front = read_front(table)?;
+        self.names = front.names;
+        self.count = 0;
+        let mut at = front.end;
+        // how many states have been met before each state's arcs, and whether any arc is out of turn
+        let mut met = 1;
+        let mut in_turn = true;
+        while at < table.len() {
+            let (mark, body) = field_at(table, at)?;
+            if mark != STATE || !front.class_given {
+                return Err(Refusal::Misplaced);
+            }
+            if self.count == STATES {
+                return Err(Refusal::TooMany);
+            }
+            check_state(body, front.names)?;
+            in_turn &= self.count < met;
+            for (_, target) in arcs(body) {
+                in_turn &= target <= met;
+                met += usize::from(target == met);
+            }
+            let start = at + 3;
+            at = start + body.len();
+            self.places[self.count] = (start as u16, at as u16);
+            self.count += 1;
+        }
+        if !in_turn || met != self.count {
+            return Err(Refusal::BadNumbering);
+        }
+        Ok(())
+    }
+
+    fn body<'a>(&self, table: &'a [u8], state: usize) -> &'a [u8] {
+        let (start, end) = self.places[state];
+        &table[usize::from(start)..usize::from(end)]
+    }
+
+    /// Walks the row over the table that was read.
+    pub fn walk(&self, table: &[u8], row: &[u8]) -> Result<Walked, Refusal> {
+        if row.len() > ROW_LENGTH {
+            return Err(Refusal::BadRow);
+        }
+        check_names(row, self.names)?;
+        let mut body = self.body(table, 0);
+        let mut steps = 0;
+        for &name in row {
+            match arcs(body).find(|&(arc, _)| arc == name) {
+                Some((_, target)) => body = self.body(table, target),
+                None => break,
+            }
+            steps += 1;
+        }
+        let outcome = match (steps == row.len(), body[0]) {
+            (false, _) => STOPS,
+            (true, 1) => ADMITTED,
+            (true, _) => ON_THE_WAY,
+        };
+        let names = arcs(body).fold(0u64, |set, (name, _)| set | 1 << name);
+        Ok(Walked { number: 0, outcome, count: names.count_ones() as u8, length: steps as u32, names })
+    }
+}
+
+fn check_state(body: &[u8], names: usize) -> Result<(), Refusal> {
+    if body.len() % 3 != 1 || body[0] > 1 {
+        return Err(Refusal::BadState);
+    }
+    let mut least = 0;
+    for (name, _) in arcs(body) {
+        if name < least || usize::from(name) >= names {
+            return Err(Refusal::BadState);
+        }
+        least = name + 1;
+    }
+    Ok(())
+}

@@ -1,0 +1,39 @@
+//! What builds and walks cost, against a second implementation that is written for speed, and against bars.
+//! With `search SECONDS`: looks for books that cost the library most, and keeps them under bench/books.
+
+mod bars;
+mod book;
+mod cases;
+mod clock;
+mod fast;
+mod library;
+mod measure;
+mod pair;
+mod random;
+mod run;
+mod search;
+mod stack;
+
+use std::env;
+use std::process::ExitCode;
+
+fn main() -> ExitCode {
+    let arguments: Vec<String> = env::args().skip(1).collect();
+    let words: Vec<&str> = arguments.iter().map(String::as_str).collect();
+    let ended = match words[..] {
+        [] => run::run(),
+        ["search", seconds] => match seconds.parse() {
+            Ok(seconds) => search::run(seconds).map(|()| true),
+            Err(_) => Err(format!("'{seconds}' is no number of seconds")),
+        },
+        _ => Err("usage: bench, or bench search SECONDS".to_string()),
+    };
+    match ended {
+        Ok(true) => ExitCode::SUCCESS,
+        Ok(false) => ExitCode::FAILURE,
+        Err(what) => {
+            eprintln!("bench: {what}");
+            ExitCode::FAILURE
+        }
+    }
+}

@@ -1,0 +1,156 @@
+//! The bench: every case compared and timed, growth, stack, and the bars.
+
+use crate::bars::{Bar, Bars};
+use crate::book::{Book, Class, CLASSES};
+use crate::cases;
+use crate::measure::{Effort, Times};
+use crate::pair::Pair;
+use crate::stack;
+use std::time::Duration;
+
+const EFFORT: Effort = Effort { time: Duration::from_millis(40), rounds: 10 };
+
+/// All cases are timed so often in turn, so that a busy spell of the machine does not fall on all of one.
+const PASSES: usize = 3;
+
+const GROWTH: [usize; 4] = [64, 128, 256, 512];
+
+enum Input {
+    Book(Vec<u8>),
+    Walk { table: Vec<u8>, row: Vec<u8> },
+}
+
+struct Case {
+    name: &'static str,
+    class: String,
+    input: Input,
+    /// The bars that the library's time is held against.
+    bars: Vec<Bar>,
+    /// How many states the prefix tree and the table have.
+    sizes: Option<[u32; 2]>,
+    times: Times<2>,
+}
+
+/// Runs everything; true where every bar is met.
+pub fn run() -> Result<bool, String> {
+    let mut pair = Pair::new();
+    let mut bars = Bars::new();
+    let mut timed = builds()?;
+    timed.extend(walks(&mut pair)?);
+    let mut growth = growth();
+    for case in timed.iter_mut().chain(&mut growth) {
+        case.compare(&mut pair)?;
+    }
+    for _ in 0..PASSES {
+        for case in timed.iter_mut().chain(&mut growth) {
+            case.time(&mut pair);
+        }
+    }
+    show_cases(&timed, &mut bars);
+    show_growth(&growth);
+    show_stack(&mut bars);
+    Ok(bars.show())
+}
+
+fn builds() -> Result<Vec<Case>, String> {
+    let mut builds = Vec::new();
+    for class in CLASSES {
+        let bars: &[Bar] = match class {
+            Class::Context(2, 1) => &[Bar::Typical, Bar::TypicalDefault],
+            _ => &[Bar::Typical],
+        };
+        builds.push(Case::build("typical", &cases::typical().with_class(class), bars));
+    }
+    for (name, book) in cases::large() {
+        builds.extend(CLASSES.map(|class| Case::build(name, &book.with_class(class), &[Bar::Large])));
+    }
+    for book in cases::worst_found()? {
+        builds.push(Case::build("worst found", &book, &[Bar::Worst]));
+    }
+    Ok(builds)
+}
+
+fn walks(pair: &mut Pair) -> Result<[Case; 2], String> {
+    let days = cases::typical();
+    let (_, table) = pair.build(&days.bytes())?;
+    Ok([
+        Case::walk("walk of 10, typical", table.to_vec(), days.rows[0].clone(), &[]),
+        Case::walk("walk of 64, 512 states", cases::chain_table(), vec![0; 64], &[Bar::Walk]),
+    ])
+}
+
+/// Typical days, for each class with prefix trees of all sizes.
+fn growth() -> Vec<Case> {
+    let books = GROWTH.map(cases::typical_of);
+    let of_class = |class| books.each_ref().map(|book| Case::build("growth", &book.with_class(class), &[]));
+    CLASSES.into_iter().flat_map(of_class).collect()
+}
+
+impl Case {
+    fn build(name: &'static str, book: &Book, bars: &[Bar]) -> Case {
+        let (class, input) = (book.class.label(), Input::Book(book.bytes()));
+        Case { name, class, input, bars: bars.to_vec(), sizes: None, times: Times::NONE }
+    }
+
+    fn walk(name: &'static str, table: Vec<u8>, row: Vec<u8>, bars: &[Bar]) -> Case {
+        let (class, input) = (String::new(), Input::Walk { table, row });
+        Case { name, class, input, bars: bars.to_vec(), sizes: None, times: Times::NONE }
+    }
+
+    /// What the library gives, or an error where the fast implementation gives something else.
+    fn compare(&mut self, pair: &mut Pair) -> Result<(), String> {
+        let compared = match &self.input {
+            Input::Book(book) => pair.build(book).map(|(built, _)| Some([built.states + built.joins, built.states])),
+            Input::Walk { table, row } => pair.walk(table, row).map(|_| None),
+        };
+        self.sizes = compared.map_err(|what| format!("{} {}: {what}", self.name, self.class))?;
+        Ok(())
+    }
+
+    fn time(&mut self, pair: &mut Pair) {
+        let times = match &self.input {
+            Input::Book(book) => pair.time_builds(book, EFFORT),
+            Input::Walk { table, row } => pair.time_walks(table, row, EFFORT),
+        };
+        self.times = self.times.or_less(times);
+    }
+}
+
+fn show_cases(timed: &[Case], bars: &mut Bars) {
+    println!(
+        "library, fast: the least time of a call, in memsets of 65,536 bytes; ratio: library to fast; memset: in ns\n"
+    );
+    let head = ["case", "class", "tree", "states", "library", "fast", "ratio", "memset"];
+    let [case, class, tree, states, library, fast, ratio, memset] = head;
+    println!("{case:26}{class:10}{tree:>6}{states:>8}{library:>10}{fast:>9}{ratio:>8}{memset:>8}");
+    for case in timed {
+        let [library, fast] = case.times.in_memsets();
+        let ratio = library / fast;
+        let [tree, states] =
+            case.sizes.map_or([String::new(), String::new()], |sizes| sizes.map(|size| size.to_string()));
+        let (name, class, memset) = (case.name, &case.class, case.times.memset());
+        println!("{name:26}{class:10}{tree:>6}{states:>8}{library:10.1}{fast:9.1}{ratio:8.2}{memset:8.0}");
+        let of = format!("{name} {class}");
+        for &bar in &case.bars {
+            bars.take(bar, library, &of);
+        }
+        bars.take(Bar::Ratio, ratio, &of);
+    }
+}
+
+fn show_growth(growth: &[Case]) {
+    println!("\ngrowth, typical days: the library in memsets, by states of the prefix tree\n");
+    println!("{:10}{}", "class", GROWTH.map(|states| format!("{states:>9}")).concat());
+    for cases in growth.chunks_exact(GROWTH.len()) {
+        let library = cases.iter().map(|case| format!("{:9.1}", case.times.in_memsets()[0]));
+        println!("{:10}{}", cases[0].class, library.collect::<String>());
+    }
+}
+
+fn show_stack(bars: &mut Bars) {
+    println!("\nstack of a call in bytes, without that of an empty thread\n");
+    for (call, bytes) in stack::calls() {
+        println!("{call:36}{bytes:8}");
+        bars.take(Bar::Stack, bytes as f64 / 1024.0, &call);
+    }
+}
