@@ -56,7 +56,7 @@ module _ (links : List ℕ) where
       go (suc k) later = omega (arith, later)
 
   -- the states on the chain of a list are the states of the list
-  module _ (i : ℕ) (Listed : ℕ → ℕ → Type 0) (heads : List ℕ) (chained : Chained i Listed links heads) (b : ℕ) where
+  module _ {i : ℕ} {Listed : ℕ → ℕ → Type 0} {heads : List ℕ} (chained : Chained i Listed links heads) (b : ℕ) where
     abbrev From : ℕ → Type 0
     From at = (at ≤ i) × ((v : ℕ) → at ≡ suc v → Listed b v)
 
@@ -103,7 +103,7 @@ module _ (links : List ℕ) where
 
 -- ---- one pair
 
-module _ (n m : ℕ) (next work : List ℕ) (x y : ℕ) (groups : List ℕ) where
+module _ {n m : ℕ} {next work : List ℕ} {x y : ℕ} {groups : List ℕ} where
   -- one group already, or no names in common: nothing is joined
   pub pair-left :
       Labelled n groups → (Common next work m x y → getD groups x 0 ≡ getD groups y 0) →
@@ -119,9 +119,9 @@ module _ (n m : ℕ) (next work : List ℕ) (x y : ℕ) (groups : List ℕ) wher
       }
 
   pub pair-joined :
-      (groups′ : List ℕ) (joined : Bool) → Common next work m x y → JoinedTwo n x y groups groups′ joined →
+      {groups′ : List ℕ} {joined : Bool} → Common next work m x y → JoinedTwo n x y groups groups′ joined →
       PairJoined n m next work x y groups groups′ joined
-  pair-joined groups′ joined common two =
+  pair-joined common two =
       record {
         labelled = two .labelled;
         coarser = two .coarser;
@@ -148,64 +148,62 @@ pub record Chaining
   pub none : joined ≡ false → groups′ ≡ groups
   pub some : joined ≡ true → sum groups′ < sum groups
 
-module _ (n m : ℕ) (next work links : List ℕ) (first x : ℕ) (groups : List ℕ) (x-below : x < n) (falling : Falling links first x)
-  where
-    pub chaining-none : Labelled n groups → Chaining n m next work links first x groups first groups false
-    chaining-none labelled =
+module _ {n m : ℕ} {next work links : List ℕ} {first x : ℕ} {groups : List ℕ} where
+  pub chaining-none : Labelled n groups → Chaining n m next work links first x groups first groups false
+  chaining-none labelled =
+      record {
+        labelled = labelled;
+        coarser = λ v w hv hw same. same;
+        sound = λ others given refines. refines;
+        to-come = λ y on. on;
+        together = λ y on common. inl on;
+        none = λ _. refl;
+        some = λ e. absurd (false≢true e);
+      }
+
+  module _ {at y : ℕ} {now-groups : List ℕ} {a : Bool} (falling : Falling links first x) (at-is : at ≡ suc y)
+      (chaining : Chaining n m next work links first x groups at now-groups a) where
+    pub come-to : (y < x) × (getD links y 0 ≤ y)
+    come-to = falling y (chaining .to-come y (on-here links at y at-is))
+
+    pub chaining-more :
+        {groups′ : List ℕ} {b : Bool} → x < n → PairJoined n m next work x y now-groups groups′ b →
+        Chaining n m next work links first x groups (getD links y 0) groups′ (a || b)
+    chaining-more {groups′} {b} x-below pair =
         record {
-          labelled = labelled;
-          coarser = λ v w hv hw same. same;
-          sound = λ others given refines. refines;
-          to-come = λ y on. on;
-          together = λ y on common. inl on;
-          none = λ _. refl;
-          some = λ e. absurd (false≢true e);
+          labelled = pair .labelled;
+          coarser = λ v w hv hw same. pair .coarser v w hv hw (chaining .coarser v w hv hw same);
+          sound = λ others given refines.
+              pair .sound others (given y (chaining .to-come y (on-here links at y at-is)))
+              (chaining .sound others given refines);
+          to-come = λ z on. chaining .to-come z (on-later links at y z at-is on);
+          together = λ z on common. ⊎-elim (here z common) (λ same. inr (kept z on same)) (chaining .together z on common);
+          none = both-none a b groups now-groups groups′ (chaining .none) (pair .none);
+          some = both-some a b groups now-groups groups′ (chaining .none) (pair .none) (chaining .some) (pair .some);
         }
+      where
+        kept : (z : ℕ) → OnChain links first z → getD now-groups x 0 ≡ getD now-groups z 0 → getD groups′ x 0 ≡ getD groups′ z 0
+        kept z on same = pair .coarser x z x-below (omega (arith, falling z on .0)) same
 
-    module _ (at y : ℕ) (now-groups : List ℕ) (a : Bool) (at-is : at ≡ suc y)
-        (chaining : Chaining n m next work links first x groups at now-groups a) where
-      pub come-to : (y < x) × (getD links y 0 ≤ y)
-      come-to = falling y (chaining .to-come y (on-here links at y at-is))
+        here :
+            (z : ℕ) → Common next work m x z → OnChain links at z →
+            OnChain links (getD links y 0) z ⊎ (getD groups′ x 0 ≡ getD groups′ z 0)
+        here z common on =
+            ⊎-elim
+            (λ e. inr (pair .together (subst (λ (v : ℕ). Common next work m x v) e common)
+            ∙ ap (λ (v : ℕ). getD groups′ v 0) (sym e)))
+            (λ later. inl later) (on-split links at y z at-is on)
 
-      pub chaining-more :
-          (groups′ : List ℕ) (b : Bool) → PairJoined n m next work x y now-groups groups′ b →
-          Chaining n m next work links first x groups (getD links y 0) groups′ (a || b)
-      chaining-more groups′ b pair =
-          record {
-            labelled = pair .labelled;
-            coarser = λ v w hv hw same. pair .coarser v w hv hw (chaining .coarser v w hv hw same);
-            sound = λ others given refines.
-                pair .sound others (given y (chaining .to-come y (on-here links at y at-is)))
-                (chaining .sound others given refines);
-            to-come = λ z on. chaining .to-come z (on-later links at y z at-is on);
-            together = λ z on common. ⊎-elim (here z common) (λ same. inr (kept z on same)) (chaining .together z on common);
-            none = both-none a b groups now-groups groups′ (chaining .none) (pair .none);
-            some = both-some a b groups now-groups groups′ (chaining .none) (pair .none) (chaining .some) (pair .some);
-          }
-        where
-          kept : (z : ℕ) → OnChain links first z → getD now-groups x 0 ≡ getD now-groups z 0 → getD groups′ x 0 ≡ getD groups′ z 0
-          kept z on same = pair .coarser x z x-below (omega (arith, falling z on .0)) same
-
-          here :
-              (z : ℕ) → Common next work m x z → OnChain links at z →
-              OnChain links (getD links y 0) z ⊎ (getD groups′ x 0 ≡ getD groups′ z 0)
-          here z common on =
-              ⊎-elim
-              (λ e. inr (pair .together (subst (λ (v : ℕ). Common next work m x v) e common)
-              ∙ ap (λ (v : ℕ). getD groups′ v 0) (sym e)))
-              (λ later. inl later) (on-split links at y z at-is on)
-
-    pub chaining-done :
-        (at : ℕ) (groups′ : List ℕ) (joined : Bool) → at ≡ 0 →
-        Chaining n m next work links first x groups at groups′ joined →
-        ChainJoined n m next work links first x groups groups′ joined
-    chaining-done at groups′ joined none chaining =
-        record {
-          labelled = chaining .labelled;
-          coarser = chaining .coarser;
-          sound = chaining .sound;
-          together = λ y on common.
-              ⊎-elim (λ left. absurd (on-none links at y none left)) (λ same. same) (chaining .together y on common);
-          none = chaining .none;
-          some = chaining .some;
-        }
+  pub chaining-done :
+      {at : ℕ} {groups′ : List ℕ} {joined : Bool} → at ≡ 0 → Chaining n m next work links first x groups at groups′ joined →
+      ChainJoined n m next work links first x groups groups′ joined
+  chaining-done {at} none chaining =
+      record {
+        labelled = chaining .labelled;
+        coarser = chaining .coarser;
+        sound = chaining .sound;
+        together = λ y on common.
+            ⊎-elim (λ left. absurd (on-none links at y none left)) (λ same. same) (chaining .together y on common);
+        none = chaining .none;
+        some = chaining .some;
+      }

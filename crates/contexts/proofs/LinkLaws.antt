@@ -21,8 +21,8 @@ use Rattle.contexts.specs.Sweeps.{ArcOf, Linked, Cells, Common}
 use Rattle.contexts.proofs.ClimbLaws.{below-suc}
 
 pub linked-none :
-    (parents names old next work : List ℕ) → ((x : ℕ) → getD next x 0 ≡ 0) → Linked 1 parents names old next work
-linked-none parents names old next work none =
+    {parents names old next work : List ℕ} → ((x : ℕ) → getD next x 0 ≡ 0) → Linked 1 parents names old next work
+linked-none none =
     record {
       narrow = λ x. omega (arith, none x);
       leaves = λ v pos low. let z : ⊥ = omega arith in absurd z;
@@ -33,10 +33,10 @@ linked-none parents names old next work none =
     }
 
 -- one arc more: its name is put into a set, and the group that it leads to into a cell
-module _ (n i : ℕ) (parents names old next work : List ℕ) (arrays : Arrays n parents names) (pos : 0 < i) (inside : i < n)
+module _ {n i : ℕ} {parents names old next work : List ℕ} (arrays : Arrays n parents names) (pos : 0 < i) (inside : i < n)
     (linked : Linked i parents names old next work) (from name to : ℕ) (from-is : from ≡ getD old (getD parents i 0) 0)
     (name-is : name ≡ getD names i 0) (to-is : to ≡ getD old i 0) (in-next : from < length next) (in-rows : from < state-limit)
-    (room : work-bytes ≤ length work) (next′ work′ : List ℕ)
+    (room : work-bytes ≤ length work) {next′ work′ : List ℕ}
     (next-is : next′ ≡ set next from (bitOr (getD next from 0) (2 ^ name))) (work-is : work′ ≡ withCell work from name to) where
   name-low : name < name-limit
   name-low = omega (arith, arrays .name-below i pos inside)
@@ -122,7 +122,7 @@ module _ (n i : ℕ) (parents names old next work : List ℕ) (arrays : Arrays n
   pub linked-more : Linked (suc i) parents names old next′ work′
   linked-more = record { narrow = more-narrow; leaves = λ v some low. more-leaves v low some; arc = more-arc }
 
-module _ (n : ℕ) (parents names old next work : List ℕ) (labelled : Labelled n old) (linked : Linked n parents names old next work)
+module _ {n : ℕ} {parents names old next work : List ℕ} (labelled : Labelled n old) (linked : Linked n parents names old next work)
   where
     pub linked-cells : n ≤ length next → length next ≤ state-limit → work-bytes ≤ length work → Cells next work
     linked-cells fits few room =

@@ -26,9 +26,16 @@ or-false : (a : Bool) → (a || false) ≡ a
 or-false true = refl
 or-false false = refl
 
-module _ (n m : ℕ) (classes old next work : List ℕ) where
-  pub pairs-none : (groups : List ℕ) → Labelled n groups → PairsJoined n 0 m classes old next work groups groups false
-  pairs-none groups labelled =
+-- a state is in the list of its class, where it is in any
+list-is :
+    {m b u : ℕ} {classes old next work : List ℕ} → Listed m classes old next work b u →
+    Listed m classes old next work (getD classes u 0) u
+list-is {m} {b} {u} {classes} {old} {next} {work} listed =
+    subst (λ (c : ℕ). Listed m classes old next work c u) (sym (listed .class-is)) listed
+
+module _ {n m : ℕ} {classes old next work : List ℕ} where
+  pub pairs-none : {groups : List ℕ} → Labelled n groups → PairsJoined n 0 m classes old next work groups groups false
+  pairs-none labelled =
       record {
         labelled = labelled;
         coarser = λ v w hv hw same. same;
@@ -38,11 +45,7 @@ module _ (n m : ℕ) (classes old next work : List ℕ) where
         some = λ e. absurd (false≢true e);
       }
 
-  -- a state is in the list of its class, where it is in any
-  list-is : (b u : ℕ) → Listed m classes old next work b u → Listed m classes old next work (getD classes u 0) u
-  list-is b u listed = subst (λ (c : ℕ). Listed m classes old next work c u) (sym (listed .class-is)) listed
-
-  module _ (x : ℕ) (links heads groups : List ℕ) (inside : x < n)
+  module _ {x : ℕ} {links heads groups : List ℕ} (inside : x < n)
       (chained : Chained x (Listed m classes old next work) links heads) where
     -- x is none to compare
     pub label-left :
@@ -51,7 +54,7 @@ module _ (n m : ℕ) (classes old next work : List ℕ) where
     label-left labelled unlisted =
         record {
           chained =
-              chained-skip x (Listed m classes old next work) links heads (λ b listed. unlisted (list-is b x listed)) chained;
+              chained-skip x (Listed m classes old next work) links heads (λ b listed. unlisted (list-is listed)) chained;
           labelled = labelled;
           more = λ base before so-far.
               subst (λ (b : Bool). PairsJoined n (x + 1) m classes old next work base groups b) (sym (or-false before))
@@ -74,7 +77,7 @@ module _ (n m : ℕ) (classes old next work : List ℕ) where
             (λ u low v. so-far .complete u v low) (λ v low pair. absurd (unlisted (pair .first)))
 
     -- x is compared with its chain and put there
-    module _ (b head : ℕ) (groups′ : List ℕ) (joined : Bool) (in-links : x < length links) (in-heads : b < length heads)
+    module _ {b head : ℕ} {groups′ : List ℕ} {joined : Bool} (in-links : x < length links) (in-heads : b < length heads)
         (head-is : head ≡ x + 1) (class-is : b ≡ getD classes x 0)
         (listed : Listed m classes old next work (getD classes x 0) x)
         (chain : ChainJoined n m next work links (getD heads b 0) x groups groups′ joined) where
@@ -93,7 +96,7 @@ module _ (n m : ℕ) (classes old next work : List ℕ) where
       pair-chain : (v : ℕ) → v < x → Paired m classes old next work x v → getD groups′ x 0 ≡ getD groups′ v 0
       pair-chain v low pair =
           chain .together v
-          (listed-on links x (Listed m classes old next work) heads chained b v low
+          (listed-on links chained b v low
           (subst (λ (c : ℕ). Listed m classes old next work c v) (sym class-is) (pair .second))) (pair .common)
 
       more :
@@ -106,7 +109,7 @@ module _ (n m : ℕ) (classes old next work : List ℕ) where
             sound = λ others given refines.
                 chain .sound others
                 (λ y on common.
-                let at = on-listed links x (Listed m classes old next work) heads chained b y on in
+                let at = on-listed links chained b y on in
                 given x y inside (at .0) (chain-pair y (at .0) (at .1) common))
                 (so-far .sound others given refines);
             complete = λ u v low under pair. complete u (omega arith) v under pair;
@@ -156,7 +159,7 @@ share-refines n parents names groups others arrays refines (suc j) v w hv hw s =
     )
 
 -- all pairs of labels joined are a sweep, whatever number of last names the classes go by
-module _ (n m : ℕ) (parents names classes groups next work groups′ : List ℕ) (joined : Bool) (arrays : Arrays n parents names)
+module _ {n m : ℕ} {parents names classes groups next work groups′ : List ℕ} {joined : Bool} (arrays : Arrays n parents names)
     (labelled : Labelled n groups) (linked : Linked n parents names groups next work)
     (all : PairsJoined n n m classes groups next work groups groups′ joined) where
   module _ (h : ℕ) (by : SuffixClasses n h parents names classes) (agree : SuffixAgree n h parents names groups) where
@@ -170,7 +173,7 @@ module _ (n m : ℕ) (parents names classes groups next work groups′ : List �
         let second = pair .second in
         context u v hu hv (by .alike u v hu hv .0 (first .classed, sym (second .class-is)))
         (share-refines n parents names groups others arrays refines m u v hu hv
-        (common-share n parents names groups next work labelled linked m u v (first .label) (second .label) (pair .common)))
+        (common-share labelled linked m u v (first .label) (second .label) (pair .common)))
 
     label : ℕ → ℕ
     label v = getD groups v 0
@@ -202,7 +205,7 @@ module _ (n m : ℕ) (parents names classes groups next work groups′ : List �
           suffix-trans n parents names arrays h x v y (like v w hv s)
           (suffix-trans n parents names arrays h v w y s (suffix-sym n parents names arrays h y w (like w v hw back))) in
           let class = by .alike x y (label-below v hv) (label-below w hw) .1 alike in
-          let common : Common next work m x y = share-common n parents names groups next work labelled linked fork m v w shared in
+          let common : Common next work m x y = share-common labelled linked fork m v w shared in
           record {
             first =
                 record {
@@ -266,28 +269,30 @@ module _ (n m : ℕ) (parents names classes groups next work groups′ : List �
   pairs-sweep = record { swept = all-swept }
 
 -- the same, with the groups at first written into another list and read again
-module _ (m : ℕ) (parents names classes groups old next work : List ℕ) (arrays : Arrays (length groups) parents names)
-    (labelled : Labelled (length groups) groups) (same : old ≡ groups) (linked : Linked (length old) parents names old next work) where
-  linked-here : Linked (length groups) parents names groups next work
-  linked-here = subst (λ (l : List ℕ). Linked (length l) parents names l next work) same linked
+module _ {parents names groups old next work : List ℕ} (arrays : Arrays (length groups) parents names)
+    (labelled : Labelled (length groups) groups) (same : old ≡ groups) (linked : Linked (length old) parents names old next work)
+  where
+    linked-here : Linked (length groups) parents names groups next work
+    linked-here = subst (λ (l : List ℕ). Linked (length l) parents names l next work) same linked
 
-  pub sweep-comparing :
-      length classes ≡ length groups → length next ≡ state-limit → work-bytes ≤ length work →
-      Comparing (length old) classes next work
-  sweep-comparing classes-size next-size room =
-      subst (λ (l : List ℕ). Comparing (length l) classes next work) (sym same)
-      (record {
-        few = arrays .few-states;
-        classes-size = classes-size;
-        next-size = omega (arith, arrays .few-states);
-        cells =
-            linked-cells (length groups) parents names groups next work labelled linked-here (omega (arith, arrays .few-states))
-            (omega arith) room;
-      })
+    pub sweep-comparing :
+        {classes : List ℕ} → length classes ≡ length groups → length next ≡ state-limit → work-bytes ≤ length work →
+        Comparing (length old) classes next work
+    sweep-comparing {classes} classes-size next-size room =
+        subst (λ (l : List ℕ). Comparing (length l) classes next work) (sym same)
+        (record {
+          few = arrays .few-states;
+          classes-size = classes-size;
+          next-size = omega (arith, arrays .few-states);
+          cells =
+              linked-cells labelled linked-here (omega (arith, arrays .few-states))
+              (omega arith) room;
+        })
 
-  pub sweep-swept :
-      (groups′ : List ℕ) (joined : Bool) → PairsJoined (length old) (length old) m classes old next work groups groups′ joined →
-      SweptBy (length groups) m parents names classes groups groups′ joined
-  sweep-swept groups′ joined all =
-      pairs-sweep (length groups) m parents names classes groups next work groups′ joined arrays labelled linked-here
-      (subst (λ (l : List ℕ). PairsJoined (length l) (length l) m classes l next work groups groups′ joined) same all)
+    pub sweep-swept :
+        {m : ℕ} {classes groups′ : List ℕ} {joined : Bool} →
+        PairsJoined (length old) (length old) m classes old next work groups groups′ joined →
+        SweptBy (length groups) m parents names classes groups groups′ joined
+    sweep-swept {m} {classes} {groups′} {joined} all =
+        pairs-sweep arrays labelled linked-here
+        (subst (λ (l : List ℕ). PairsJoined (length l) (length l) m classes l next work groups groups′ joined) same all)

@@ -16,6 +16,9 @@ ghost use Rattle.indexed.specs.Passes.{ContextJoined};
 ghost use Rattle.contexts.specs.Climbs.{Above, Climbed, ClimbedBelow};
 ghost use Rattle.contexts.specs.Rounds.{RoundReady};
 
+// No partition has more states.
+pub const STATE_LIMIT: usize = 512;
+
 // Joins the groups of the ancestors of v and w, the first of each, the second, and so on up to the m-th.
 fn climb(m: usize, parents: &[u16], groups: &mut [u16], v: usize, w: usize)
     requires above { ⌜ Above (length (now groups)) (now parents) ⌝ }
@@ -78,7 +81,7 @@ fn climb_starts(m: usize, parents: &[u16], groups: &mut [u16])
         (now (groups .entry)) (now (groups .exit)) ⌝ }
 {
     let n = groups.len();
-    let mut starts = [0u16; 512];
+    let mut starts = [0u16; STATE_LIMIT];
     suffixes::copy(groups, &mut starts[..n]);
     climb_all(m, parents, &starts[..n], groups);
 }
@@ -100,7 +103,7 @@ fn close_contexts(
         ⌜ ContextJoined (length (now (groups .entry))) (h + m) h (now (parents .entry)) (now (names .entry)) (now (groups .exit)) ⌝ }
 {
     let n = groups.len();
-    let mut classes = [0u16; 512];
+    let mut classes = [0u16; STATE_LIMIT];
     suffixes::suffix_classes(h, parents, names, &mut classes[..n], work);
     let mut joined = true;
     while joined {
@@ -124,7 +127,7 @@ fn run_rounds(
         ⌜ ContextJoined (length (now (groups .entry))) (h + m) h (now (parents .entry)) (now (names .entry)) (now (groups .exit)) ⌝ }
 {
     let n = groups.len();
-    let mut numbers = [0u16; 512];
+    let mut numbers = [0u16; STATE_LIMIT];
     forks::own(&mut numbers[..n]);
     close_contexts(h, m, parents, names, &numbers[..n], groups, work);
 }

@@ -1,5 +1,6 @@
-// The sweep: groups with the same last names out of which m names in succession lead in common are joined. Only the labels of groups
+// The sweep: groups with the same last names out of which m names in succession lead in common are joined. Only labels of groups
 // that m names lead out of at all are compared, each with the earlier ones of its class, which are a chain.
+use crate::STATE_LIMIT;
 use cells::cell;
 use cells::numbers::narrow16;
 use cells::numbers::wide8;
@@ -179,8 +180,8 @@ fn sweep_pairs(
         ⌜ PairsJoined (length (now (old .entry))) (length (now (old .entry))) m (now (classes .entry)) (now (old .entry))
         (now (next .entry)) (now (work .entry)) (now (groups .entry)) (now (groups .exit)) r ⌝ }
 {
-    let mut links = [0u16; 512];
-    let mut heads = [0u16; 512];
+    let mut links = [0u16; STATE_LIMIT];
+    let mut heads = [0u16; STATE_LIMIT];
     let mut joined = false;
     let mut x = 0;
     while x < old.len() {
@@ -219,9 +220,9 @@ pub fn sweep(
         (now (groups .entry)) (now (groups .exit)) r ⌝ }
 {
     let n = groups.len();
-    let mut old = [0u16; 512];
+    let mut old = [0u16; STATE_LIMIT];
     suffixes::copy(groups, &mut old[..n]);
-    let mut next = [0u64; 512];
+    let mut next = [0u64; STATE_LIMIT];
     link_arcs(parents, names, &old[..n], &mut next, work);
     sweep_pairs(m, classes, &old[..n], &next, groups, work)
 }

@@ -1,14 +1,14 @@
 -- The proof of the cycle of calls {common}: the names that leave both groups are tried lowest first. Its measure is the number of
 -- names still to come. Assumes nothing.
-use mathlib.Core.Path.{_≡_, refl, sym, _∙_, subst₂}
+use mathlib.Core.Path.{_≡_, refl, sym, _∙_}
 use mathlib.Core.Bool.{true≢false, false≢true}
 use Prim.Native.Nat.{ℕ, suc, _-_, _<_}
 use native.Mathlib.Omega.{arith}
 use lib.Count.{trailing-le, trailingZeros}
 use borrow.Fn.Kinds.{In}
 use borrow.Fn.PlainCycle.{Measures, is, falls, and}
-use Rattle.contexts.specs.Sweeps.{Common}
-use Rattle.contexts.proofs.CommonLaws.{Trying, trying-all, name-low, name-leaves, trying-found, trying-more, left-less, trying-none}
+use Rattle.contexts.proofs.CommonLaws.{Trying, trying-all, name-low, name-leaves, trying-found, trying-more, left-less}
+use Rattle.contexts.proofs.CommonLaws.{trying-none}
 use Rattle.contexts.proofs.pairs.common.Reads as common
 use Rattle.contexts.proofs.pairs.common.Kinds as common-kinds
 use Rattle.contexts.proofs.pairs.+common.Lts-common as common-lts
@@ -19,6 +19,7 @@ use Rattle.contexts.proofs.pairs.+common.Tie.{close}
 abbrev μ-common : Measures 2 common-kinds.ps ℕ
 μ-common κs a = a .0
 
+-- what `common` is given at the measure t, and what a call of it asks below t
 abbrev common-at : ℕ → In 2 common-kinds.ps
 common-at t = and 2 common-kinds.ps (is 2 common-kinds.ps μ-common t) common.Pre
 
@@ -31,82 +32,113 @@ common-Inv-loop j x y next work left₀ left = Trying next work (j - 1) x y left
 abbrev common-μ-loop : common-lts.MeasureT-loop
 common-μ-loop j x y next work left₀ left = left
 
--- src/pairs.rt:52:9
+-- the function's entry from a turn of the loop, and what is known at a turn: a name is left, and j is not 0
+abbrev entry : (t : ℕ) → common-lts.In-loop (
+  cell-reads.Asked,
+  cell-reads.Learnt,
+  common-below t,
+  common.Post,
+) (common-at t) common.Post common-Inv-loop common-μ-loop
+    → common-lts.Start (
+      cell-reads.Asked,
+      cell-reads.Learnt,
+      common-below t,
+      common.Post,
+    ) (common-at t) common.Post common-Inv-loop common-μ-loop
+entry t turn = turn .before .before .before .before .before .before .before
+
+some-left : (t : ℕ) (turn : common-lts.In-loop (
+  cell-reads.Asked,
+  cell-reads.Learnt,
+  common-below t,
+  common.Post,
+) (common-at t) common.Post common-Inv-loop common-μ-loop) → 0 < turn .before .loop .left
+some-left t turn = omega (arith, turn .loop-test .taken)
+
+one-more : (t : ℕ) (turn : common-lts.In-loop (
+  cell-reads.Asked,
+  cell-reads.Learnt,
+  common-below t,
+  common.Post,
+) (common-at t) common.Post common-Inv-loop common-μ-loop)
+    → suc (entry t turn .args .j - 1) ≡ entry t turn .args .j
+one-more t turn = omega (arith, turn .before .before .before .before .if1 .left)
+
 common-returns : (t : ℕ) → common-lts.Need-returns (
   cell-reads.Asked,
   cell-reads.Learnt,
   common-below t,
   common.Post,
 ) (common-at t) common.Post common-Inv-loop common-μ-loop
-common-returns t c = (λ e. rw (c .if1 .taken) tt, λ leads. refl)
+common-returns t c =
+    (λ e. rw (c .if1 .taken) tt, λ leads. refl)
 
--- src/pairs.rt:54:20
 common-mul-left : (t : ℕ) → common-lts.Need-mul-left (
   cell-reads.Asked,
   cell-reads.Learnt,
   common-below t,
   common.Post,
 ) (common-at t) common.Post common-Inv-loop common-μ-loop
-common-mul-left t c = let start = c .before .before .before in
+common-mul-left t c =
+    let start = c .before .before .before in
     omega (arith, start .pre .1 .0 .few, start .pre .1 .1 .0)
 
--- src/pairs.rt:54:20
 common-shared-slice-read-left : (t : ℕ) → common-lts.Need-shared-slice-read-left (
   cell-reads.Asked,
   cell-reads.Learnt,
   common-below t,
   common.Post,
 ) (common-at t) common.Post common-Inv-loop common-μ-loop
-common-shared-slice-read-left t c = c .before .before .before .before .pre .1 .1 .0
+common-shared-slice-read-left t c =
+    c .before .before .before .before .pre .1 .1 .0
 
--- src/pairs.rt:54:30
 common-mul-left-2 : (t : ℕ) → common-lts.Need-mul-left-2 (
   cell-reads.Asked,
   cell-reads.Learnt,
   common-below t,
   common.Post,
 ) (common-at t) common.Post common-Inv-loop common-μ-loop
-common-mul-left-2 t c = let start = c .before .before .before .before in
+common-mul-left-2 t c =
+    let start = c .before .before .before .before in
     omega (arith, start .pre .1 .0 .few, start .pre .1 .1 .1)
 
--- src/pairs.rt:54:30
 common-shared-slice-read-left-2 : (t : ℕ) → common-lts.Need-shared-slice-read-left-2 (
   cell-reads.Asked,
   cell-reads.Learnt,
   common-below t,
   common.Post,
 ) (common-at t) common.Post common-Inv-loop common-μ-loop
-common-shared-slice-read-left-2 t c = c .before .before .before .before .before .pre .1 .1 .1
+common-shared-slice-read-left-2 t c =
+    c .before .before .before .before .before .pre .1 .1 .1
 
--- src/pairs.rt:55:5
 common-loop-holds : (t : ℕ) → common-lts.Need-loop-holds (
   cell-reads.Asked,
   cell-reads.Learnt,
   common-below t,
   common.Post,
 ) (common-at t) common.Post common-Inv-loop common-μ-loop
-common-loop-holds t c = let start = c .before .before .before .before .before in
-    trying-all (start .args .next .now) (start .args .work .now) (start .args .j - 1) (start .args .x) (start .args .y) (start .pre .1 .0)
+common-loop-holds t c =
+    let start = c .before .before .before .before .before in
+    trying-all (start .args .j - 1) (start .args .x) (start .args .y) (start .pre .1 .0)
 
--- src/pairs.rt:56:20
 common-cast-name : (t : ℕ) → common-lts.Need-cast-name (
   cell-reads.Asked,
   cell-reads.Learnt,
   common-below t,
   common.Post,
 ) (common-at t) common.Post common-Inv-loop common-μ-loop
-common-cast-name t c = omega (arith, trailing-le 64 (c .before .loop .left))
+common-cast-name t c =
+    omega (arith, trailing-le 64 (c .before .loop .left))
 
--- src/pairs.rt:57:19
 common-sub-common : (t : ℕ) → common-lts.Need-sub-common (
   cell-reads.Asked,
   cell-reads.Learnt,
   common-below t,
   common.Post,
 ) (common-at t) common.Post common-Inv-loop common-μ-loop
-common-sub-common t c = omega (arith, c .before .before .before .before .if1 .left)
+common-sub-common t c =
+    omega (arith, one-more t c)
 
--- src/pairs.rt:57:26
 common-cell-requires : (t : ℕ) → common-lts.Need-cell-requires (
   cell-reads.Asked,
   cell-reads.Learnt,
@@ -114,19 +146,10 @@ common-cell-requires : (t : ℕ) → common-lts.Need-cell-requires (
   common.Post,
 ) (common-at t) common.Post common-Inv-loop common-μ-loop
 common-cell-requires t c κs =
-    let turn = c in
-    let start = turn .before .before .before .before .before .before .before in
-    let left = turn .before .loop .left in
-    let trying = turn .before .loop .inv in
-    let some : 0 < left = omega (arith, turn .loop-test .taken) in
-    let next = start .args .next .now in
-    let work = start .args .work .now in
-    let less = start .args .j - 1 in
-    let x = start .args .x in
-    let y = start .args .y in
-    (omega (arith, start .pre .1 .0 .few, start .pre .1 .1 .0), (name-low next work less x y left (trailingZeros 64 left) trying some refl, start .pre .1 .0 .room))
+    let start = entry t c in
+    let low = name-low (c .before .loop .inv) (some-left t c) in
+    (omega (arith, start .pre .1 .0 .few, start .pre .1 .1 .0), (low, start .pre .1 .0 .room))
 
--- src/pairs.rt:57:47
 common-cell-requires-2 : (t : ℕ) → common-lts.Need-cell-requires-2 (
   cell-reads.Asked,
   cell-reads.Learnt,
@@ -135,18 +158,10 @@ common-cell-requires-2 : (t : ℕ) → common-lts.Need-cell-requires-2 (
 ) (common-at t) common.Post common-Inv-loop common-μ-loop
 common-cell-requires-2 t c κs =
     let turn = c .before in
-    let start = turn .before .before .before .before .before .before .before in
-    let left = turn .before .loop .left in
-    let trying = turn .before .loop .inv in
-    let some : 0 < left = omega (arith, turn .loop-test .taken) in
-    let next = start .args .next .now in
-    let work = start .args .work .now in
-    let less = start .args .j - 1 in
-    let x = start .args .x in
-    let y = start .args .y in
-    (omega (arith, start .pre .1 .0 .few, start .pre .1 .1 .1), (name-low next work less x y left (trailingZeros 64 left) trying some refl, start .pre .1 .0 .room))
+    let start = entry t turn in
+    let low = name-low (turn .before .loop .inv) (some-left t turn) in
+    (omega (arith, start .pre .1 .0 .few, start .pre .1 .1 .1), (low, start .pre .1 .0 .room))
 
--- src/pairs.rt:57:12
 common-common-requires : (t : ℕ) → common-lts.Need-common-requires (
   cell-reads.Asked,
   cell-reads.Learnt,
@@ -155,28 +170,20 @@ common-common-requires : (t : ℕ) → common-lts.Need-common-requires (
 ) (common-at t) common.Post common-Inv-loop common-μ-loop
 common-common-requires t c κs =
     let turn = c .before .before in
-    let start = turn .before .before .before .before .before .before .before in
-    let left = turn .before .loop .left in
-    let trying = turn .before .loop .inv in
-    let some : 0 < left = omega (arith, turn .loop-test .taken) in
-    let next = start .args .next .now in
-    let work = start .args .work .now in
-    let less = start .args .j - 1 in
-    let x = start .args .x in
-    let y = start .args .y in
-    let leaves = name-leaves next work less x y left (trailingZeros 64 left) trying some refl in
+    let start = entry t turn in
+    let name = trailingZeros 64 (turn .before .loop .left) in
+    let leaves = name-leaves (turn .before .loop .inv) (some-left t turn) in
     let cells = start .pre .1 .0 in (
-      omega (arith, start .pre .0, turn .before .before .before .before .if1 .left),
+      omega (arith, start .pre .0, one-more t turn),
       (
         cells,
         (
-          omega (arith, c .before .cell .ensures .value, cells .inside x (trailingZeros 64 left) (leaves .0)),
-          omega (arith, c .cell2 .ensures .value, cells .inside y (trailingZeros 64 left) (leaves .1)),
+          omega (arith, c .before .cell .ensures .value, cells .inside (start .args .x) name (leaves .0)),
+          omega (arith, c .cell2 .ensures .value, cells .inside (start .args .y) name (leaves .1)),
         ),
       ),
     )
 
--- src/pairs.rt:58:13
 common-returns-2 : (t : ℕ) → common-lts.Need-returns-2 (
   cell-reads.Asked,
   cell-reads.Learnt,
@@ -185,24 +192,14 @@ common-returns-2 : (t : ℕ) → common-lts.Need-returns-2 (
 ) (common-at t) common.Post common-Inv-loop common-μ-loop
 common-returns-2 t c =
     let turn = c .before .before .before .before in
-    let start = turn .before .before .before .before .before .before .before in
-    let left = turn .before .loop .left in
-    let trying = turn .before .loop .inv in
-    let some : 0 < left = omega (arith, turn .loop-test .taken) in
-    let next = start .args .next .now in
-    let work = start .args .work .now in
-    let less = start .args .j - 1 in
-    let x = start .args .x in
-    let y = start .args .y in
-    let at-x = c .before .before .before .cell .ensures .value in
-    let at-y = c .before .before .cell2 .ensures .value in
-    let k-is : suc less ≡ start .args .j = omega (arith, turn .before .before .before .before .if1 .left) in (
-      λ e. trying-found next work less x y left (trailingZeros 64 left) trying some refl (start .args .j) k-is
-          (subst₂ (λ (u v : ℕ). Common next work less u v) at-x at-y (c .before .common .ensures .0 (c .if2 .taken))),
+    let start = entry t turn in
+    let at-x = c .before .before .before .cell in
+    let at-y = c .before .before .cell2 in (
+      λ e. trying-found (turn .before .loop .inv) (some-left t turn) (start .args .j) (at-x .result) (at-y .result) (one-more t turn)
+          (at-x .ensures .value) (at-y .ensures .value) (c .before .common .ensures .0 (c .if2 .taken)),
       λ leads. refl,
     )
 
--- src/pairs.rt:60:24
 common-sub-left : (t : ℕ) → common-lts.Need-sub-left (
   cell-reads.Asked,
   cell-reads.Learnt,
@@ -210,9 +207,8 @@ common-sub-left : (t : ℕ) → common-lts.Need-sub-left (
   common.Post,
 ) (common-at t) common.Post common-Inv-loop common-μ-loop
 common-sub-left t c =
-    omega (arith, c .before .before .before .before .loop-test .taken)
+    some-left t (c .before .before .before .before)
 
--- src/pairs.rt:55:5
 common-loop-less : (t : ℕ) → common-lts.Need-loop-less (
   cell-reads.Asked,
   cell-reads.Learnt,
@@ -221,18 +217,8 @@ common-loop-less : (t : ℕ) → common-lts.Need-loop-less (
 ) (common-at t) common.Post common-Inv-loop common-μ-loop
 common-loop-less t c =
     let turn = c .before .before .before .before in
-    let start = turn .before .before .before .before .before .before .before in
-    let left = turn .before .loop .left in
-    let trying = turn .before .loop .inv in
-    let some : 0 < left = omega (arith, turn .loop-test .taken) in
-    let next = start .args .next .now in
-    let work = start .args .work .now in
-    let less = start .args .j - 1 in
-    let x = start .args .x in
-    let y = start .args .y in
-    left-less next work less x y left (trailingZeros 64 left) trying some refl
+    left-less (turn .before .loop .left) (some-left t turn)
 
--- src/pairs.rt:55:5
 common-loop-again : (t : ℕ) → common-lts.Need-loop-again (
   cell-reads.Asked,
   cell-reads.Learnt,
@@ -241,22 +227,11 @@ common-loop-again : (t : ℕ) → common-lts.Need-loop-again (
 ) (common-at t) common.Post common-Inv-loop common-μ-loop
 common-loop-again t c =
     let turn = c .before .before .before .before in
-    let start = turn .before .before .before .before .before .before .before in
-    let left = turn .before .loop .left in
-    let trying = turn .before .loop .inv in
-    let some : 0 < left = omega (arith, turn .loop-test .taken) in
-    let next = start .args .next .now in
-    let work = start .args .work .now in
-    let less = start .args .j - 1 in
-    let x = start .args .x in
-    let y = start .args .y in
-    let at-x = c .before .before .before .cell .ensures .value in
-    let at-y = c .before .before .cell2 .ensures .value in
-    trying-more next work less x y left (trailingZeros 64 left) trying some refl
-    (λ leads. true≢false (sym (c .before .common .ensures .1
-    (subst₂ (λ (u v : ℕ). Common next work less u v) (sym at-x) (sym at-y) leads)) ∙ c .if2 .left))
+    let at-x = c .before .before .before .cell in
+    let at-y = c .before .before .cell2 in
+    trying-more (turn .before .loop .inv) (some-left t turn) (at-x .result) (at-y .result) (at-x .ensures .value)
+    (at-y .ensures .value) (λ leads. true≢false (sym (c .before .common .ensures .1 leads) ∙ c .if2 .left))
 
--- src/pairs.rt:45:1
 common-returns-3 : (t : ℕ) → common-lts.Need-returns-3 (
   cell-reads.Asked,
   cell-reads.Learnt,
@@ -265,10 +240,10 @@ common-returns-3 : (t : ℕ) → common-lts.Need-returns-3 (
 ) (common-at t) common.Post common-Inv-loop common-μ-loop
 common-returns-3 t c =
     let start = c .before .before .before .before .before .before .before in
-    let k-is : suc (start .args .j - 1) ≡ start .args .j = omega (arith, c .before .before .before .before .if1 .left) in (
+    let j = start .args .j in
+    let j-is : suc (j - 1) ≡ j = omega (arith, c .before .before .before .before .if1 .left) in (
       λ e. absurd (false≢true e),
-      λ leads. absurd (trying-none (start .args .next .now) (start .args .work .now) (start .args .j - 1) (start .args .j)
-          (start .args .x) (start .args .y) (c .before .loop .left) k-is (c .loop-test .left) (c .before .loop .inv) leads),
+      λ leads. absurd (trying-none (c .before .loop .inv) (c .loop-test .left) j j-is leads),
     )
 
 pub +common-spec : {M : Type 1} → statement M

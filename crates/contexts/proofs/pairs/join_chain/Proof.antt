@@ -4,9 +4,9 @@ use mathlib.Core.Bool.{_||_}
 use Prim.Native.Nat.{ℕ, suc, _-_}
 use native.Mathlib.Omega.{arith}
 use lib.ListN.{length}
-use Rattle.contexts.proofs.ChainLaws.{Chaining, chaining-none, come-to, chaining-more, chaining-done}
 use Rattle.indexed.specs.Partitions.{Labelled}
 use Rattle.contexts.specs.Sweeps.{PairJoined}
+use Rattle.contexts.proofs.ChainLaws.{Chaining, chaining-none, come-to, chaining-more, chaining-done}
 use Rattle.contexts.proofs.pairs.join_chain.Statement.{statement}
 use Rattle.contexts.proofs.pairs.join_chain.Tie as tie
 
@@ -17,29 +17,26 @@ Inv-loop m x first links next groups₀ work joined₀ at₀ groups joined at =
 abbrev μ-loop : tie.MeasureT-loop
 μ-loop m x first links next groups₀ work joined₀ at₀ groups joined at = at
 
+-- the function's entry, from the loop's head
+abbrev entry : tie.At-loop Inv-loop μ-loop → tie.Start Inv-loop μ-loop
+entry c = c .before .before .before .before .before
+
+-- at each turn the chain has come to a state
+head-is : (c : tie.In-loop Inv-loop μ-loop) → c .before .loop .at ≡ suc (c .before .loop .at - 1)
+head-is c = omega (arith, c .loop-test .taken)
+
 loop-holds : tie.Need-loop-holds Inv-loop μ-loop
-loop-holds c =
-    let start = c .before .before .before .before in (
-      refl,
-      chaining-none (length (start .args .groups .now)) (start .args .m) (start .args .next .now) (start .args .work .now)
-          (start .args .links .now) (start .args .first) (start .args .x) (start .args .groups .now)
-          (start .pre .1 .1 .1 .1 .0) (start .pre .1 .1 .1 .1 .1) (start .pre .1 .1 .1 .0),
-    )
+loop-holds c = (refl, chaining-none (c .before .before .before .before .pre .1 .1 .1 .0))
 
 sub-y : tie.Need-sub-y Inv-loop μ-loop
 sub-y c = omega arith
 
 join-pair-requires : tie.Need-join-pair-requires Inv-loop μ-loop
 join-pair-requires c κs =
-    let at-loop = c .before .before in
-    let start = at-loop .before .before .before .before .before in
-    let n = length (start .args .groups .now) in
-    let loop = at-loop .loop in
-    let at-is : loop .at ≡ suc (loop .at - 1) = omega (arith, c .before .loop-test .taken) in
-    let come =
-    come-to n (start .args .m) (start .args .next .now) (start .args .work .now) (start .args .links .now)
-    (start .args .first) (start .args .x) (start .args .groups .now) (start .pre .1 .1 .1 .1 .0) (start .pre .1 .1 .1 .1 .1)
-    (loop .at) (loop .at - 1) (loop .groups) (loop .joined) at-is (loop .inv .1) in
+    let loop = c .before .before .loop in
+    let start = entry (c .before .before) in
+    let at-is = head-is (c .before) in
+    let come = come-to (start .pre .1 .1 .1 .1 .1) at-is (loop .inv .1) in
     let size = loop .inv .0 in (
       start .pre .0,
       (
@@ -53,28 +50,18 @@ join-pair-requires c κs =
 
 mul-wide16 : tie.Need-mul-wide16 Inv-loop μ-loop
 mul-wide16 c =
-    let at-loop = c .before .before .before .before .before in
-    let start = at-loop .before .before .before .before .before in
-    let n = length (start .args .groups .now) in
-    let loop = at-loop .loop in
-    let at-is : loop .at ≡ suc (loop .at - 1) = omega (arith, c .before .before .before .before .loop-test .taken) in
-    let come =
-    come-to n (start .args .m) (start .args .next .now) (start .args .work .now) (start .args .links .now)
-    (start .args .first) (start .args .x) (start .args .groups .now) (start .pre .1 .1 .1 .1 .0) (start .pre .1 .1 .1 .1 .1)
-    (loop .at) (loop .at - 1) (loop .groups) (loop .joined) at-is (loop .inv .1) in
+    let loop = c .before .before .before .before .before .loop in
+    let start = entry (c .before .before .before .before .before) in
+    let at-is = head-is (c .before .before .before .before) in
+    let come = come-to (start .pre .1 .1 .1 .1 .1) at-is (loop .inv .1) in
     omega (arith, come .0, start .pre .0 .few, start .pre .1 .0, start .pre .1 .1 .1 .1 .0)
 
 shared-slice-read-wide16 : tie.Need-shared-slice-read-wide16 Inv-loop μ-loop
 shared-slice-read-wide16 c =
-    let at-loop = c .before .before .before .before .before .before in
-    let start = at-loop .before .before .before .before .before in
-    let n = length (start .args .groups .now) in
-    let loop = at-loop .loop in
-    let at-is : loop .at ≡ suc (loop .at - 1) = omega (arith, c .before .before .before .before .before .loop-test .taken) in
-    let come =
-    come-to n (start .args .m) (start .args .next .now) (start .args .work .now) (start .args .links .now)
-    (start .args .first) (start .args .x) (start .args .groups .now) (start .pre .1 .1 .1 .1 .0) (start .pre .1 .1 .1 .1 .1)
-    (loop .at) (loop .at - 1) (loop .groups) (loop .joined) at-is (loop .inv .1) in
+    let loop = c .before .before .before .before .before .before .loop in
+    let start = entry (c .before .before .before .before .before .before) in
+    let at-is = head-is (c .before .before .before .before .before) in
+    let come = come-to (start .pre .1 .1 .1 .1 .1) at-is (loop .inv .1) in
     omega (arith, come .0, start .pre .1 .1 .0, start .pre .1 .1 .1 .1 .0)
 
 wide16-requires : tie.Need-wide16-requires Inv-loop μ-loop
@@ -82,53 +69,35 @@ wide16-requires c κs = tt
 
 loop-less : tie.Need-loop-less Inv-loop μ-loop
 loop-less c =
-    let at-loop = c .before .before .before .before .before .before .before in
-    let start = at-loop .before .before .before .before .before in
-    let n = length (start .args .groups .now) in
-    let loop = at-loop .loop in
-    let at-is : loop .at ≡ suc (loop .at - 1) = omega (arith, c .before .before .before .before .before .before .loop-test .taken) in
-    let come =
-    come-to n (start .args .m) (start .args .next .now) (start .args .work .now) (start .args .links .now)
-    (start .args .first) (start .args .x) (start .args .groups .now) (start .pre .1 .1 .1 .1 .0) (start .pre .1 .1 .1 .1 .1)
-    (loop .at) (loop .at - 1) (loop .groups) (loop .joined) at-is (loop .inv .1) in
+    let loop = c .before .before .before .before .before .before .before .loop in
+    let start = entry (c .before .before .before .before .before .before .before) in
+    let at-is = head-is (c .before .before .before .before .before .before) in
+    let come = come-to (start .pre .1 .1 .1 .1 .1) at-is (loop .inv .1) in
     omega (arith, come .1, c .wide16 .ensures)
 
 loop-again : tie.Need-loop-again Inv-loop μ-loop
 loop-again c =
-    let at-loop = c .before .before .before .before .before .before .before in
-    let start = at-loop .before .before .before .before .before in
-    let n = length (start .args .groups .now) in
-    let loop = at-loop .loop in
-    let at-is : loop .at ≡ suc (loop .at - 1) = omega (arith, c .before .before .before .before .before .before .loop-test .taken) in
-    let come =
-    come-to n (start .args .m) (start .args .next .now) (start .args .work .now) (start .args .links .now)
-    (start .args .first) (start .args .x) (start .args .groups .now) (start .pre .1 .1 .1 .1 .0) (start .pre .1 .1 .1 .1 .1)
-    (loop .at) (loop .at - 1) (loop .groups) (loop .joined) at-is (loop .inv .1) in
+    let loop = c .before .before .before .before .before .before .before .loop in
+    let start = entry (c .before .before .before .before .before .before .before) in
     let pair = c .before .before .before .before .join-pair in
     let groups′ = pair .last .1 .1 .1 .1 .0 in
     let joins =
     subst (λ (k : ℕ). PairJoined k (start .args .m) (start .args .next .now) (start .args .work .now) (start .args .x) (loop .at - 1)
-    (loop .groups) groups′ (pair .result)) (loop .inv .0) (pair .ensures) in (
+    (loop .groups) groups′ (pair .result)) (loop .inv .0) (pair .ensures) in
+    let more =
+    chaining-more (start .pre .1 .1 .1 .1 .1) (head-is (c .before .before .before .before .before .before)) (loop .inv .1)
+    (start .pre .1 .1 .1 .1 .0) joins in (
       pair .kept .1 .1 .1 .1 .0 ∙ loop .inv .0,
-      subst (λ (k : ℕ). Chaining n (start .args .m) (start .args .next .now) (start .args .work .now) (start .args .links .now)
-          (start .args .first) (start .args .x) (start .args .groups .now) k groups′ (loop .joined || pair .result))
-          (sym (c .wide16 .ensures))
-          (chaining-more n (start .args .m) (start .args .next .now) (start .args .work .now) (start .args .links .now)
-          (start .args .first) (start .args .x) (start .args .groups .now) (start .pre .1 .1 .1 .1 .0) (start .pre .1 .1 .1 .1 .1)
-          (loop .at) (loop .at - 1) (loop .groups) (loop .joined) at-is (loop .inv .1) groups′ (pair .result) joins),
+      subst (λ (k : ℕ). Chaining (length (start .args .groups .now)) (start .args .m) (start .args .next .now) (start .args .work .now)
+          (start .args .links .now) (start .args .first) (start .args .x) (start .args .groups .now) k groups′
+          (loop .joined || pair .result)) (sym (c .wide16 .ensures)) more,
     )
 
 same-length : tie.Need-same-length Inv-loop μ-loop
 same-length c = c .before .loop .inv .0
 
 returns : tie.Need-returns Inv-loop μ-loop
-returns c =
-    let at-loop = c .before in
-    let start = at-loop .before .before .before .before .before in
-    let n = length (start .args .groups .now) in
-    chaining-done n (start .args .m) (start .args .next .now) (start .args .work .now) (start .args .links .now)
-    (start .args .first) (start .args .x) (start .args .groups .now) (start .pre .1 .1 .1 .1 .0) (start .pre .1 .1 .1 .1 .1)
-    (at-loop .loop .at) (at-loop .loop .groups) (at-loop .loop .joined) (omega (arith, c .loop-test .left)) (at-loop .loop .inv .1)
+returns c = chaining-done (omega (arith, c .loop-test .left)) (c .before .loop .inv .1)
 
 pub join-chain-spec : {M : Type 1} → statement M
 join-chain-spec =

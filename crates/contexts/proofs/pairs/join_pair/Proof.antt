@@ -3,7 +3,6 @@ use mathlib.Core.Path.{sym, _∙_}
 use mathlib.Core.Bool.{true≢false}
 use native.Mathlib.Omega.{arith}
 use borrow.Author.Needs.{needs}
-use lib.ListN.{length}
 use Rattle.contexts.proofs.ChainLaws.{pair-left, pair-joined}
 use Rattle.contexts.proofs.pairs.join_pair.Statement.{statement}
 use Rattle.contexts.proofs.pairs.join_pair.Tie as tie
@@ -21,10 +20,7 @@ slice-read-if1-2 : tie.Need-slice-read-if1-2
 slice-read-if1-2 c = search needs
 
 returns : tie.Need-returns
-returns c =
-    let start = c .before .before .before .before .before .before in
-    pair-left (length (start .args .groups .now)) (start .args .m) (start .args .next .now) (start .args .work .now) (start .args .x) (start .args .y) (start .args .groups .now)
-    (start .pre .1 .1 .0) (λ common. c .if1 .taken)
+returns c = pair-left (c .before .before .before .before .before .before .pre .1 .1 .0) (λ common. c .if1 .taken)
 
 common-requires : tie.Need-common-requires
 common-requires c κs =
@@ -40,16 +36,12 @@ same-length c = search needs
 
 returns-2 : tie.Need-returns-2
 returns-2 c =
-    let start = c .before .before .before .before .before .before .before .before .before .before .before .before in
-    let two = c .before .before .join-states in
-    pair-joined (length (start .args .groups .now)) (start .args .m) (start .args .next .now) (start .args .work .now) (start .args .x) (start .args .y) (start .args .groups .now)
-    (two .last .0) (two .result) (c .before .before .before .before .before .common .ensures .0 (c .before .before .before .before .if2 .taken)) (two .ensures)
+    let found = c .before .before .before .before in
+    pair-joined (found .before .common .ensures .0 (found .if2 .taken)) (c .before .before .join-states .ensures)
 
 returns-3 : tie.Need-returns-3
 returns-3 c =
-    let start = c .before .before .before .before .before .before .before .before in
-    pair-left (length (start .args .groups .now)) (start .args .m) (start .args .next .now) (start .args .work .now) (start .args .x) (start .args .y) (start .args .groups .now)
-    (start .pre .1 .1 .0)
+    pair-left (c .before .before .before .before .before .before .before .before .pre .1 .1 .0)
     (λ common. absurd (true≢false (sym (c .before .common .ensures .1 common) ∙ c .if2 .left)))
 
 pub join-pair-spec : {M : Type 1} → statement M

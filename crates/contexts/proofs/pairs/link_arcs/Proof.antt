@@ -8,10 +8,10 @@ use lib.Bits.{bitOr}
 use lib.Dec.{lit<}
 use lib.ListN.{length, getD, set, length-set}
 use lib.Pow.{shl-exact}
-use Rattle.contexts.specs.Sweeps.{Linked}
-use Rattle.contexts.proofs.LinkLaws.{linked-none, linked-more}
 use Rattle.cells.specs.Cells.{withCell}
 use Rattle.indexed.proofs.Suffixes.{parent-below}
+use Rattle.contexts.specs.Sweeps.{Linked}
+use Rattle.contexts.proofs.LinkLaws.{linked-none, linked-more}
 use Rattle.contexts.proofs.pairs.link_arcs.Statement.{statement}
 use Rattle.contexts.proofs.pairs.link_arcs.Tie as tie
 
@@ -23,137 +23,79 @@ Inv-loop parents names old next₀ work₀ v₀ next work v =
 abbrev μ-loop : tie.MeasureT-loop
 μ-loop parents names old next₀ work₀ v₀ next work v = length old - v
 
+-- the function's entry, from the loop's head
+abbrev entry : tie.At-loop Inv-loop μ-loop → tie.Start Inv-loop μ-loop
+entry c = c .before .before .before .before .before .before
+
+parent-low :
+    (turn : tie.In-loop Inv-loop μ-loop) → let start = entry (turn .before) in
+    getD (start .args .parents .now) (turn .before .loop .v) 0 < length (start .args .old .now)
+parent-low turn =
+    let start = entry (turn .before) in
+    parent-below (length (start .args .old .now)) (start .args .parents .now) (start .args .names .now) (start .pre .0)
+    (turn .before .loop .v) (turn .loop-test .taken)
+
+-- the group that an arc leaves is a state
+from-low :
+    (c : tie.After-class-above Inv-loop μ-loop) → c .class-above .result < length (entry (c .before .before) .args .old .now)
+from-low c =
+    let start = entry (c .before .before) in
+    let parent = getD (start .args .parents .now) (c .before .before .loop .v) 0 in
+    omega (arith, c .class-above .ensures, parent-low (c .before), start .pre .1 .0 .low parent (parent-low (c .before)))
+
+name-low :
+    (turn : tie.In-loop Inv-loop μ-loop) → getD (entry (turn .before) .args .names .now) (turn .before .loop .v) 0 < 64
+name-low turn =
+    entry (turn .before) .pre .0 .name-below (turn .before .loop .v) (turn .before .loop .inv .0) (turn .loop-test .taken)
+
 loop-holds : tie.Need-loop-holds Inv-loop μ-loop
 loop-holds c =
-    let start = c .before .before .before .before .before in (
-      omega arith,
-      omega (arith, start .pre .0 .some-state),
-      refl,
-      refl,
-      linked-none (start .args .parents .now) (start .args .names .now) (start .args .old .now) (start .args .next .now)
-          (start .args .work .now) (start .pre .1 .1 .1 .0),
-    )
+    let start = c .before .before .before .before .before in
+    (omega arith, omega (arith, start .pre .0 .some-state), refl, refl, linked-none (start .pre .1 .1 .1 .0))
 
 class-above-requires : tie.Need-class-above-requires Inv-loop μ-loop
 class-above-requires c κs =
-    let at-loop = c .before in
-    let start = at-loop .before .before .before .before .before .before in
-    let arrays = start .pre .0 in
-    let labelled = start .pre .1 .0 in
-    let v = at-loop .loop .v in
-    let pos = at-loop .loop .inv .0 in
-    let inside : v < length (start .args .old .now) = c .loop-test .taken in
-    let parents = start .args .parents .now in
-    let old = start .args .old .now in
-    let below : getD parents v 0 < length old = parent-below (length old) parents (start .args .names .now) arrays v inside in
-    (omega (arith, arrays .parents-size), below)
+    let start = entry (c .before) in
+    (omega (arith, start .pre .0 .parents-size, c .loop-test .taken), parent-low c)
 
 shared-slice-read-name : tie.Need-shared-slice-read-name Inv-loop μ-loop
 shared-slice-read-name c =
-    let at-loop = c .before .before .before in
-    let start = at-loop .before .before .before .before .before .before in
-    let arrays = start .pre .0 in
-    let labelled = start .pre .1 .0 in
-    let v = at-loop .loop .v in
-    let pos = at-loop .loop .inv .0 in
-    let inside : v < length (start .args .old .now) = c .before .before .loop-test .taken in
-    omega (arith, arrays .names-size)
+    let start = entry (c .before .before .before) in
+    omega (arith, start .pre .0 .names-size, c .before .before .loop-test .taken)
 
 mul-next : tie.Need-mul-next Inv-loop μ-loop
 mul-next c =
-    let at-loop = c .before .before .before in
-    let start = at-loop .before .before .before .before .before .before in
-    let arrays = start .pre .0 in
-    let labelled = start .pre .1 .0 in
-    let v = at-loop .loop .v in
-    let pos = at-loop .loop .inv .0 in
-    let inside : v < length (start .args .old .now) = c .before .before .loop-test .taken in
-    let parents = start .args .parents .now in
-    let old = start .args .old .now in
-    let below : getD parents v 0 < length old = parent-below (length old) parents (start .args .names .now) arrays v inside in
-    let label-low = labelled .low (getD parents v 0) below in
-    omega (arith, label-low, c .before .class-above .ensures, arrays .few-states)
+    let start = entry (c .before .before .before) in
+    omega (arith, from-low (c .before), start .pre .0 .few-states)
 
 slice-read-next : tie.Need-slice-read-next Inv-loop μ-loop
 slice-read-next c =
-    let at-loop = c .before .before .before .before in
-    let start = at-loop .before .before .before .before .before .before in
-    let arrays = start .pre .0 in
-    let labelled = start .pre .1 .0 in
-    let v = at-loop .loop .v in
-    let pos = at-loop .loop .inv .0 in
-    let inside : v < length (start .args .old .now) = c .before .before .before .loop-test .taken in
-    let parents = start .args .parents .now in
-    let old = start .args .old .now in
-    let below : getD parents v 0 < length old = parent-below (length old) parents (start .args .names .now) arrays v inside in
-    let label-low = labelled .low (getD parents v 0) below in
-    omega (arith, label-low, c .before .before .class-above .ensures, at-loop .loop .inv .2, start .pre .1 .1 .0)
+    let head = c .before .before .before .before in
+    omega (arith, from-low (c .before .before), head .loop .inv .2, entry head .pre .1 .1 .0)
 
 cast-next : tie.Need-cast-next Inv-loop μ-loop
-cast-next c =
-    let at-loop = c .before .before .before .before in
-    let start = at-loop .before .before .before .before .before .before in
-    let arrays = start .pre .0 in
-    let labelled = start .pre .1 .0 in
-    let v = at-loop .loop .v in
-    let pos = at-loop .loop .inv .0 in
-    let inside : v < length (start .args .old .now) = c .before .before .before .loop-test .taken in
-    omega (arith, arrays .name-below v pos inside)
+cast-next c = omega (arith, name-low (c .before .before .before))
 
 shl-next : tie.Need-shl-next Inv-loop μ-loop
-shl-next c =
-    let at-loop = c .before .before .before .before in
-    let start = at-loop .before .before .before .before .before .before in
-    let arrays = start .pre .0 in
-    let labelled = start .pre .1 .0 in
-    let v = at-loop .loop .v in
-    let pos = at-loop .loop .inv .0 in
-    let inside : v < length (start .args .old .now) = c .before .before .before .loop-test .taken in
-    arrays .name-below v pos inside
+shl-next c = name-low (c .before .before .before)
 
 mul-next-2 : tie.Need-mul-next-2 Inv-loop μ-loop
 mul-next-2 c =
-    let at-loop = c .before .before .before .before in
-    let start = at-loop .before .before .before .before .before .before in
-    let arrays = start .pre .0 in
-    let labelled = start .pre .1 .0 in
-    let v = at-loop .loop .v in
-    let pos = at-loop .loop .inv .0 in
-    let inside : v < length (start .args .old .now) = c .before .before .before .loop-test .taken in
-    let parents = start .args .parents .now in
-    let old = start .args .old .now in
-    let below : getD parents v 0 < length old = parent-below (length old) parents (start .args .names .now) arrays v inside in
-    let label-low = labelled .low (getD parents v 0) below in
-    omega (arith, label-low, c .before .before .class-above .ensures, arrays .few-states)
+    let start = entry (c .before .before .before .before) in
+    omega (arith, from-low (c .before .before), start .pre .0 .few-states)
 
 slice-write-next : tie.Need-slice-write-next Inv-loop μ-loop
 slice-write-next c =
-    let at-loop = c .before .before .before .before in
-    let start = at-loop .before .before .before .before .before .before in
-    let arrays = start .pre .0 in
-    let labelled = start .pre .1 .0 in
-    let v = at-loop .loop .v in
-    let pos = at-loop .loop .inv .0 in
-    let inside : v < length (start .args .old .now) = c .before .before .before .loop-test .taken in
-    let parents = start .args .parents .now in
-    let old = start .args .old .now in
-    let below : getD parents v 0 < length old = parent-below (length old) parents (start .args .names .now) arrays v inside in
-    let label-low = labelled .low (getD parents v 0) below in
-    omega (arith, label-low, c .before .before .class-above .ensures, at-loop .loop .inv .2, start .pre .1 .1 .0)
+    let head = c .before .before .before .before in
+    omega (arith, from-low (c .before .before), head .loop .inv .2, entry head .pre .1 .1 .0)
 
 wide8-requires : tie.Need-wide8-requires Inv-loop μ-loop
 wide8-requires c κs = tt
 
 mul-wide16 : tie.Need-mul-wide16 Inv-loop μ-loop
 mul-wide16 c =
-    let at-loop = c .before .before .before .before .before .before in
-    let start = at-loop .before .before .before .before .before .before in
-    let arrays = start .pre .0 in
-    let labelled = start .pre .1 .0 in
-    let v = at-loop .loop .v in
-    let pos = at-loop .loop .inv .0 in
-    let inside : v < length (start .args .old .now) = c .before .before .before .before .before .loop-test .taken in
-    omega (arith, arrays .few-states)
+    let start = entry (c .before .before .before .before .before .before) in
+    omega (arith, c .before .before .before .before .before .loop-test .taken, start .pre .0 .few-states)
 
 shared-slice-read-wide16 : tie.Need-shared-slice-read-wide16 Inv-loop μ-loop
 shared-slice-read-wide16 c = c .before .before .before .before .before .before .loop-test .taken
@@ -163,84 +105,53 @@ wide16-requires c κs = tt
 
 set-cell-requires : tie.Need-set-cell-requires Inv-loop μ-loop
 set-cell-requires c κs =
-    let at-loop = c .before .before .before .before .before .before .before .before in
-    let start = at-loop .before .before .before .before .before .before in
-    let arrays = start .pre .0 in
-    let labelled = start .pre .1 .0 in
-    let v = at-loop .loop .v in
-    let pos = at-loop .loop .inv .0 in
-    let inside : v < length (start .args .old .now) = c .before .before .before .before .before .before .before .loop-test .taken in
-    let parents = start .args .parents .now in
-    let old = start .args .old .now in
-    let below : getD parents v 0 < length old = parent-below (length old) parents (start .args .names .now) arrays v inside in
-    let label-low = labelled .low (getD parents v 0) below in (
-      omega (arith, label-low, c .before .before .before .before .before .before .class-above .ensures, arrays .few-states),
+    let turn = c .before .before .before .before .before .before .before in
+    let loop = turn .before .loop in
+    let start = entry (turn .before) in
+    let few = start .pre .0 .few-states in (
+      omega (arith, from-low (c .before .before .before .before .before .before), few),
       (
-        omega (arith, c .before .before .wide8 .ensures, arrays .name-below v pos inside),
+        omega (arith, c .before .before .wide8 .ensures, name-low turn),
         (
-          omega (arith, c .wide16 .ensures, labelled .low v inside, arrays .few-states),
-          omega (arith, at-loop .loop .inv .3, start .pre .1 .1 .1 .1),
+          omega (arith, c .wide16 .ensures, start .pre .1 .0 .low (loop .v) (turn .loop-test .taken), turn .loop-test .taken, few),
+          omega (arith, loop .inv .3, start .pre .1 .1 .1 .1),
         ),
       ),
     )
 
 add-v : tie.Need-add-v Inv-loop μ-loop
 add-v c =
-    let at-loop = c .before .before .before .before .before .before .before .before .before .before .before in
-    let start = at-loop .before .before .before .before .before .before in
-    let arrays = start .pre .0 in
-    let labelled = start .pre .1 .0 in
-    let v = at-loop .loop .v in
-    let pos = at-loop .loop .inv .0 in
-    let inside : v < length (start .args .old .now) = c .before .before .before .before .before .before .before .before .before .before .loop-test .taken in
-    omega (arith, arrays .few-states)
+    let turn = c .before .before .before .before .before .before .before .before .before .before in
+    omega (arith, turn .loop-test .taken, entry (turn .before) .pre .0 .few-states)
 
 loop-less : tie.Need-loop-less Inv-loop μ-loop
 loop-less c =
-    let at-loop = c .before .before .before .before .before .before .before .before .before .before .before in
-    let start = at-loop .before .before .before .before .before .before in
-    let arrays = start .pre .0 in
-    let labelled = start .pre .1 .0 in
-    let v = at-loop .loop .v in
-    let pos = at-loop .loop .inv .0 in
-    let inside : v < length (start .args .old .now) = c .before .before .before .before .before .before .before .before .before .before .loop-test .taken in
-    omega arith
+    omega (arith, c .before .before .before .before .before .before .before .before .before .before .loop-test .taken)
 
 loop-again : tie.Need-loop-again Inv-loop μ-loop
 loop-again c =
-    let at-loop = c .before .before .before .before .before .before .before .before .before .before .before in
-    let start = at-loop .before .before .before .before .before .before in
-    let arrays = start .pre .0 in
-    let labelled = start .pre .1 .0 in
-    let v = at-loop .loop .v in
-    let pos = at-loop .loop .inv .0 in
-    let inside : v < length (start .args .old .now) = c .before .before .before .before .before .before .before .before .before .before .loop-test .taken in
-    let parents = start .args .parents .now in
-    let old = start .args .old .now in
-    let below : getD parents v 0 < length old = parent-below (length old) parents (start .args .names .now) arrays v inside in
-    let label-low = labelled .low (getD parents v 0) below in
-    let names = start .args .names .now in
-    let name = getD names v 0 in
-    let name-low = arrays .name-below v pos inside in
-    let from = c .before .before .before .before .before .before .before .before .before .class-above .result in
-    let from-is = c .before .before .before .before .before .before .before .before .before .class-above .ensures in
+    let turn = c .before .before .before .before .before .before .before .before .before .before in
+    let loop = turn .before .loop in
+    let start = entry (turn .before) in
+    let name = getD (start .args .names .now) (loop .v) 0 in
+    let above = c .before .before .before .before .before .before .before .before .before in
+    let from = above .class-above .result in
     let wide = c .before .before .before .wide16 in
     let stored = c .before .before .set-cell in
-    let next = at-loop .loop .next in
-    let work = at-loop .loop .work in
-    let fits : 1 + name ≤ 64 = omega arith in
+    let fits : 1 + name ≤ 64 = omega (arith, name-low turn) in
     let mask : (1 * 2 ^ name) % 2 ^ 64 ≡ 2 ^ name = shl-exact 1 name 64 (lit< tt) fits ∙ one-mul (2 ^ name) in
+    let put : ℕ = bitOr (getD (loop .next) from 0) ((1 * 2 ^ name) % 2 ^ 64) in
     let more =
-    linked-more (length old) v parents names old next work arrays pos inside (at-loop .loop .inv .4) from name (wide .result)
-    from-is refl (wide .ensures) (omega (arith, label-low, from-is, at-loop .loop .inv .2, start .pre .1 .1 .0))
-    (omega (arith, label-low, from-is, arrays .few-states)) (omega (arith, at-loop .loop .inv .3, start .pre .1 .1 .1 .1))
-    (set next from (bitOr (getD next from 0) ((1 * 2 ^ name) % 2 ^ 64))) (stored .last .0)
-    (ap (λ (k : ℕ). set next from (bitOr (getD next from 0) k)) mask)
-    (stored .ensures ∙ ap (λ (a : ℕ). withCell work from a (wide .result)) (c .before .before .before .before .before .wide8 .ensures)) in (
+    linked-more (start .pre .0) (loop .inv .0) (turn .loop-test .taken) (loop .inv .4) from name (wide .result)
+    (above .class-above .ensures) refl (wide .ensures) (omega (arith, from-low above, loop .inv .2, start .pre .1 .1 .0))
+    (omega (arith, from-low above, start .pre .0 .few-states)) (omega (arith, loop .inv .3, start .pre .1 .1 .1 .1))
+    (ap (λ (k : ℕ). set (loop .next) from (bitOr (getD (loop .next) from 0) k)) mask)
+    (stored .ensures
+    ∙ ap (λ (a : ℕ). withCell (loop .work) from a (wide .result)) (c .before .before .before .before .before .wide8 .ensures)) in (
       omega arith,
-      omega arith,
-      length-set next from (bitOr (getD next from 0) ((1 * 2 ^ name) % 2 ^ 64)) ∙ at-loop .loop .inv .2,
-      stored .kept .0 ∙ at-loop .loop .inv .3,
+      omega (arith, turn .loop-test .taken),
+      length-set (loop .next) from put ∙ loop .inv .2,
+      stored .kept .0 ∙ loop .inv .3,
       rw add-one more,
     )
 
@@ -252,11 +163,11 @@ same-length-2 c = c .before .loop .inv .3
 
 returns : tie.Need-returns Inv-loop μ-loop
 returns c =
-    let at-loop = c .before in
-    let start = at-loop .before .before .before .before .before .before in
-    let all : at-loop .loop .v ≡ length (start .args .old .now) = omega (arith, c .loop-test .left, at-loop .loop .inv .1) in
-    subst (λ (k : ℕ). Linked k (start .args .parents .now) (start .args .names .now) (start .args .old .now) (at-loop .loop .next)
-    (at-loop .loop .work)) all (at-loop .loop .inv .4)
+    let loop = c .before .loop in
+    let start = entry (c .before) in
+    let all : loop .v ≡ length (start .args .old .now) = omega (arith, c .loop-test .left, loop .inv .1) in
+    subst (λ (k : ℕ). Linked k (start .args .parents .now) (start .args .names .now) (start .args .old .now) (loop .next)
+    (loop .work)) all (loop .inv .4)
 
 pub link-arcs-spec : {M : Type 1} → statement M
 link-arcs-spec =

@@ -13,6 +13,10 @@ use Rattle.contexts.proofs.SweepLaws.{sweep-comparing, sweep-swept}
 use Rattle.contexts.proofs.pairs.sweep.Statement.{statement}
 use Rattle.contexts.proofs.pairs.sweep.Tie as tie
 
+-- the function's entry, from where the groups are copied
+abbrev entry : tie.After-copy → tie.Start
+entry c = c .before .before .before .before .before .before .before .before
+
 array-borrow-prefix-old : tie.Need-array-borrow-prefix-old
 array-borrow-prefix-old c = search needs
 
@@ -21,28 +25,32 @@ slice-aggregate-copy c =
     sym (front-length _ _ (c .before .before .before .before .before .before .before .pre .0 .few-states))
 
 copy-requires : tie.Need-copy-requires
-copy-requires c κs =
-    front-length _ _ (c .before .before .before .before .before .before .before .pre .0 .few-states)
+copy-requires c κs = front-length _ _ (c .before .before .before .before .before .before .before .pre .0 .few-states)
 
 array-share-prefix-old : tie.Need-array-share-prefix-old
 array-share-prefix-old c =
-    let copied = c .before .copy in
-    front-fits _ (c .before .before .before .before .before .before .before .before .before .args .groups .now) (copied .last .1 .0) _ (copied .ensures) refl
+    let copied = c .before in
+    let start = entry copied in
+    let groups = start .args .groups .now in
+    front-fits _ groups (copied .copy .last .1 .0) _ (copied .copy .ensures) refl
 
 slice-aggregate-link-arcs : tie.Need-slice-aggregate-link-arcs
 slice-aggregate-link-arcs c =
-    let start = c .before .before .before .before .before .before .before .before .before .before in
-    let copied = c .before .before .copy in
-    sym (ap length (front-again (length (start .args .groups .now)) (start .args .groups .now) (copied .last .1 .0) _ (copied .ensures) refl))
+    let copied = c .before .before in
+    let start = entry copied in
+    let groups = start .args .groups .now in
+    let same = front-again (length groups) groups (copied .copy .last .1 .0) _ (copied .copy .ensures) refl in
+    sym (ap length same)
 
 slice-aggregate-link-arcs-2 : tie.Need-slice-aggregate-link-arcs-2
 slice-aggregate-link-arcs-2 c = search needs
 
 link-arcs-requires : tie.Need-link-arcs-requires
 link-arcs-requires c κs =
-    let start = c .before .before .before .before .before .before .before .before .before .before .before .before in
-    let copied = c .before .before .before .before .copy in
-    let same = front-again (length (start .args .groups .now)) (start .args .groups .now) (copied .last .1 .0) _ (copied .ensures) refl in (
+    let copied = c .before .before .before .before in
+    let start = entry copied in
+    let groups = start .args .groups .now in
+    let same = front-again (length groups) groups (copied .copy .last .1 .0) _ (copied .copy .ensures) refl in (
       subst (λ (l : List ℕ). Arrays (length l) (start .args .parents .now) (start .args .names .now)) (sym same) (start .pre .0),
       (
         subst (λ (l : List ℕ). Labelled (length l) l) (sym same) (start .pre .1 .1 .0),
@@ -52,32 +60,33 @@ link-arcs-requires c κs =
 
 array-share-prefix-old-2 : tie.Need-array-share-prefix-old-2
 array-share-prefix-old-2 c =
-    let copied = c .before .before .before .before .before .before .before .before .copy in
-    front-fits _ (c .before .before .before .before .before .before .before .before .before .before .before .before .before .before .before .before .args .groups .now) (copied .last .1 .0) _ (copied .ensures) refl
+    let copied = c .before .before .before .before .before .before .before .before in
+    let start = entry copied in
+    let groups = start .args .groups .now in
+    front-fits _ groups (copied .copy .last .1 .0) _ (copied .copy .ensures) refl
 
 slice-aggregate-sweep-pairs : tie.Need-slice-aggregate-sweep-pairs
 slice-aggregate-sweep-pairs c =
-    let start = c .before .before .before .before .before .before .before .before .before .before .before .before .before .before .before .before .before in
-    let copied = c .before .before .before .before .before .before .before .before .before .copy in
-    sym (ap length (front-again (length (start .args .groups .now)) (start .args .groups .now) (copied .last .1 .0) _ (copied .ensures) refl))
+    let copied = c .before .before .before .before .before .before .before .before .before in
+    let start = entry copied in
+    let groups = start .args .groups .now in
+    let same = front-again (length groups) groups (copied .copy .last .1 .0) _ (copied .copy .ensures) refl in
+    sym (ap length same)
 
 slice-aggregate-sweep-pairs-2 : tie.Need-slice-aggregate-sweep-pairs-2
 slice-aggregate-sweep-pairs-2 c = search needs
 
 sweep-pairs-requires : tie.Need-sweep-pairs-requires
 sweep-pairs-requires c κs =
-    let start = c .before .before .before .before .before .before .before .before .before .before .before .before .before .before .before .before .before .before .before .before in
-    let copied = c .before .before .before .before .before .before .before .before .before .before .before .before .copy in
-    let same = front-again (length (start .args .groups .now)) (start .args .groups .now) (copied .last .1 .0) _ (copied .ensures) refl in
-    let links = c .before .before .before .before .before .before .before .link-arcs in (
-      sweep-comparing (start .args .m) (start .args .parents .now) (start .args .names .now) (start .args .classes .now)
-          (start .args .groups .now) _ (links .last .1 .1 .1 .0) (links .last .1 .1 .1 .1 .0) (start .pre .0) (start .pre .1 .1 .0) same
-          (links .ensures) (start .pre .1 .0) (links .kept .1 .1 .1 .0)
+    let linked = c .before .before .before .before .before .before .before in
+    let copied = linked .before .before .before .before .before in
+    let start = entry copied in
+    let groups = start .args .groups .now in
+    let same = front-again (length groups) groups (copied .copy .last .1 .0) _ (copied .copy .ensures) refl in
+    let links = linked .link-arcs in (
+      sweep-comparing (start .pre .0) (start .pre .1 .1 .0) same (links .ensures) (start .pre .1 .0) (links .kept .1 .1 .1 .0)
           (omega (arith, links .kept .1 .1 .1 .1 .0, start .pre .1 .1 .1)),
-      (
-        sym (ap length same),
-        subst (λ (l : List ℕ). Labelled (length l) (start .args .groups .now)) (sym same) (start .pre .1 .1 .0),
-      ),
+      (sym (ap length same), subst (λ (l : List ℕ). Labelled (length l) groups) (sym same) (start .pre .1 .1 .0)),
     )
 
 same-length : tie.Need-same-length
@@ -88,14 +97,12 @@ same-length-2 c = search needs
 
 returns : tie.Need-returns
 returns c =
-    let start = c .before .before .before .before .before .before .before .before .before .before .before .before .before .before .before .before .before .before .before .before .before .before .before in
-    let copied = c .before .before .before .before .before .before .before .before .before .before .before .before .before .before .before .copy in
-    let same = front-again (length (start .args .groups .now)) (start .args .groups .now) (copied .last .1 .0) _ (copied .ensures) refl in
-    let links = c .before .before .before .before .before .before .before .before .before .before .link-arcs in
-    let done = c .before .before .sweep-pairs in
-    sweep-swept (start .args .m) (start .args .parents .now) (start .args .names .now) (start .args .classes .now)
-    (start .args .groups .now) _ (links .last .1 .1 .1 .0) (links .last .1 .1 .1 .1 .0) (start .pre .0) (start .pre .1 .1 .0) same
-    (links .ensures) (done .last .1 .1 .1 .1 .0) (done .result) (done .ensures)
+    let linked = c .before .before .before .before .before .before .before .before .before .before in
+    let copied = linked .before .before .before .before .before in
+    let start = entry copied in
+    let groups = start .args .groups .now in
+    let same = front-again (length groups) groups (copied .copy .last .1 .0) _ (copied .copy .ensures) refl in
+    sweep-swept (start .pre .0) (start .pre .1 .1 .0) same (linked .link-arcs .ensures) (c .before .before .sweep-pairs .ensures)
 
 pub sweep-spec : {M : Type 1} → statement M
 sweep-spec =
