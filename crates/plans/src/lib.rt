@@ -1,6 +1,6 @@
 // The public entries: a book's table built, a table rewritten, a row walked over a table, a book listed as text. Any bytes may be
-// lent; each call ends with a result or one numbered refusal, leaves every byte of the working area zero, and leaves the output as it
-// was where it refuses.
+// lent; each call ends with a result or one numbered refusal, leaves every byte of the working area zero, and leaves the output as
+// it was where it refuses.
 mod building;
 pub mod limits;
 mod listing;

@@ -1,5 +1,5 @@
-// The sizes of slices: those that document 01 fixes, by the names that model/specs/Limits has for them, and their test; and those that
-// follow from its limits.
+// The sizes of slices: those that document 01 fixes, by the names that model/specs/Limits has for them, and their test; and those
+// that follow from its limits.
 ghost use mathlib.Core.Path.{_≡_};
 ghost use mathlib.Core.Bool.{_||_};
 ghost use lib.Dec.{ltb};

@@ -1,5 +1,5 @@
-// A book's listing as text, before the working area is cleared: the table is built, read back, and listed; a refusal is listed by its
-// number.
+// A book's listing as text, before the working area is cleared: the table is built, read back, and listed; a refusal is listed
+// by its number.
 use crate::building;
 use crate::limits::LISTING_BYTES;
 use crate::limits::TABLE_BYTES;

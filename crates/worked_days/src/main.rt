@@ -1,5 +1,6 @@
-// The worked days and the sources' examples, as files, each with its listing; then document 01's edges for books, each with the first
-// line that it comes to. The file `stdout` has what document 01 gives, and for the sources' examples the listings of examples/sources.
+// The worked days and the sources' examples, as files, each with its listing; then document 01's edges for books, each with the
+// first line that it comes to. The file `stdout` has what document 01 gives, and for the sources' examples the listings of
+// examples/sources.
 mod edges;
 
 use libc::STDOUT_FILENO;

@@ -10,7 +10,8 @@ use Rattle.model.proofs.WrittenLengths.{table-bytes}
 use Rattle.listings.proofs.Lengths.{refusal-text-length}
 use Rattle.plans.specs.Says.{tooLittle}
 use Rattle.plans.proofs.BuildLaws.{Front, built-front}
-use Rattle.plans.proofs.ListLaws.{Lent, lent-enough, ListedBy, built-listed, gives-nothing, gives-refusal-text, gives-listing}
+use Rattle.plans.proofs.ListLaws.{Lent, lent-enough, ListedBy, built-listed}
+use Rattle.plans.proofs.ListLaws.{gives-nothing, gives-refusal-text, gives-listing}
 use borrow.Author.Needs.{needs}
 use Rattle.plans.proofs.listing.list.Statement.{statement}
 use Rattle.plans.proofs.listing.list.Tie as tie
@@ -50,14 +51,15 @@ front : (c : tie.Else2)
     (built c .build .result)
 front c =
     let at = start (tested (built c)) .args in
-    built-front (at .book .now) (at .work .now) zeros (output (built c)) (built c .build .result) (built c .build .ensures) (c .if2 .left)
+    built-front (at .book .now) (at .work .now) zeros (output (built c)) (built c .build .result) (built c .build .ensures)
+    (c .if2 .left)
 
 listed-by : (c : tie.Else2)
     → ListedBy (start (tested (built c)) .args .book .now) (table (built c)) (built c .build .result .joins)
 listed-by c =
     let at = start (tested (built c)) .args in
-    built-listed (at .book .now) (at .work .now) zeros (output (built c)) (built c .build .result) (lent (tested (built c)) .work-fits)
-    long (built c .build .ensures) (c .if2 .left)
+    built-listed (at .book .now) (at .work .now) zeros (output (built c)) (built c .build .result)
+    (lent (tested (built c)) .work-fits) long (built c .build .ensures) (c .if2 .left)
 
 too-little-requires : tie.Need-too-little-requires
 too-little-requires c κs = search needs
@@ -90,8 +92,9 @@ returns-2 c =
     let after = refused .before .before .before .before .before in
     let at = start (tested after) .args in
     let written = c .before .before .refusal-text in
-    gives-refusal-text (at .book .now) (at .work .now) (at .text .now) zeros (output after) (written .last .1 .0) (after .build .result)
-    (written .result) (is-lent (tested after)) long (after .build .ensures) (omega (arith, refused .if2 .taken)) (written .ensures)
+    gives-refusal-text (at .book .now) (at .work .now) (at .text .now) zeros (output after) (written .last .1 .0)
+    (after .build .result) (written .result) (is-lent (tested after)) long (after .build .ensures)
+    (omega (arith, refused .if2 .taken)) (written .ensures)
 
 cast-end : tie.Need-cast-end
 cast-end c = search needs
@@ -126,8 +129,8 @@ returns-3 c =
     let after = built accepted in
     let at = start (tested after) .args in
     let written = c .before .before .list-accepted in
-    gives-listing (at .book .now) (at .work .now) (at .text .now) (table after) (written .last .1 .1 .0) (after .build .result .joins)
-    (written .result) (is-lent (tested after)) (listed-by accepted) (written .ensures)
+    gives-listing (at .book .now) (at .work .now) (at .text .now) (table after) (written .last .1 .1 .0)
+    (after .build .result .joins) (written .result) (is-lent (tested after)) (listed-by accepted) (written .ensures)
 
 pub list-spec : {M : Type 1} → statement M
 list-spec =
