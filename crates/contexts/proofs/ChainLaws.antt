@@ -31,15 +31,15 @@ both-some false false base groups groups′ first second less less′ e = absurd
 -- ---- the states on a chain
 
 module _ (links : List ℕ) where
-  pub on-here : (at v : ℕ) → at ≡ suc v → OnChain links at v
+  on-here : (at v : ℕ) → at ≡ suc v → OnChain links at v
   unfolding linkDown
   on-here at v e = (0, e)
 
-  pub on-later : (at v y : ℕ) → at ≡ suc v → OnChain links (getD links v 0) y → OnChain links at y
+  on-later : (at v y : ℕ) → at ≡ suc v → OnChain links (getD links v 0) y → OnChain links at y
   unfolding linkDown
   on-later at v y e on = subst (λ (a : ℕ). OnChain links a y) (sym e) (suc (on .0), on .1)
 
-  pub on-split : (at v y : ℕ) → at ≡ suc v → OnChain links at y → (y ≡ v) ⊎ OnChain links (getD links v 0) y
+  on-split : (at v y : ℕ) → at ≡ suc v → OnChain links at y → (y ≡ v) ⊎ OnChain links (getD links v 0) y
   unfolding linkDown
   on-split at v y e on = go (on .0) (subst (λ (a : ℕ). linkDown links (on .0) a ≡ suc y) e (on .1))
     where
@@ -47,7 +47,7 @@ module _ (links : List ℕ) where
       go zero here = inl (omega (arith, here))
       go (suc k) later = inr (k, later)
 
-  pub on-none : (at y : ℕ) → at ≡ 0 → OnChain links at y → ⊥
+  on-none : (at y : ℕ) → at ≡ 0 → OnChain links at y → ⊥
   unfolding linkDown
   on-none at y e on = go (on .0) (subst (λ (a : ℕ). linkDown links (on .0) a ≡ suc y) e (on .1))
     where

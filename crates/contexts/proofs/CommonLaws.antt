@@ -11,7 +11,7 @@ use lib.ListN.{getD}
 use Rattle.cells.specs.Cells.{cellAt}
 use Rattle.model.specs.Limits.{name-limit}
 use Rattle.indexed.proofs.Bits.{bit, bit-zero, bit-of-both, lowest-bit, without-lowest}
-use Rattle.contexts.specs.Sweeps.{Cells, Common}
+use Rattle.contexts.specs.Sweeps.{Targets, Common}
 
 module _ (next work : List ℕ) where
   pub common-sym : (j x y : ℕ) → Common next work j x y → Common next work j y x
@@ -33,10 +33,10 @@ pub record Trying (next work : List ℕ) (j x y left : ℕ) : Type 0 where
       Common next work j (cellAt work x a) (cellAt work y a) → bit a left ≡ 1
 
 pub trying-all :
-    {next work : List ℕ} (j x y : ℕ) → Cells next work → Trying next work j x y (bitAnd (getD next x 0) (getD next y 0))
-trying-all {next} j x y cells =
+    {next work : List ℕ} (j x y : ℕ) → Targets next work → Trying next work j x y (bitAnd (getD next x 0) (getD next y 0))
+trying-all {next} j x y targets =
     record {
-      small = omega (arith, cells .narrow x, and-le-l (getD next x 0) (getD next y 0));
+      small = omega (arith, targets .narrow x, and-le-l (getD next x 0) (getD next y 0));
       inside = λ a set. bit-of-both a (getD next x 0) (getD next y 0) .0 set;
       tried = λ a in-x in-y leads. bit-of-both a (getD next x 0) (getD next y 0) .1 (in-x, in-y);
     }

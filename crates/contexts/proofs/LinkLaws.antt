@@ -17,7 +17,7 @@ use Rattle.cells.proofs.CellLaws.{cell-same, cell-other}
 use Rattle.indexed.specs.Trees.{Arrays}
 use Rattle.indexed.specs.Partitions.{Labelled, ForkClosed, Share}
 use Rattle.indexed.proofs.Bits.{bit, bit-zero, bit-set, bit-of-set}
-use Rattle.contexts.specs.Sweeps.{ArcOf, Linked, Cells, Common}
+use Rattle.contexts.specs.Sweeps.{ArcOf, Linked, Targets, Common}
 use Rattle.contexts.proofs.ClimbLaws.{below-suc}
 
 pub linked-none :
@@ -124,8 +124,8 @@ module _ {n i : ℕ} {parents names old next work : List ℕ} (arrays : Arrays n
 
 module _ {n : ℕ} {parents names old next work : List ℕ} (labelled : Labelled n old) (linked : Linked n parents names old next work)
   where
-    pub linked-cells : n ≤ length next → length next ≤ state-limit → work-bytes ≤ length work → Cells next work
-    linked-cells fits few room =
+    pub linked-targets : n ≤ length next → length next ≤ state-limit → work-bytes ≤ length work → Targets next work
+    linked-targets fits few room =
         record {
           few = few;
           room = room;
@@ -136,7 +136,7 @@ module _ {n : ℕ} {parents names old next work : List ℕ} (labelled : Labelled
         }
 
     -- names in common are told by the groups
-    pub share-groups :
+    share-groups :
         (j v w v′ w′ : ℕ) → getD old v 0 ≡ getD old v′ 0 → getD old w 0 ≡ getD old w′ 0 → Share n parents names old j v w →
         Share n parents names old j v′ w′
     share-groups zero v w v′ w′ e f s = tt

@@ -19,7 +19,7 @@ use Rattle.indexed.proofs.Suffixes.{parent-below, suffix-refl, suffix-sym, suff
 use Rattle.contexts.specs.Sweeps.{Linked, Common, Comparing, Listed, Paired, ChainJoined, PairsJoined, LabelSwept, SweptBy}
 use Rattle.contexts.proofs.ClimbLaws.{below-suc}
 use Rattle.contexts.proofs.CommonLaws.{common-sym, common-first}
-use Rattle.contexts.proofs.LinkLaws.{linked-cells, common-share, share-common}
+use Rattle.contexts.proofs.LinkLaws.{linked-targets, common-share, share-common}
 use Rattle.contexts.proofs.ChainLaws.{both-none, both-some, on-listed, listed-on}
 
 or-false : (a : Bool) → (a || false) ≡ a
@@ -265,7 +265,7 @@ module _ {n m : ℕ} {parents names classes groups next work groups′ : List �
           some = all .some;
         }
 
-  pub pairs-sweep : SweptBy n m parents names classes groups groups′ joined
+  pairs-sweep : SweptBy n m parents names classes groups groups′ joined
   pairs-sweep = record { swept = all-swept }
 
 -- the same, with the groups at first written into another list and read again
@@ -284,8 +284,8 @@ module _ {parents names groups old next work : List ℕ} (arrays : Arrays (lengt
           few = arrays .few-states;
           classes-size = classes-size;
           next-size = omega (arith, arrays .few-states);
-          cells =
-              linked-cells labelled linked-here (omega (arith, arrays .few-states))
+          targets =
+              linked-targets labelled linked-here (omega (arith, arrays .few-states))
               (omega arith) room;
         })
 

@@ -30,7 +30,7 @@ pub record Linked (i : ℕ) (parents names old next work : List ℕ) : Type 0 wh
   pub arc : (x a : ℕ) → bit a (getD next x 0) ≡ 1 → ArcOf i parents names old work x a
 
 -- the cells of the names in a set are groups that have a set
-pub record Cells (next work : List ℕ) : Type 0 where
+pub record Targets (next work : List ℕ) : Type 0 where
   pub few : length next ≤ state-limit
   pub room : work-bytes ≤ length work
   pub narrow : (x : ℕ) → getD next x 0 < 2 ^ name-limit
@@ -48,7 +48,7 @@ pub record Comparing (n : ℕ) (classes next work : List ℕ) : Type 0 where
   pub few : n ≤ state-limit
   pub classes-size : length classes ≡ n
   pub next-size : n ≤ length next
-  pub cells : Cells next work
+  pub targets : Targets next work
 
 -- u is compared with others of class b: it is a label of this class that m names in succession lead out of
 pub record Listed (m : ℕ) (classes old next work : List ℕ) (b u : ℕ) : Type 0 where
@@ -113,7 +113,7 @@ pub record PairsJoined (n x m : ℕ) (classes old next work groups groups′ : L
   pub none : joined ≡ false → groups′ ≡ groups
   pub some : joined ≡ true → sum groups′ < sum groups
 
--- the pairs of x with states before it are joined, and x is in its chain
+-- the pairs of x with states before it are joined, and x, where it is one to compare, is in its chain
 pub record LabelSwept
     (n x m : ℕ) (classes old next work groups links′ heads′ groups′ : List ℕ) (joined : Bool) : Type 0 where
   pub chained : Chained (x + 1) (Listed m classes old next work) links′ heads′

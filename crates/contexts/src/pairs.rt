@@ -15,7 +15,7 @@ ghost use Rattle.model.specs.Limits.{state-limit};
 ghost use Rattle.indexed.specs.Chains.{Chained};
 ghost use Rattle.indexed.specs.Trees.{Arrays};
 ghost use Rattle.indexed.specs.Partitions.{Labelled};
-ghost use Rattle.contexts.specs.Sweeps.{Linked, Cells, Common, Comparing, Listed, Falling};
+ghost use Rattle.contexts.specs.Sweeps.{Linked, Targets, Common, Comparing, Listed, Falling};
 ghost use Rattle.contexts.specs.Sweeps.{PairJoined, ChainJoined, PairsJoined, LabelSwept, SweptBy};
 
 // The class of a state with too few names.
@@ -44,7 +44,7 @@ fn link_arcs(parents: &[u16], names: &[u8], old: &[u16], next: &mut [u64], work:
 
 // Whether j names in succession lead out of both x and y.
 fn common(j: usize, x: usize, y: usize, next: &[u64], work: &[u8]) -> bool
-    requires cells { ⌜ Cells (now next) (now work) ⌝ }
+    requires targets { ⌜ Targets (now next) (now work) ⌝ }
     requires x_inside { ⌜ x < length (now next) ⌝ }
     requires y_inside { ⌜ y < length (now next) ⌝ }
     ensures { λ r. ⌜ (r ≡ true) ↔ Common (now (next .entry)) (now (work .entry)) j x y ⌝ }
@@ -65,7 +65,7 @@ fn common(j: usize, x: usize, y: usize, next: &[u64], work: &[u8]) -> bool
 
 // Joins x and y where m names in succession lead out of both; true where they were in two groups.
 fn join_pair(m: usize, x: usize, y: usize, next: &[u64], groups: &mut [u16], work: &[u8]) -> bool
-    requires cells { ⌜ Cells (now next) (now work) ⌝ }
+    requires targets { ⌜ Targets (now next) (now work) ⌝ }
     requires size { ⌜ length (now groups) ≤ length (now next) ⌝ }
     requires labelled { ⌜ Labelled (length (now groups)) (now groups) ⌝ }
     requires x_inside { ⌜ x < length (now groups) ⌝ }
@@ -93,7 +93,7 @@ fn join_chain(
     groups: &mut [u16],
     work: &[u8],
 ) -> bool
-    requires cells { ⌜ Cells (now next) (now work) ⌝ }
+    requires targets { ⌜ Targets (now next) (now work) ⌝ }
     requires size { ⌜ length (now groups) ≤ length (now next) ⌝ }
     requires links_size { ⌜ length (now groups) ≤ length (now links) ⌝ }
     requires labelled { ⌜ Labelled (length (now groups)) (now groups) ⌝ }

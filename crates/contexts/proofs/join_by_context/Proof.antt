@@ -90,11 +90,10 @@ run-rounds-requires c κs =
     let climbs = c .before .before .before .before .before in
     let start = climbs .before .before .before .before .before .before .before .before .before .before .before .before .before .before in
     let by = climbs .before .before .before .before .before .before .before .by-suffix in
-    let some : 0 < start .args .k - start .args .h = omega arith in
     let sum-is : start .args .h + (start .args .k - start .args .h) ≡ start .args .k = omega arith in (
       climbs-ready (length (start .args .groups .now)) (start .args .h) (start .args .k - start .args .h) (start .args .k)
           (start .args .parents .now) (start .args .names .now) (by .last .1 .1 .1 .0) (climbs .climb-starts .last .1 .1 .0)
-          (start .pre .0) (start .pre .1 .0) some sum-is (start .pre .1 .1 .1 .0) (by .ensures) (climbed-here climbs),
+          (start .pre .0) (start .pre .1 .0) sum-is (start .pre .1 .1 .1 .0) (by .ensures) (climbed-here climbs),
       omega (arith, by .kept .1 .1 .1 .1 .0, start .pre .1 .1 .1 .1),
     )
 

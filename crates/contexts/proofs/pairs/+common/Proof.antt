@@ -173,13 +173,13 @@ common-common-requires t c κs =
     let start = entry t turn in
     let name = trailingZeros 64 (turn .before .loop .left) in
     let leaves = name-leaves (turn .before .loop .inv) (some-left t turn) in
-    let cells = start .pre .1 .0 in (
+    let targets = start .pre .1 .0 in (
       omega (arith, start .pre .0, one-more t turn),
       (
-        cells,
+        targets,
         (
-          omega (arith, c .before .cell .ensures .value, cells .inside (start .args .x) name (leaves .0)),
-          omega (arith, c .cell2 .ensures .value, cells .inside (start .args .y) name (leaves .1)),
+          omega (arith, c .before .cell .ensures .value, targets .inside (start .args .x) name (leaves .0)),
+          omega (arith, c .cell2 .ensures .value, targets .inside (start .args .y) name (leaves .1)),
         ),
       ),
     )

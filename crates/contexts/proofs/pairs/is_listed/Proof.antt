@@ -36,7 +36,7 @@ common-requires c κs =
     let start = c .before .before .before .before .before .before .before .before .before in
     let ready = start .pre .0 in
     let inside : start .args .x < length (start .args .next .now) = omega (arith, ready .next-size, start .pre .1) in
-    (ready .cells, (inside, inside))
+    (ready .targets, (inside, inside))
 
 returns-3 : tie.Need-returns-3
 returns-3 c = (

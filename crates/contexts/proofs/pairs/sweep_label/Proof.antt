@@ -51,7 +51,7 @@ join-chain-requires c κs =
     let size = start .pre .1 .1 .1 .1 .0 in
     let links = start .args .links .now in
     let falls = chain-falls links (start .pre .1 .1 .1 .0) (class .wide16 .result) in (
-      ready .cells,
+      ready .targets,
       (
         omega (arith, size, ready .next-size),
         (
