@@ -21,18 +21,6 @@ use Rattle.contexts.specs.Climbs.{ClimbedBelow}
 use Rattle.contexts.specs.Rounds.{ContextSound, ForksJoined, RoundReady}
 use Rattle.contexts.proofs.ClimbLaws.{climbs-sound}
 
--- a list of which each element is its place
-pub own-all :
-    (out₀ out : List ℕ) → length out ≡ length out₀ → ((v : ℕ) → v < length out₀ → getD out v 0 ≡ v) →
-    out ≡ numbersFrom (length out₀) 0
-own-all out₀ out size own =
-    ext-getD 0 out (numbersFrom (length out₀) 0) (size ∙ sym (numbers-length (length out₀) 0)) each
-  where
-    each : (k : ℕ) → k < length out → getD out k 0 ≡ getD (numbersFrom (length out₀) 0) k 0
-    each k h =
-        let inside : k < length out₀ = omega (arith, size) in
-        own k inside ∙ sym (number-at (length out₀) k inside)
-
 -- the own numbers of a front
 pub own-front :
     (n : ℕ) (list out : List ℕ) → n ≤ length list → out ≡ numbersFrom (length (take n list)) 0 → out ≡ numbersFrom n 0

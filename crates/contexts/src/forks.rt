@@ -1,26 +1,12 @@
 // Forks closed: passes along the arcs until none joins, with the states' own numbers.
-use cells::numbers::narrow16;
 ghost use mathlib.Core.Path.{_≡_};
 ghost use Prim.Native.Nat.{_≤_};
 ghost use lib.ListN.{length};
 ghost use Rattle.cells.specs.Cells.{work-bytes};
-ghost use Rattle.model.specs.Limits.{state-limit};
 ghost use Rattle.model.specs.Lists.{numbersFrom};
 ghost use Rattle.indexed.specs.Trees.{Arrays};
 ghost use Rattle.indexed.specs.Partitions.{Labelled};
 ghost use Rattle.contexts.specs.Rounds.{ForksJoined};
-
-// Writes each state's own number.
-pub fn own(numbers: &mut [u16])
-    requires { ⌜ length (now numbers) ≤ state-limit ⌝ }
-    ensures { λ _. ⌜ now (numbers .exit) ≡ numbersFrom (length (now (numbers .entry))) 0 ⌝ }
-{
-    let mut v = 0;
-    while v < numbers.len() {
-        numbers[v] = narrow16(v);
-        v += 1;
-    }
-}
 
 // Joins until no group has arcs of one name to two groups.
 pub fn close_forks(

@@ -128,7 +128,7 @@ fn run_rounds(
 {
     let n = groups.len();
     let mut numbers = [0u16; STATE_LIMIT];
-    forks::own(&mut numbers[..n]);
+    partition::own(&mut numbers[..n]);
     close_contexts(h, m, parents, names, &numbers[..n], groups, work);
 }
 
