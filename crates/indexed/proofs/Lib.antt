@@ -14,3 +14,4 @@ pub mod Values
 pub mod ArcKeys
 pub mod Functions
 pub mod Closing
+pub mod Chains

@@ -4,3 +4,4 @@
 pub mod Trees
 pub mod Partitions
 pub mod Passes
+pub mod Chains
