@@ -1,66 +1,20 @@
 -- Laws of the partition at the start: the first accepting state of a class, a state's group, and the partition. Assumes nothing.
-use mathlib.Core.Path.{_≡_, refl, sym, ap, _∙_}
+use mathlib.Core.Path.{_≡_, refl, sym, ap, _∙_, subst}
 use mathlib.Core.Logic.{_⊎_, inl, inr}
-use mathlib.Core.Bool.{Bool, true, false, _&&_}
+use mathlib.Core.Bool.{Bool, true, false}
 use mathlib.Core.List.{List}
-use Prim.Native.Nat.{ℕ, _+_, _<_, _≤_}
+use Prim.Native.Nat.{ℕ, suc, _+_, _-_, _<_, _≤_}
 use native.Mathlib.Omega.{arith}
 use lib.Dec.{eqb}
-use lib.ListN.{length, getD}
+use lib.ListN.{length, getD, set, replicate, length-set, length-replicate}
+use lib.Seq.{getD-set-same, getD-set-other}
 use borrow.Author.Count.{below-more}
-use borrow.Author.Tests.{eqb-true, eqb-false, eq-eqb}
-use Rattle.indexed.specs.Partitions.{Labelled}
+use borrow.Author.Tests.{eqb-true, eqb-false}
+use Rattle.model.specs.Limits.{state-limit}
 use Rattle.indexed.specs.Passes.{ByEnds}
-use Rattle.functions.specs.Parts.{FirstEnd, EndLabel}
-use Rattle.functions.proofs.FillLaws.{Filled}
-
--- no accepting state of the class of v stands before u
-abbrev pub NoEnd : List ℕ → List ℕ → ℕ → ℕ → Type 0
-NoEnd accepts classes v u = (k : ℕ) → k < u → getD accepts k 0 ≡ 1 → getD classes k 0 ≡ getD classes v 0 → ⊥
-
--- none stands before the class's label
-pub no-end-start :
-    (n : ℕ) (accepts classes : List ℕ) (v u : ℕ) → Labelled n classes → v < n → u ≡ getD classes v 0 → NoEnd accepts classes v u
-no-end-start n accepts classes v u labelled inside is k h accepting alike =
-    let low-v : getD classes v 0 ≤ v = labelled .low v inside in
-    let below : k < n = omega arith in
-    omega (arith, labelled .low k below)
-
-pub both-true : (a b : Bool) → a && b ≡ true → (a ≡ true) × (b ≡ true)
-both-true true b e = (refl, e)
-both-true false b e = let z : _≡_ {A = ℕ} 0 1 = cc in absurd (omega arith)
-
-pub no-end-more :
-    (accepts classes : List ℕ) (v u : ℕ) → NoEnd accepts classes v u →
-    eqb (getD accepts u 0) 1 && eqb (getD classes u 0) (getD classes v 0) ≡ false → NoEnd accepts classes v (u + 1)
-no-end-more accepts classes v u none fails =
-    below-more (λ (k : ℕ). getD accepts k 0 ≡ 1 → getD classes k 0 ≡ getD classes v 0 → ⊥) u none
-    (λ accepting alike. clash accepting alike)
-  where
-    clash : getD accepts u 0 ≡ 1 → getD classes u 0 ≡ getD classes v 0 → ⊥
-    clash accepting alike =
-        let first : eqb (getD accepts u 0) 1 ≡ true = eq-eqb (getD accepts u 0) 1 accepting in
-        let second : eqb (getD classes u 0) (getD classes v 0) ≡ true = eq-eqb (getD classes u 0) (getD classes v 0) alike in
-        let holds : eqb (getD accepts u 0) 1 && eqb (getD classes u 0) (getD classes v 0) ≡ true = rw (first, second) in
-        let z : _≡_ {A = ℕ} 0 1 = cc in
-        omega arith
-
-pub end-found :
-    (accepts classes : List ℕ) (v u : ℕ) → u < v → eqb (getD accepts u 0) 1 && eqb (getD classes u 0) (getD classes v 0) ≡ true →
-    NoEnd accepts classes v u → FirstEnd accepts classes v u
-end-found accepts classes v u lower holds none =
-    let both = both-true (eqb (getD accepts u 0) 1) (eqb (getD classes u 0) (getD classes v 0)) holds in
-    record {
-      low = omega arith;
-      accepting = eqb-true (getD accepts u 0) 1 (both .0);
-      alike = eqb-true (getD classes u 0) (getD classes v 0) (both .1);
-      first = none;
-    }
-
-pub end-itself :
-    (accepts classes : List ℕ) (v u : ℕ) → v ≤ u → getD accepts v 0 ≡ 1 → NoEnd accepts classes v u → FirstEnd accepts classes v v
-end-itself accepts classes v u all accepting none =
-    record { low = omega arith; accepting = accepting; alike = refl; first = λ k h. none k (omega arith) }
+use Rattle.indexed.proofs.Chains.{heads-none}
+use Rattle.functions.specs.Parts.{FirstEnd, Firsts, EndLabel}
+use Rattle.partition.proofs.FillLaws.{Filled}
 
 -- a state's group, where it accepts and where not
 pub label-end :
@@ -69,6 +23,111 @@ label-end accepts classes v x accepting first = record { end = λ e. first; othe
 
 pub label-other : (accepts classes : List ℕ) (v : ℕ) → (getD accepts v 0 ≡ 1 → ⊥) → EndLabel accepts classes v v
 label-other accepts classes v d = record { end = λ e. absurd (d e); other = λ d. refl }
+
+-- no state yet
+pub firsts-none : (accepts classes : List ℕ) → Firsts accepts classes 0 (replicate 512 0)
+firsts-none accepts classes =
+    record {
+      size = length-replicate {A = ℕ} 512 0;
+      none = λ class e u h. absurd (omega arith);
+      some = λ class u e. absurd (omega (arith, heads-none 512 class));
+    }
+
+-- one state more: it does not accept; its class has an accepting state; it is the first of its class
+module _ (accepts classes firsts : List ℕ) (v : ℕ) (so-far : Firsts accepts classes v firsts) where
+  later :
+      (class u : ℕ) → getD firsts class 0 ≡ suc u → (getD classes u 0 ≡ class) × (u < v + 1) × FirstEnd accepts classes u u
+  later class u e =
+      let before = so-far .some class u e in
+      (before .0, omega (arith, before .1), before .2)
+
+  pub firsts-skip : (getD accepts v 0 ≡ 1 → ⊥) → Firsts accepts classes (v + 1) firsts
+  firsts-skip refuses =
+      record {
+        size = so-far .size;
+        none = λ class e. below-more (λ (u : ℕ). getD accepts u 0 ≡ 1 → getD classes u 0 ≡ class → ⊥) v (so-far .none class e)
+            (λ accepting alike. refuses accepting);
+        some = later;
+      }
+
+  module _ (class first : ℕ) (accepting : getD accepts v 0 ≡ 1) (class-is : class ≡ getD classes v 0) (first-is : first ≡ getD firsts class 0)
+    where
+      pub firsts-found : 0 < first → FirstEnd accepts classes v (first - 1) × Firsts accepts classes (v + 1) firsts
+      firsts-found some = (
+        record {
+          low = omega (arith, there .1);
+          accepting = there .2 .accepting;
+          alike = there .0 ∙ class-is;
+          first = λ k h a e. there .2 .first k h a (e ∙ sym (there .0 ∙ class-is));
+        },
+        record {
+          size = so-far .size;
+          none = λ other e. below-more (λ (u : ℕ). getD accepts u 0 ≡ 1 → getD classes u 0 ≡ other → ⊥) v (so-far .none other e)
+              (λ a alike. clash other e alike);
+          some = later;
+        },
+      )
+        where
+          at : getD firsts class 0 ≡ suc (first - 1)
+          at = omega arith
+
+          there : (getD classes (first - 1) 0 ≡ class) × (first - 1 < v) × FirstEnd accepts classes (first - 1) (first - 1)
+          there = so-far .some class (first - 1) at
+
+          clash : (other : ℕ) → getD firsts other 0 ≡ 0 → getD classes v 0 ≡ other → ⊥
+          clash other e alike =
+              let same : getD firsts class 0 ≡ getD firsts other 0 = ap (λ (x : ℕ). getD firsts x 0) (class-is ∙ alike) in
+              omega arith
+
+      pub firsts-begun :
+          (x : ℕ) → first ≤ 0 → class < state-limit → x ≡ v + 1 →
+          FirstEnd accepts classes v v × Firsts accepts classes (v + 1) (set firsts class x)
+      firsts-begun x no-first small x-is = (
+        itself,
+        record {
+          size = length-set firsts class x ∙ so-far .size;
+          none = λ other. none other (eqb other class) refl;
+          some = λ other u. some other u (eqb other class) refl;
+        },
+      )
+        where
+          empty : getD firsts class 0 ≡ 0
+          empty = omega arith
+
+          itself : FirstEnd accepts classes v v
+          itself =
+              record {
+                low = omega arith;
+                accepting = accepting;
+                alike = refl;
+                first = λ k h a e. so-far .none class empty k h a (e ∙ sym class-is);
+              }
+
+          at-class : (other : ℕ) → eqb other class ≡ true → getD (set firsts class x) other 0 ≡ v + 1
+          at-class other e =
+              let inside : class < length firsts = omega (arith, so-far .size) in
+              ap (λ (y : ℕ). getD (set firsts class x) y 0) (eqb-true other class e) ∙ getD-set-same firsts class x 0 inside ∙ x-is
+
+          at-other : (other : ℕ) → eqb other class ≡ false → getD (set firsts class x) other 0 ≡ getD firsts other 0
+          at-other other e = getD-set-other firsts class other x 0 (eqb-false other class e)
+
+          none :
+              (other : ℕ) (b : Bool) → eqb other class ≡ b → getD (set firsts class x) other 0 ≡ 0 → (u : ℕ) → u < v + 1 →
+              getD accepts u 0 ≡ 1 → getD classes u 0 ≡ other → ⊥
+          none other true e q u h a alike = omega (arith, at-class other e)
+          none other false e q u h a alike =
+              below-more (λ (u : ℕ). getD accepts u 0 ≡ 1 → getD classes u 0 ≡ other → ⊥) v
+              (so-far .none other (sym (at-other other e) ∙ q))
+              (λ a′ alike′. eqb-false other class e (sym (class-is ∙ alike′))) u h a alike
+
+          some :
+              (other u : ℕ) (b : Bool) → eqb other class ≡ b → getD (set firsts class x) other 0 ≡ suc u →
+              (getD classes u 0 ≡ other) × (u < v + 1) × FirstEnd accepts classes u u
+          some other u true e q =
+              let here : v ≡ u = omega (arith, at-class other e) in
+              subst (λ (w : ℕ). (getD classes w 0 ≡ other) × (w < v + 1) × FirstEnd accepts classes w w) here
+              (sym (eqb-true other class e ∙ class-is), omega arith, itself)
+          some other u false e q = later other u (sym (at-other other e) ∙ q)
 
 pub label-low : (accepts classes : List ℕ) (v x : ℕ) → EndLabel accepts classes v x → x ≤ v
 label-low accepts classes v x at = go (eqb (getD accepts v 0) 1) refl

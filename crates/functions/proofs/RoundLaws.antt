@@ -11,16 +11,8 @@ use Rattle.indexed.specs.Passes.{Passed, ByEnds}
 use Rattle.indexed.proofs.Keys.{number-at, numbers-length}
 use Rattle.indexed.proofs.Suffixes.{parent-below}
 use Rattle.partition.specs.Steps.{Ready}
-use Rattle.partition.proofs.StepLaws.{no-truth, no-falsehood}
+use Rattle.partition.proofs.StepLaws.{no-truth, no-falsehood, or-first, or-second}
 use Rattle.functions.specs.Rounds.{RoundReady, RoundClosed, Joining, JoinedUntil, FinishReady, Finished}
-
-or-first : (a b : Bool) → a || b ≡ false → a ≡ false
-or-first true b e = e
-or-first false b e = refl
-
-or-second : (a b : Bool) → a || b ≡ false → b ≡ false
-or-second true b e = absurd (no-falsehood e)
-or-second false b e = e
 
 module _ (n : ℕ) (parents names numbers keys more groups : List ℕ) (ready : RoundReady n parents names numbers keys more groups) where
   numbers-size : length numbers ≡ n

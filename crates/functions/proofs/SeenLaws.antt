@@ -1,5 +1,4 @@
--- Laws of seen sets: one name more, sets filled in from the root on, the first state with a set, and classes of states with the same
--- set. Assumes nothing.
+-- Laws of seen sets: one name more, sets filled in from the root on, and classes of states with the same set. Assumes nothing.
 use mathlib.Core.Path.{_≡_, refl, sym, ap, _∙_, subst}
 use mathlib.Core.List.{List}
 use Prim.Native.Nat.{ℕ, _+_, _*_, _%_, _^_, _<_, _≤_}
@@ -14,7 +13,7 @@ use Rattle.model.specs.Limits.{name-limit}
 use Rattle.indexed.specs.Trees.{Arrays}
 use Rattle.indexed.specs.Passes.{SeenSets, BySeen}
 use Rattle.functions.specs.Parts.{SeenAt, FirstSeen}
-use Rattle.functions.proofs.FillLaws.{Filled}
+use Rattle.partition.proofs.FillLaws.{Filled}
 
 -- one bit more: the shift loses nothing
 pub with-bit : (seen name : ℕ) → name < name-limit → bitOr seen ((1 * 2 ^ name) % 2 ^ 64) ≡ bitOr seen (2 ^ name)
@@ -85,16 +84,6 @@ seen-all parents names i seen₀ seen arrays all so-far =
       root-seen = so-far .done 0 (omega (arith, arrays .some-state)) .root refl;
       arc-seen = λ v p h. so-far .done v (omega arith) .arc p;
     }
-
--- the search among earlier states: found, and not found
-pub first-found :
-    (seen : List ℕ) (v u : ℕ) → u < v → getD seen u 0 ≡ getD seen v 0 →
-    ((k : ℕ) → k < u → getD seen k 0 ≡ getD seen v 0 → ⊥) → FirstSeen seen v u
-first-found seen v u lower alike none = record { low = omega arith; alike = alike; first = none }
-
-pub first-itself :
-    (seen : List ℕ) (v u : ℕ) → v ≤ u → ((k : ℕ) → k < u → getD seen k 0 ≡ getD seen v 0 → ⊥) → FirstSeen seen v v
-first-itself seen v u all none = record { low = omega arith; alike = refl; first = λ k h. none k (omega arith) }
 
 -- first states of equal sets are equal
 first-same : (seen : List ℕ) (v w x y : ℕ) → getD seen v 0 ≡ getD seen w 0 → FirstSeen seen v x → FirstSeen seen w y → x ≡ y

@@ -1,13 +1,13 @@
--- What the parts promise: an ancestor, the key and the set of one state, the first state with a seen set, the first accepting
--- state of a class. Assumes nothing.
+-- What the parts promise: an ancestor, the key and the set of one state, the first state with a seen set and the lists in which it
+-- is sought, the first accepting state of a class. Assumes nothing.
 use mathlib.Core.Path.{_≡_}
 use mathlib.Core.Bool.{Bool, cond, Bool·beq}
 use mathlib.Core.List.{List}
-use Prim.Native.Nat.{ℕ, _^_, _<_, _≤_}
-use lib.Bits.{bitOr}
+use Prim.Native.Nat.{ℕ, suc, _+_, _/_, _%_, _^_, _<_, _≤_}
+use lib.Bits.{bitOr, bitXor}
 use lib.Dec.{eqb}
-use lib.ListN.{getD}
-use Rattle.model.specs.Limits.{name-limit}
+use lib.ListN.{length, getD, set}
+use Rattle.model.specs.Limits.{name-limit, state-limit}
 use Rattle.indexed.specs.Trees.{up}
 
 -- the j-th ancestor of v among n states
@@ -27,6 +27,23 @@ pub record SeenAt (parents names seen : List ℕ) (v answer : ℕ) : Type 0 wher
   pub root : v ≡ 0 → answer ≡ 0
   pub arc : 0 < v → answer ≡ bitOr (getD seen (getD parents v 0) 0) (2 ^ getD names v 0)
 
+-- a number's bits from the k-th on laid over its lowest
+abbrev folded : ℕ → ℕ → ℕ
+folded x k = bitXor x (x / 2 ^ k)
+
+-- the bucket of a set, below 512. Only that equal sets have one bucket is used
+unfoldable pub bucketOf : ℕ → ℕ
+bucketOf seen = folded (folded (folded seen 32) 16) 9 % state-limit
+
+-- the states in the list of a bucket: each is the first with its set
+abbrev pub Listed : List ℕ → ℕ → ℕ → Type 0
+Listed seen b u = (bucketOf (getD seen u 0) ≡ b) × ((k : ℕ) → k < u → getD seen k 0 ≡ getD seen u 0 → ⊥)
+
+-- state v put at the end of list b where it is the first with its set, else nothing
+pub record Linked (b v first : ℕ) (links heads links′ heads′ : List ℕ) : Type 0 where
+  pub pushed : first ≡ v → (links′ ≡ set links v (getD heads b 0)) × (heads′ ≡ set heads b (v + 1))
+  pub kept : (first ≡ v → ⊥) → (links′ ≡ links) × (heads′ ≡ heads)
+
 -- the first state with the set of v
 pub record FirstSeen (seen : List ℕ) (v answer : ℕ) : Type 0 where
   pub low : answer ≤ v
@@ -39,6 +56,13 @@ pub record FirstEnd (accepts classes : List ℕ) (v answer : ℕ) : Type 0 where
   pub accepting : getD accepts answer 0 ≡ 1
   pub alike : getD classes answer 0 ≡ getD classes v 0
   pub first : (u : ℕ) → u < answer → getD accepts u 0 ≡ 1 → getD classes u 0 ≡ getD classes v 0 → ⊥
+
+-- for each class the first accepting state of it among the first i, plus one; 0 where there is none
+pub record Firsts (accepts classes : List ℕ) (i : ℕ) (firsts : List ℕ) : Type 0 where
+  pub size : length firsts ≡ state-limit
+  pub none :
+      (class : ℕ) → getD firsts class 0 ≡ 0 → (u : ℕ) → u < i → getD accepts u 0 ≡ 1 → getD classes u 0 ≡ class → ⊥
+  pub some : (class u : ℕ) → getD firsts class 0 ≡ suc u → (getD classes u 0 ≡ class) × (u < i) × FirstEnd accepts classes u u
 
 -- the group of v at the start: that state where v accepts, v itself otherwise
 pub record EndLabel (accepts classes : List ℕ) (v answer : ℕ) : Type 0 where

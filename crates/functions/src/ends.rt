@@ -1,42 +1,34 @@
 // The partition at the start: accepting states of one class are joined, every other state is by itself.
+use crate::STATE_LIMIT;
 use cells::numbers;
 ghost use mathlib.Core.Path.{_≡_};
-ghost use Prim.Native.Nat.{_<_, _≤_};
-ghost use lib.ListN.{length, getD};
+ghost use Prim.Native.Nat.{_+_, _<_, _≤_};
+ghost use lib.ListN.{length};
 ghost use Rattle.model.specs.Limits.{state-limit};
 ghost use Rattle.indexed.specs.Partitions.{Labelled};
 ghost use Rattle.indexed.specs.Passes.{ByEnds};
-ghost use Rattle.functions.specs.Parts.{FirstEnd, EndLabel};
+ghost use Rattle.functions.specs.Parts.{Firsts, EndLabel};
 
-// The first accepting state of an accepting state's class: none of the class stands before the class's label.
-fn first_end(accepts: &[u8], classes: &[u16], v: usize) -> usize
+// A state's group at the start, by the first accepting states of the classes so far; an accepting state whose class has none
+// becomes it.
+fn end_label(accepts: &[u8], classes: &[u16], firsts: &mut [u16; STATE_LIMIT], v: usize) -> usize
+    requires few { ⌜ length (now classes) ≤ state-limit ⌝ }
     requires accepts_size { ⌜ length (now accepts) ≡ length (now classes) ⌝ }
     requires labelled { ⌜ Labelled (length (now classes)) (now classes) ⌝ }
     requires inside { ⌜ v < length (now classes) ⌝ }
-    requires accepting { ⌜ getD (now accepts) v 0 ≡ 1 ⌝ }
-    ensures { λ r. ⌜ FirstEnd (now (accepts .entry)) (now (classes .entry)) v r ⌝ }
+    requires so_far { ⌜ Firsts (now accepts) (now classes) v (now firsts) ⌝ }
+    ensures label { λ r. ⌜ EndLabel (now (accepts .entry)) (now (classes .entry)) v r ⌝ }
+    ensures with_it { λ _. ⌜ Firsts (now (accepts .entry)) (now (classes .entry)) (v + 1) (now (firsts .exit)) ⌝ }
 {
-    let class = classes[v];
-    let mut u = numbers::wide16(class);
-    while u < v {
-        if (accepts[u] == 1) & (classes[u] == class) {
-            return u;
-        }
-        u += 1;
+    if accepts[v] != 1 {
+        return v;
     }
-    v
-}
-
-// A state's group at the start.
-fn end_label(accepts: &[u8], classes: &[u16], v: usize) -> usize
-    requires accepts_size { ⌜ length (now accepts) ≡ length (now classes) ⌝ }
-    requires labelled { ⌜ Labelled (length (now classes)) (now classes) ⌝ }
-    requires inside { ⌜ v < length (now classes) ⌝ }
-    ensures { λ r. ⌜ EndLabel (now (accepts .entry)) (now (classes .entry)) v r ⌝ }
-{
-    if accepts[v] == 1 {
-        return first_end(accepts, classes, v);
+    let class = numbers::wide16(classes[v]);
+    let first = numbers::wide16(firsts[class]);
+    if 0 < first {
+        return first - 1;
     }
+    firsts[class] = numbers::narrow16(v + 1);
     v
 }
 
@@ -47,9 +39,11 @@ pub fn by_ends(accepts: &[u8], classes: &[u16], groups: &mut [u16])
     requires labelled { ⌜ Labelled (length (now groups)) (now classes) ⌝ }
     ensures { λ _. ⌜ ByEnds (length (now (groups .entry))) (now (accepts .entry)) (now (classes .entry)) (now (groups .exit)) ⌝ }
 {
+    let mut firsts = [0u16; STATE_LIMIT];
     let mut v = 0;
     while v < groups.len() {
-        groups[v] = numbers::narrow16(end_label(accepts, classes, v));
+        let label = end_label(accepts, classes, &mut firsts, v);
+        groups[v] = numbers::narrow16(label);
         v += 1;
     }
 }

@@ -1,29 +1,16 @@
-// Keys of arcs for passes against them: the states' own numbers, names further up, and names by whether the seen set grows.
+// Keys of arcs for passes against them: names further up, and names by whether the seen set grows.
 use cells::numbers;
 ghost use mathlib.Core.Path.{_≡_};
 ghost use mathlib.Core.Bool.{cond, Bool·beq};
-ghost use Prim.Native.Nat.{_<_, _≤_};
+ghost use Prim.Native.Nat.{_<_};
 ghost use lib.ListN.{length};
-ghost use Rattle.model.specs.Limits.{name-limit, state-limit};
-ghost use Rattle.model.specs.Lists.{numbersFrom};
+ghost use Rattle.model.specs.Limits.{name-limit};
 ghost use Rattle.indexed.specs.Trees.{Arrays};
 ghost use Rattle.indexed.specs.Passes.{NamesAbove, KeysWhere};
 ghost use Rattle.functions.specs.Parts.{Ancestor, KeyAt};
 
 // A key of this or more is none.
 const NAME_LIMIT: u8 = 64;
-
-// Writes each state's own number.
-pub fn own(numbers: &mut [u16])
-    requires { ⌜ length (now numbers) ≤ state-limit ⌝ }
-    ensures { λ _. ⌜ now (numbers .exit) ≡ numbersFrom (length (now (numbers .entry))) 0 ⌝ }
-{
-    let mut v = 0;
-    while v < numbers.len() {
-        numbers[v] = numbers::narrow16(v);
-        v += 1;
-    }
-}
 
 // The j-th ancestor of a state.
 fn ancestor(j: usize, parents: &[u16], names: &[u8], v: usize) -> usize

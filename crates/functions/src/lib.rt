@@ -13,6 +13,9 @@ ghost use Rattle.indexed.specs.Trees.{Arrays};
 ghost use Rattle.cells.specs.Cells.{work-bytes};
 ghost use Rattle.functions.specs.Results.{JoinReady, JoinedByLast, JoinedBySeen};
 
+// No partition has more states.
+pub const STATE_LIMIT: usize = 512;
+
 // Joins by the last j names, with room lent for the classes, the keys and the states' own numbers; `none` has no keys.
 fn join_last_in(
     j: usize,
@@ -68,10 +71,10 @@ pub fn join_by_last(
         (now (groups .exit)) ⌝ }
 {
     let n = groups.len();
-    let none = [64u8; 512];
-    let mut classes = [0u16; 512];
-    let mut keys = [0u8; 512];
-    let mut numbers = [0u16; 512];
+    let none = [64u8; STATE_LIMIT];
+    let mut classes = [0u16; STATE_LIMIT];
+    let mut keys = [0u8; STATE_LIMIT];
+    let mut numbers = [0u16; STATE_LIMIT];
     join_last_in(
         j,
         parents,
@@ -140,11 +143,11 @@ pub fn join_by_seen(
         (now (groups .exit)) ⌝ }
 {
     let n = groups.len();
-    let mut sets = [0u64; 512];
-    let mut classes = [0u16; 512];
-    let mut enlarging = [0u8; 512];
-    let mut others = [0u8; 512];
-    let mut numbers = [0u16; 512];
+    let mut sets = [0u64; STATE_LIMIT];
+    let mut classes = [0u16; STATE_LIMIT];
+    let mut enlarging = [0u8; STATE_LIMIT];
+    let mut others = [0u8; STATE_LIMIT];
+    let mut numbers = [0u16; STATE_LIMIT];
     join_seen_in(
         parents,
         names,

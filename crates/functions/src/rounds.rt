@@ -1,6 +1,5 @@
 // Rounds of passes, forks first and then against the arcs, until none joins.
 use crate::ends;
-use crate::keys;
 ghost use mathlib.Core.Path.{_≡_};
 ghost use Prim.Native.Nat.{_≤_};
 ghost use lib.ListN.{length};
@@ -75,7 +74,7 @@ pub fn finish(
         ⌜ Finished (length (now (groups .entry))) (now (parents .entry)) (now (names .entry)) (now (accepts .entry))
         (now (classes .entry)) (now (keys .entry)) (now (more .entry)) (now (groups .exit)) ⌝ }
 {
-    keys::own(numbers);
+    partition::own(numbers);
     ends::by_ends(accepts, classes, groups);
     close(parents, names, numbers, keys, more, groups, work);
 }

@@ -9,7 +9,7 @@ use borrow.Author.Count.{below-more}
 use Rattle.indexed.specs.Partitions.{Refines, Labelled, KeyClosed, sum}
 use Rattle.indexed.specs.Passes.{Passed}
 use Rattle.partition.specs.Steps.{Ready, Settled, PassedAt}
-use Rattle.partition.proofs.StepLaws.{no-truth, no-falsehood, settled-closed}
+use Rattle.partition.proofs.StepLaws.{no-truth, or-first, or-second, settled-closed}
 
 -- after i turns, each at the state that its number gives
 pub record PassedTo (n i : ℕ) (down : Bool) (ins outs keys groups₀ groups work : List ℕ) (joined : Bool) : Type 0 where
@@ -72,21 +72,13 @@ module _ (n : ℕ) (down : Bool) (ins outs keys groups₀ : List ℕ) (ready : R
         labelled = at .labelled;
         coarser = λ a b ha hb e. at .coarser a b ha hb (so-far .coarser a b ha hb e);
         sound = λ others closed refines. at .sound others closed (so-far .sound others closed refines);
-        none = λ e. at .none (second joined joins e) ∙ so-far .none (first joined joins e);
+        none = λ e. at .none (or-second joined joins e) ∙ so-far .none (or-first joined joins e);
         some = some-of joined joins refl refl;
-        settled = λ e. settled-of (first joined joins e) (second joined joins e);
+        settled = λ e. settled-of (or-first joined joins e) (or-second joined joins e);
       }
     where
       at : PassedAt n ins outs keys groups groups′ work work′ (cond down (n - 1 - i) i) joins
       at = subst₂ (λ (l u : ℕ). PassedAt l ins outs keys groups groups′ work work′ u joins) size turn passed-at
-
-      first : (a b : Bool) → a || b ≡ false → a ≡ false
-      first true b e = e
-      first false b e = refl
-
-      second : (a b : Bool) → a || b ≡ false → b ≡ false
-      second true b e = absurd (no-falsehood e)
-      second false b e = e
 
       some-of : (a b : Bool) → joined ≡ a → joins ≡ b → a || b ≡ true → sum groups′ < sum groups₀
       some-of true true p q e = omega (arith, so-far .some p, at .some q)

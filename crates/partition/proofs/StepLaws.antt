@@ -1,7 +1,7 @@
 -- Laws of one turn of a pass: a state without a key; a cell whose state is believed; a cell that is overwritten. Then: where every
 -- state is settled, the partition is closed. Assumes nothing.
-use mathlib.Core.Path.{_≡_, refl, sym, ap, ap₂, _∙_, subst, subst₂}
-use mathlib.Core.Bool.{Bool, true, false, _&&_}
+use mathlib.Core.Path.{_≡_, refl, sym, ap, ap₂, _∙_, subst}
+use mathlib.Core.Bool.{Bool, true, false, _&&_, _||_}
 use mathlib.Core.List.{List}
 use Prim.Native.Nat.{ℕ, _<_, _≤_}
 use native.Mathlib.Omega.{arith}
@@ -9,17 +9,24 @@ use lib.Dec.{eqb}
 use lib.ListN.{length, getD}
 use borrow.Author.Tests.{eqb-true, eq-eqb}
 use Rattle.model.specs.Limits.{name-limit}
-use Rattle.indexed.specs.Partitions.{Refines, KeyClosed}
+use Rattle.indexed.specs.Partitions.{KeyClosed}
 use Rattle.cells.specs.Cells.{work-bytes, cellAt, withCell}
 use Rattle.cells.proofs.CellLaws.{cell-same, cell-other}
-use Rattle.partition.specs.Joins.{JoinedTwo}
-use Rattle.partition.specs.Steps.{Ready, Believed, Judged, Settled, PassedAt, rowOf, cellOf}
+use Rattle.partition.specs.Steps.{Ready, Believed, Judged, Matched, Climbed, Settled, PassedAt, rowOf, cellOf}
 
 pub no-truth : false ≡ true → ⊥
 no-truth e = let z : _≡_ {A = ℕ} 0 1 = cc in omega arith
 
 pub no-falsehood : true ≡ false → ⊥
 no-falsehood e = let z : _≡_ {A = ℕ} 0 1 = cc in omega arith
+
+pub or-first : (a b : Bool) → a || b ≡ false → a ≡ false
+or-first true b e = e
+or-first false b e = refl
+
+pub or-second : (a b : Bool) → a || b ≡ false → b ≡ false
+or-second true b e = absurd (no-falsehood e)
+or-second false b e = e
 
 -- the test of a cell's state, where the state is none, and otherwise
 pub judged-outside :
@@ -62,44 +69,23 @@ module _ (n : ℕ) (ins outs keys groups work : List ℕ) (v : ℕ) (ready : Rea
         kept = λ e u h s. s;
       }
 
-  -- the cell's state is believed, and outs of both are joined
-  pub passed-join :
-      (groups′ : List ℕ) (joined : Bool) (row c left right : ℕ) → getD keys v 0 < name-limit → row ≡ rowOf ins groups v →
-      c ≡ cellOf ins keys groups work v → Believed n ins keys groups row (getD keys v 0) c → left ≡ getD outs c 0 →
-      right ≡ getD outs v 0 → JoinedTwo n left right groups groups′ joined →
-      PassedAt n ins outs keys groups groups′ work work v joined
-  passed-join groups′ joined row c left right small row-is is trusted left-is right-is joined-two =
+  -- the cell's state is believed, and the two are climbed from
+  pub passed-climb :
+      (groups′ : List ℕ) (joined : Bool) (c : ℕ) → c ≡ cellOf ins keys groups work v → Matched n ins keys groups c v →
+      Climbed n ins outs keys groups groups′ c v joined → PassedAt n ins outs keys groups groups′ work work v joined
+  passed-climb groups′ joined c is matched climbed =
       record {
-        labelled = two .labelled;
-        coarser = two .coarser;
-        sound = λ others closed refines. two .sound others (one-in others closed refines) refines;
-        none = two .none;
-        some = two .some;
+        labelled = climbed .labelled;
+        coarser = climbed .coarser;
+        sound = climbed .sound;
+        none = climbed .none;
+        some = climbed .some;
         settled = λ e. record {
-          believed = λ h. subst (Believed n ins keys groups (rowOf ins groups v) (getD keys v 0)) is believed;
-          one = λ h. subst (λ (x : ℕ). getD groups (getD outs x 0) 0 ≡ getD groups (getD outs v 0) 0) is (together-if e);
+          believed = λ h. subst (Believed n ins keys groups (rowOf ins groups v) (getD keys v 0)) is (matched .believed);
+          one = λ h. subst (λ (x : ℕ). getD groups (getD outs x 0) 0 ≡ getD groups (getD outs v 0) 0) is (climbed .one e);
         };
         kept = λ e u h s. s;
       }
-    where
-      believed : Believed n ins keys groups (rowOf ins groups v) (getD keys v 0) c
-      believed = subst (λ (x : ℕ). Believed n ins keys groups x (getD keys v 0) c) row-is trusted
-
-      two : JoinedTwo n (getD outs c 0) (getD outs v 0) groups groups′ joined
-      two = subst₂ (λ (a b : ℕ). JoinedTwo n a b groups groups′ joined) left-is right-is joined-two
-
-      one-in :
-          (others : List ℕ) → KeyClosed n ins outs keys others → Refines n groups others →
-          getD others (getD outs c 0) 0 ≡ getD others (getD outs v 0) 0
-      one-in others closed refines =
-          let below : getD keys c 0 < name-limit = omega (arith, believed .keyed) in
-          closed c v (believed .inside) inside below (believed .keyed)
-          (refines (getD ins c 0) (getD ins v 0) (ready .ins-below c (believed .inside)) (ready .ins-below v inside)
-          (believed .led))
-
-      together-if : joined ≡ false → getD groups (getD outs c 0) 0 ≡ getD groups (getD outs v 0) 0
-      together-if e =
-          subst (λ (l : List ℕ). getD l (getD outs c 0) 0 ≡ getD l (getD outs v 0) 0) (two .none e) (two .together)
 
   -- a row is a group of the partition
   pub row-below : (u : ℕ) → u < n → rowOf ins groups u < n

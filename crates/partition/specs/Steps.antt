@@ -1,6 +1,6 @@
--- What a pass along arcs with keys needs, and what its turn at one state promises. The working area holds a cell for each row, a
--- group, and each column, a key; what a cell holds counts only where it is believed, so the area may hold anything at the start.
--- Assumes nothing.
+-- What a pass along arcs with keys needs, and what its turn at one state and its climb from two states promise. The working area
+-- holds a cell for each row, a group, and each column, a key; what a cell holds counts only where it is believed, so the area may
+-- hold anything at the start. Assumes nothing.
 use mathlib.Core.Path.{_≡_}
 use mathlib.Core.Bool.{Bool, true, false}
 use mathlib.Core.List.{List}
@@ -34,6 +34,21 @@ pub record Judged (n : ℕ) (ins keys groups : List ℕ) (row key c : ℕ) (answ
 -- the row of a state: the group that ins lead into
 abbrev pub rowOf : List ℕ → List ℕ → ℕ → ℕ
 rowOf ins groups v = getD groups (getD ins v 0) 0
+
+-- the pass joins outs of c and of v: both have one key, and ins lead from both into one group
+pub record Matched (n : ℕ) (ins keys groups : List ℕ) (c v : ℕ) : Type 0 where
+  pub inside : v < n
+  pub keyed : getD keys v 0 < name-limit
+  pub believed : Believed n ins keys groups (rowOf ins groups v) (getD keys v 0) c
+
+-- outs of c and of v joined, then outs of these where they are matched too, and so on as long as two groups are made one
+pub record Climbed (n : ℕ) (ins outs keys groups groups′ : List ℕ) (c v : ℕ) (joined : Bool) : Type 0 where
+  pub labelled : Labelled n groups′
+  pub coarser : Refines n groups groups′
+  pub sound : (others : List ℕ) → KeyClosed n ins outs keys others → Refines n groups others → Refines n groups′ others
+  pub none : joined ≡ false → groups′ ≡ groups
+  pub some : joined ≡ true → sum groups′ < sum groups
+  pub one : joined ≡ false → getD groups (getD outs c 0) 0 ≡ getD groups (getD outs v 0) 0
 
 -- the cell of a state
 abbrev pub cellOf : List ℕ → List ℕ → List ℕ → List ℕ → ℕ → ℕ

@@ -1,13 +1,14 @@
--- `pass_at` meets its contract: one law for each answer. Facts about the row, the cell and the states to join first, each at the
+-- `pass_at` meets its contract: one law for each answer. Facts about the row, the cell and its state first, each at the
 -- place where it becomes known. Assumes nothing.
 use mathlib.Core.Path.{_≡_, sym, ap, ap₂, _∙_, subst}
-use Prim.Native.Nat.{ℕ, _<_, _≤_}
+use Prim.Native.Nat.{ℕ, _<_}
 use native.Mathlib.Omega.{arith}
 use lib.ListN.{length, getD}
 use Rattle.model.specs.Limits.{name-limit}
-use Rattle.cells.specs.Cells.{row-count, column-count, work-bytes, cellAt}
-use Rattle.partition.specs.Steps.{Believed, rowOf, cellOf}
-use Rattle.partition.proofs.StepLaws.{passed-without, passed-join, passed-set}
+use Rattle.cells.specs.Cells.{row-count, column-count, cellAt}
+use Rattle.partition.specs.Steps.{Believed, Matched, rowOf, cellOf}
+use Rattle.partition.proofs.StepLaws.{passed-without, passed-climb, passed-set}
+use Rattle.partition.proofs.ClimbLaws.{matched-by}
 use borrow.Author.Needs.{needs}
 use Rattle.partition.proofs.pass_at.Statement.{statement}
 use Rattle.partition.proofs.pass_at.Tie as tie
@@ -27,12 +28,6 @@ from-cell c = from-column (c .before .before)
 
 abbrev from-test : tie.After-is-believed → tie.Start
 from-test c = from-cell (c .before .before)
-
-abbrev from-left : tie.After-wide163 → tie.Start
-from-left c = from-test (c .before .before .before)
-
-abbrev from-right : tie.After-wide164 → tie.Start
-from-right c = from-left (c .before .before)
 
 -- the row and the cell of the state that has its turn
 abbrev row-at : tie.Start → ℕ
@@ -88,18 +83,17 @@ believed-here :
     (c .before .before .before .cell .result)
 believed-here c = c .before .is-believed .ensures .yes (c .if2 .taken)
 
--- the states to join are the partition's
-left-below : (c : tie.After-wide163) → c .wide163 .result < length (from-left c .args .groups .now)
-left-below c =
-    subst (λ (x : ℕ). x < length (from-left c .args .groups .now)) (sym (c .wide163 .ensures))
-    (from-left c .pre .0 .outs-below (c .before .before .before .before .before .cell .result)
-    (believed-here (c .before .before) .inside))
-
-right-below : (c : tie.After-wide164) → c .wide164 .result < length (from-right c .args .groups .now)
-right-below c =
-    let at = from-right c in
-    subst (λ (x : ℕ). x < length (at .args .groups .now)) (sym (c .wide164 .ensures))
-    (at .pre .0 .outs-below (at .args .v) (at .pre .1 .1))
+-- so the two states are matched
+matched-here :
+    (c : tie.Then2) → let at = from-test (c .before) in
+    Matched (length (at .args .groups .now)) (at .args .ins .now) (at .args .keys .now) (at .args .groups .now)
+    (c .before .before .before .cell .result) (at .args .v)
+matched-here c =
+    let at = from-test (c .before) in
+    let row = c .before .before .before .before .before .before in
+    matched-by (length (at .args .groups .now)) (at .args .ins .now) (at .args .keys .now) (at .args .groups .now)
+    (c .before .before .before .cell .result) (at .args .v) (row-read row) (at .pre .1 .1) (key-small (row .before .before .before .before))
+    (row-is row) (believed-here c)
 
 shared-slice-read-key : tie.Need-shared-slice-read-key
 shared-slice-read-key c = search needs
@@ -137,28 +131,8 @@ cell-requires c κs = (at-small (c .before .before), (column-small (c .before), 
 is-believed-requires : tie.Need-is-believed-requires
 is-believed-requires c κs = search needs
 
-mul-wide16-2 : tie.Need-mul-wide16-2
-mul-wide16-2 c = search needs
-
-shared-slice-read-wide16-2 : tie.Need-shared-slice-read-wide16-2
-shared-slice-read-wide16-2 c = omega (arith, believed-here (c .before) .inside, from-test (c .before .before) .pre .0 .outs-size)
-
-wide16-requires-3 : tie.Need-wide16-requires-3
-wide16-requires-3 c κs = search needs
-
-mul-wide16-3 : tie.Need-mul-wide16-3
-mul-wide16-3 c = search needs
-
-shared-slice-read-wide16-3 : tie.Need-shared-slice-read-wide16-3
-shared-slice-read-wide16-3 c = search needs
-
-wide16-requires-4 : tie.Need-wide16-requires-4
-wide16-requires-4 c κs = search needs
-
-join-states-requires : tie.Need-join-states-requires
-join-states-requires c κs =
-    let at = from-right (c .before) in
-    (at .pre .0 .labelled, (left-below (c .before .before .before), right-below (c .before)))
+climb-requires : tie.Need-climb-requires
+climb-requires c κs = (from-test (c .before .before) .pre .0, matched-here (c .before))
 
 same-length : tie.Need-same-length
 same-length c = search needs
@@ -168,18 +142,14 @@ same-length-2 c = search needs
 
 returns-2 : tie.Need-returns-2
 returns-2 c =
-    let joins = c .before .before in
-    let right = joins .before .before in
-    let left = right .before .before in
-    let taken = left .before .before in
+    let climbs = c .before .before in
+    let taken = climbs .before .before in
     let cell = taken .before .before .before in
-    let row = cell .before .before .before in
-    let at = from-row row in
-    passed-join (length (at .args .groups .now)) (at .args .ins .now) (at .args .outs .now) (at .args .keys .now) (at .args .groups .now)
+    let at = from-cell cell in
+    passed-climb (length (at .args .groups .now)) (at .args .ins .now) (at .args .outs .now) (at .args .keys .now) (at .args .groups .now)
     (at .args .work .now) (at .args .v) (at .pre .0) (at .pre .1 .1)
-    (joins .join-states .last .0) (joins .join-states .result) (row-read row) (cell .cell .result) (left .wide163 .result)
-    (right .wide164 .result) (key-small (row .before .before .before .before)) (row-is row) (cell-is cell) (believed-here taken)
-    (left .wide163 .ensures) (right .wide164 .ensures) (joins .join-states .ensures)
+    (climbs .climb .last .1 .1 .1 .0) (climbs .climb .result) (cell .cell .result) (cell-is cell) (matched-here taken)
+    (climbs .climb .ensures)
 
 set-cell-requires : tie.Need-set-cell-requires
 set-cell-requires c κs =
@@ -222,13 +192,7 @@ pass-at-spec =
     wide8-requires
     cell-requires
     is-believed-requires
-    mul-wide16-2
-    shared-slice-read-wide16-2
-    wide16-requires-3
-    mul-wide16-3
-    shared-slice-read-wide16-3
-    wide16-requires-4
-    join-states-requires
+    climb-requires
     same-length
     same-length-2
     returns-2

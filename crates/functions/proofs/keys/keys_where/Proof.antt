@@ -5,7 +5,8 @@ use native.Mathlib.Omega.{arith}
 use lib.ListN.{length}
 use Rattle.functions.specs.Parts.{KeyAt}
 use Rattle.indexed.specs.Trees.{Arrays}
-use Rattle.functions.proofs.FillLaws.{Filled, filled-none, filled-more, keys-all}
+use Rattle.partition.proofs.FillLaws.{Filled, filled-none, filled-more}
+use Rattle.functions.proofs.FillLaws.{keys-all}
 use Rattle.functions.proofs.keys.keys_where.Statement.{statement}
 use Rattle.functions.proofs.keys.keys_where.Tie as tie
 

@@ -1,60 +1,102 @@
--- `first_seen` meets its contract. The invariant of its loop: no state before u has the set. Assumes nothing.
-use mathlib.Core.Path.{_≡_}
-use Prim.Native.Nat.{ℕ, _-_, _<_, _≤_}
+-- `first_seen` meets its contract. The invariant of its loop: no state of the list from `at` on has the set. Assumes nothing.
+use Prim.Native.Nat.{_-_, _<_}
 use native.Mathlib.Omega.{arith}
-use lib.ListN.{getD}
-use borrow.Author.Count.{below-more}
-use Rattle.functions.proofs.SeenLaws.{first-found, first-itself}
+use Rattle.indexed.specs.Chains.{Searched}
+use Rattle.indexed.proofs.Chains.{searched-start, searched-on}
+use Rattle.functions.specs.Parts.{Listed}
+use Rattle.functions.proofs.BucketLaws.{SameSet, first-found, first-itself}
+use borrow.Author.Needs.{needs}
 use Rattle.functions.proofs.seen.first_seen.Statement.{statement}
 use Rattle.functions.proofs.seen.first_seen.Tie as tie
 
 abbrev Inv-loop : tie.InvT-loop
-Inv-loop seen v set u₀ u = (u ≤ v) × ((k : ℕ) → k < u → getD seen k 0 ≡ getD seen v 0 → ⊥)
+Inv-loop seen links heads b v set at₀ at = Searched v (Listed seen) (SameSet seen v) b at
 
 abbrev μ-loop : tie.MeasureT-loop
-μ-loop seen v set u₀ u = v - u
+μ-loop seen links heads b v set at₀ at = at
+
+-- the search goes on by the link
+next-place :
+    (c : tie.After-wide162 Inv-loop μ-loop) → let here = c .before .before .before .before .before in
+    let at = here .before .before .before .before .before in
+    (c .wide162 .result < here .loop .at)
+    × Searched (at .args .v) (Listed (at .args .seen .now)) (SameSet (at .args .seen .now) (at .args .v)) (at .args .b) (c .wide162 .result)
+next-place c =
+    let here = c .before .before .before .before .before in
+    let at = here .before .before .before .before .before in
+    searched-on (at .args .v) (Listed (at .args .seen .now)) (SameSet (at .args .seen .now) (at .args .v)) (at .args .links .now)
+    (at .args .heads .now) (at .args .b) (here .loop .at) (here .loop .at - 1) (c .wide162 .result) (omega arith) (c .wide162 .ensures)
+    (c .before .before .if1 .left) (at .pre .1 .1 .1 .1) (here .loop .inv)
 
 mul-set : tie.Need-mul-set Inv-loop μ-loop
-mul-set c = omega arith
+mul-set c = omega (arith, c .before .pre .0, c .before .pre .1 .0)
 
 shared-slice-read-set : tie.Need-shared-slice-read-set Inv-loop μ-loop
-shared-slice-read-set c = omega arith
+shared-slice-read-set c = c .before .before .pre .1 .0
+
+mul-wide16 : tie.Need-mul-wide16 Inv-loop μ-loop
+mul-wide16 c = search needs
+
+element-copy-out-wide16 : tie.Need-element-copy-out-wide16 Inv-loop μ-loop
+element-copy-out-wide16 c = search needs
+
+wide16-requires : tie.Need-wide16-requires Inv-loop μ-loop
+wide16-requires c κs = search needs
 
 loop-holds : tie.Need-loop-holds Inv-loop μ-loop
-loop-holds c = (omega arith, λ k h. absurd (omega arith))
+loop-holds c =
+    let at = c .before .before .before .before in
+    searched-start (at .args .v) (Listed (at .args .seen .now)) (SameSet (at .args .seen .now) (at .args .v)) (at .args .links .now)
+    (at .args .heads .now) (at .args .b) (c .wide16 .result) (c .wide16 .ensures) (at .pre .1 .1 .1 .1)
+
+sub-u : tie.Need-sub-u Inv-loop μ-loop
+sub-u c = omega arith
 
 mul-if1 : tie.Need-mul-if1 Inv-loop μ-loop
-mul-if1 c = omega arith
+mul-if1 c =
+    let here = c .before in
+    let at = here .before .before .before .before .before in
+    omega (arith, here .loop .inv .low, at .pre .1 .0, at .pre .0)
 
 shared-slice-read-if1 : tie.Need-shared-slice-read-if1 Inv-loop μ-loop
-shared-slice-read-if1 c = omega arith
+shared-slice-read-if1 c =
+    let here = c .before .before in
+    let at = here .before .before .before .before .before in
+    omega (arith, here .loop .inv .low, at .pre .1 .0)
 
 returns : tie.Need-returns Inv-loop μ-loop
 returns c =
     let here = c .before .before .before in
-    let at = here .before .before in
-    first-found (at .args .seen .now) (at .args .v) (here .loop .u) (omega arith) (c .if1 .taken) (here .loop .inv .1)
+    let at = here .before .before .before .before .before in
+    first-found (at .args .seen .now) (at .args .v) (at .args .b) (here .loop .at) (here .loop .at - 1) (omega arith) (c .if1 .taken)
+    (here .loop .inv)
 
-add-u : tie.Need-add-u Inv-loop μ-loop
-add-u c = omega arith
+mul-wide16-2 : tie.Need-mul-wide16-2 Inv-loop μ-loop
+mul-wide16-2 c =
+    let here = c .before .before .before in
+    let at = here .before .before .before .before .before in
+    omega (arith, here .loop .inv .low, at .pre .1 .0, at .pre .0)
+
+element-copy-out-wide16-2 : tie.Need-element-copy-out-wide16-2 Inv-loop μ-loop
+element-copy-out-wide16-2 c =
+    let here = c .before .before .before in
+    let at = here .before .before .before .before .before in
+    omega (arith, here .loop .inv .low, at .pre .1 .0, at .pre .0)
+
+wide16-requires-2 : tie.Need-wide16-requires-2 Inv-loop μ-loop
+wide16-requires-2 c κs = search needs
 
 loop-less : tie.Need-loop-less Inv-loop μ-loop
-loop-less c = omega arith
+loop-less c = next-place c .0
 
 loop-again : tie.Need-loop-again Inv-loop μ-loop
-loop-again c =
-    let here = c .before .before .before in
-    let at = here .before .before in (
-      omega arith,
-      below-more (λ (k : ℕ). getD (at .args .seen .now) k 0 ≡ getD (at .args .seen .now) (at .args .v) 0 → ⊥) (here .loop .u)
-          (here .loop .inv .1) (c .if1 .left),
-    )
+loop-again c = next-place c .1
 
 returns-2 : tie.Need-returns-2 Inv-loop μ-loop
 returns-2 c =
     let here = c .before in
-    let at = here .before .before in
-    first-itself (at .args .seen .now) (at .args .v) (here .loop .u) (omega arith) (here .loop .inv .1)
+    let at = here .before .before .before .before .before in
+    first-itself (at .args .seen .now) (at .args .v) (at .args .b) (here .loop .at) (omega arith) (at .pre .1 .1 .0) (here .loop .inv)
 
 pub first-seen-spec : {M : Type 1} → statement M
 first-seen-spec =
@@ -64,11 +106,17 @@ first-seen-spec =
     μ-loop
     mul-set
     shared-slice-read-set
+    mul-wide16
+    element-copy-out-wide16
+    wide16-requires
     loop-holds
+    sub-u
     mul-if1
     shared-slice-read-if1
     returns
-    add-u
+    mul-wide16-2
+    element-copy-out-wide16-2
+    wide16-requires-2
     loop-less
     loop-again
     returns-2)

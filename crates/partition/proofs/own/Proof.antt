@@ -2,9 +2,9 @@
 use Prim.Native.Nat.{_-_, _≤_}
 use native.Mathlib.Omega.{arith}
 use lib.ListN.{length}
-use Rattle.functions.proofs.FillLaws.{Filled, IsOwn, filled-none, filled-more, own-all}
-use Rattle.functions.proofs.keys.own.Statement.{statement}
-use Rattle.functions.proofs.keys.own.Tie as tie
+use Rattle.partition.proofs.FillLaws.{Filled, IsOwn, filled-none, filled-more, own-all}
+use Rattle.partition.proofs.own.Statement.{statement}
+use Rattle.partition.proofs.own.Tie as tie
 
 abbrev Inv-loop : tie.InvT-loop
 Inv-loop numbers₀ v₀ numbers v = (v ≤ length numbers₀) × Filled IsOwn v numbers₀ numbers
