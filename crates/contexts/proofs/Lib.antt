@@ -1,6 +1,7 @@
--- Why climbing gives what the context rule asks for. Assumes nothing.
-pub mod BitLaws
+-- Why climbing and the sweeps give what the context rule asks for. Assumes nothing.
 pub mod ClimbLaws
-pub mod MarkLaws
+pub mod CommonLaws
+pub mod LinkLaws
+pub mod ChainLaws
 pub mod RoundLaws
 pub mod SweepLaws

@@ -3,7 +3,7 @@
 use mathlib.Core.Path.{_≡_, refl, sym, ap, _∙_, subst}
 use mathlib.Core.Bool.{Bool, true, false, cond, true≢false}
 use mathlib.Core.List.{List}
-use Prim.Native.Nat.{ℕ, zero, suc, _+_, _<_, _≤_}
+use Prim.Native.Nat.{ℕ, _+_, _<_, _≤_}
 use native.Mathlib.Omega.{arith}
 use lib.ListN.{length, getD, take}
 use lib.Seq.{ext-getD}
@@ -18,7 +18,6 @@ use Rattle.indexed.proofs.Contexts.{joined-suffix-agree}
 use Rattle.partition.specs.Steps.{Ready}
 use Rattle.suffixes.proofs.FillLaws.{front-length}
 use Rattle.contexts.specs.Climbs.{ClimbedBelow}
-use Rattle.contexts.specs.Sweeps.{Pairing, SweptBy}
 use Rattle.contexts.specs.Rounds.{ContextSound, ForksJoined, RoundReady}
 use Rattle.contexts.proofs.ClimbLaws.{climbs-sound}
 
@@ -189,35 +188,9 @@ arrays-front n list parents names fits arrays =
 
 pub classes-front :
     (n h : ℕ) (list parents names classes : List ℕ) → n ≤ length list →
-    SuffixClasses (length (take n list)) (h + 1) parents names classes → SuffixClasses n (suc h) parents names classes
+    SuffixClasses (length (take n list)) h parents names classes → SuffixClasses n h parents names classes
 classes-front n h list parents names classes fits by =
-    let one : h + 1 ≡ suc h = omega arith in
-    subst (λ (i : ℕ). SuffixClasses n i parents names classes) one
-    (subst (λ (m : ℕ). SuffixClasses m (h + 1) parents names classes) (front-length n list fits) by)
-
--- the sweep by classes and groups that were written and read again
-module _ (h m : ℕ) (parents names front groups classes old : List ℕ) (arrays : Arrays (length groups) parents names)
-    (by : SuffixClasses (length groups) (suc h) parents names front) (classes-same : classes ≡ front) (old-same : old ≡ groups) where
-  pub sweep-pairing : Labelled (length groups) groups → Pairing (length old) parents classes old
-  sweep-pairing labelled =
-      subst (λ (l : List ℕ). Pairing (length l) parents classes l) (sym old-same)
-      (subst (λ (l : List ℕ). Pairing (length groups) parents l groups) (sym classes-same)
-      (record {
-        few = arrays .few-states;
-        parents-size = arrays .parents-size;
-        parents-below = parent-below (length groups) parents names arrays;
-        classes-size = by .size;
-        old-size = refl;
-        old-below = λ v h. omega (arith, labelled .low v h, arrays .few-states);
-      }))
-
-  pub sweep-swept :
-      (groups′ : List ℕ) (joined : Bool) → SuffixAgree (length groups) h parents names groups →
-      SweptBy (length old) m parents classes old groups′ joined → Swept (length groups) h m parents names groups groups′ joined
-  sweep-swept groups′ joined agree swept-by =
-      subst (λ (l : List ℕ). SweptBy (length groups) m parents l groups groups′ joined) classes-same
-      (subst (λ (l : List ℕ). SweptBy (length l) m parents classes l groups′ joined) old-same swept-by)
-      .swept h names arrays by agree
+    subst (λ (m : ℕ). SuffixClasses m h parents names classes) (front-length n list fits) by
 
 -- the rounds start from the climbs
 pub climbs-ready :

@@ -1,124 +1,140 @@
--- Laws of the sweep's joins: nothing joined, one pair more, a row's end; and what all of them are: a sweep as the context rule
--- asks for. Assumes nothing.
+-- Laws of the sweep: nothing compared yet, one label more, which is compared with its chain or is none to compare; and what all of
+-- them are: a sweep as the context rule asks for. Assumes nothing.
 use mathlib.Core.Path.{_≡_, refl, sym, ap, _∙_, subst}
-use mathlib.Core.Logic.{_⊎_, inl, inr, _↔_}
-use mathlib.Core.Bool.{Bool, true, false, _||_, true≢false, false≢true}
+use mathlib.Core.Logic.{_⊎_, inl, inr}
+use mathlib.Core.Bool.{Bool, true, false, _||_, false≢true}
 use mathlib.Core.List.{List}
-use Prim.Native.Nat.{ℕ, zero, suc, _+_, _-_, _<_, _≤_}
+use Prim.Native.Nat.{ℕ, zero, suc, _+_, _<_, _≤_}
 use native.Mathlib.Omega.{arith}
-use lib.ListN.{length, getD}
+use lib.ListN.{length, getD, set}
+use Rattle.cells.specs.Cells.{work-bytes}
+use Rattle.model.specs.Limits.{state-limit}
+use Rattle.model.proofs.Tests.{eq-dec, decided, tells-ltb}
+use Rattle.indexed.specs.Chains.{Chained}
 use Rattle.indexed.specs.Trees.{Arrays, SameSuffix}
-use Rattle.indexed.specs.Partitions.{Refines, Labelled, Share, SuffixAgree, ContextClosed, ForkClosed, sum}
+use Rattle.indexed.specs.Partitions.{Refines, Labelled, Share, SuffixAgree, ContextClosed, ForkClosed}
 use Rattle.indexed.specs.Passes.{SuffixClasses, Swept}
-use Rattle.indexed.proofs.Suffixes.{parent-below}
-use Rattle.partition.specs.Joins.{JoinedTwo}
-use Rattle.contexts.specs.Climbs.{ParentsJoined}
-use Rattle.contexts.specs.Sweeps.{Pairing, Pair, Done, LevelIs, LevelsMarked, PairJoined, Joining, RowJoined, SweptBy}
-use Rattle.contexts.proofs.MarkLaws.{done-more, done-row, done-none, shared-pair, pair-suffix, pair-share}
+use Rattle.indexed.proofs.Chains.{chained-push, chained-skip}
+use Rattle.indexed.proofs.Suffixes.{parent-below, suffix-refl, suffix-sym, suffix-trans}
+use Rattle.contexts.specs.Sweeps.{Linked, Common, Comparing, Listed, Paired, ChainJoined, PairsJoined, LabelSwept, SweptBy}
+use Rattle.contexts.proofs.ClimbLaws.{below-suc}
+use Rattle.contexts.proofs.CommonLaws.{common-sym, common-first}
+use Rattle.contexts.proofs.LinkLaws.{linked-cells, common-share, share-common}
+use Rattle.contexts.proofs.ChainLaws.{both-none, both-some, on-listed, listed-on}
 
-pub or-false : (a : Bool) → (a || false) ≡ a
+or-false : (a : Bool) → (a || false) ≡ a
 or-false true = refl
 or-false false = refl
 
-pub or-assoc : (a b c : Bool) → ((a || b) || c) ≡ (a || (b || c))
-or-assoc true b c = refl
-or-assoc false b c = refl
+-- a state is in the list of its class, where it is in any
+list-is :
+    {m b u : ℕ} {classes old next work : List ℕ} → Listed m classes old next work b u →
+    Listed m classes old next work (getD classes u 0) u
+list-is {m} {b} {u} {classes} {old} {next} {work} listed =
+    subst (λ (c : ℕ). Listed m classes old next work c u) (sym (listed .class-is)) listed
 
--- two steps, each of which may join: nothing in neither, or the sum fell
-both-none :
-    (a b : Bool) (base groups groups′ : List ℕ) → (a ≡ false → groups ≡ base) → (b ≡ false → groups′ ≡ groups) →
-    (a || b) ≡ false → groups′ ≡ base
-both-none true b base groups groups′ first second e = absurd (true≢false e)
-both-none false b base groups groups′ first second e = second e ∙ first refl
-
-both-some :
-    (a b : Bool) (base groups groups′ : List ℕ) → (a ≡ false → groups ≡ base) → (b ≡ false → groups′ ≡ groups) →
-    (a ≡ true → sum groups < sum base) → (b ≡ true → sum groups′ < sum groups) → (a || b) ≡ true → sum groups′ < sum base
-both-some true true base groups groups′ first second less less′ e = omega (arith, less refl, less′ refl)
-both-some true false base groups groups′ first second less less′ e = omega (arith, less refl, ap sum (second refl))
-both-some false true base groups groups′ first second less less′ e = omega (arith, less′ refl, ap sum (first refl))
-both-some false false base groups groups′ first second less less′ e = absurd (false≢true e)
-
--- no pair: nothing is joined
-pub pair-skipped :
-    (n : ℕ) (parents classes old work : List ℕ) (matrix e f : ℕ) (groups : List ℕ) → Labelled n groups →
-    (Pair classes old work matrix e f → ⊥) → PairJoined n parents classes old work matrix e f groups groups false
-pair-skipped n parents classes old work matrix e f groups labelled none =
-    record {
-      labelled = labelled;
-      coarser = λ x y hx hy same. same;
-      sound = λ others given refines. refines;
-      together = λ pair. absurd (none pair);
-      none = λ _. refl;
-      some = λ false-is. absurd (false≢true false-is);
-    }
-
--- a pair: the sources are joined
-pub pair-joined :
-    (n : ℕ) (parents classes old work : List ℕ) (matrix e f x y : ℕ) (groups groups′ : List ℕ) (joined : Bool) →
-    x ≡ getD parents e 0 → y ≡ getD parents f 0 → Pair classes old work matrix e f → JoinedTwo n x y groups groups′ joined →
-    PairJoined n parents classes old work matrix e f groups groups′ joined
-pair-joined n parents classes old work matrix e f x y groups groups′ joined x-is y-is pair two =
-    record {
-      labelled = two .labelled;
-      coarser = two .coarser;
-      sound = λ others given refines.
-          two .sound others
-          (ap (λ (z : ℕ). getD others z 0) x-is ∙ given pair ∙ ap (λ (z : ℕ). getD others z 0) (sym y-is)) refines;
-      together = λ _.
-          ap (λ (z : ℕ). getD groups′ z 0) (sym x-is) ∙ two .together ∙ ap (λ (z : ℕ). getD groups′ z 0) y-is;
-      none = two .none;
-      some = two .some;
-    }
-
-module _ (n matrix : ℕ) (parents classes old work : List ℕ) (pairing : Pairing n parents classes old) where
-  pub joining-none :
-      (groups : List ℕ) → Labelled n groups → Joining n 0 0 parents classes old work matrix groups groups false
-  joining-none groups labelled =
+module _ {n m : ℕ} {classes old next work : List ℕ} where
+  pub pairs-none : {groups : List ℕ} → Labelled n groups → PairsJoined n 0 m classes old next work groups groups false
+  pairs-none labelled =
       record {
         labelled = labelled;
-        coarser = λ x y hx hy same. same;
+        coarser = λ v w hv hw same. same;
         sound = λ others given refines. refines;
-        complete = λ e f he hf done. absurd (done-none e f done);
+        complete = λ u v low. let z : ⊥ = omega arith in absurd z;
         none = λ _. refl;
-        some = λ false-is. absurd (false≢true false-is);
+        some = λ e. absurd (false≢true e);
       }
 
-  pub joining-more :
-      (i j : ℕ) (base groups groups′ : List ℕ) (a b : Bool) → i < n → j < n →
-      Joining n i j parents classes old work matrix base groups a →
-      PairJoined n parents classes old work matrix i j groups groups′ b →
-      Joining n i (suc j) parents classes old work matrix base groups′ (a || b)
-  joining-more i j base groups groups′ a b hi hj joining pair-step =
-      record {
-        labelled = pair-step .labelled;
-        coarser = λ x y hx hy e. pair-step .coarser x y hx hy (joining .coarser x y hx hy e);
-        sound = λ others given refines.
-            pair-step .sound others (λ pair. given i j hi hj pair) (joining .sound others given refines);
-        complete = λ e f he hf done. more e f done he hf;
-        none = both-none a b base groups groups′ (joining .none) (pair-step .none);
-        some = both-some a b base groups groups′ (joining .none) (pair-step .none) (joining .some) (pair-step .some);
-      }
-    where
-      more : (e f : ℕ) → Done i (suc j) e f → e < n → f < n → Pair classes old work matrix e f → ParentsJoined parents groups′ e f
-      more =
-          done-more (λ (e f : ℕ). e < n → f < n → Pair classes old work matrix e f → ParentsJoined parents groups′ e f) i j
-          (λ e f done he hf pair. pair-step .coarser (getD parents e 0) (getD parents f 0) (pairing .parents-below e he)
-          (pairing .parents-below f hf) (joining .complete e f he hf done pair))
-          (λ he hf pair. pair-step .together pair)
+  module _ {x : ℕ} {links heads groups : List ℕ} (inside : x < n)
+      (chained : Chained x (Listed m classes old next work) links heads) where
+    -- x is none to compare
+    pub label-left :
+        Labelled n groups → (Listed m classes old next work (getD classes x 0) x → ⊥) →
+        LabelSwept n x m classes old next work groups links heads groups false
+    label-left labelled unlisted =
+        record {
+          chained =
+              chained-skip x (Listed m classes old next work) links heads (λ b listed. unlisted (list-is listed)) chained;
+          labelled = labelled;
+          more = λ base before so-far.
+              subst (λ (b : Bool). PairsJoined n (x + 1) m classes old next work base groups b) (sym (or-false before))
+              (record {
+                labelled = so-far .labelled;
+                coarser = so-far .coarser;
+                sound = so-far .sound;
+                complete = λ u v low. complete base before so-far u (omega arith) v;
+                none = so-far .none;
+                some = so-far .some;
+              });
+        }
+      where
+        complete :
+            (base : List ℕ) (before : Bool) → PairsJoined n x m classes old next work base groups before →
+            (u : ℕ) → u < suc x → (v : ℕ) → v < u → Paired m classes old next work u v → getD groups u 0 ≡ getD groups v 0
+        complete base before so-far =
+            below-suc
+            (λ (u : ℕ). (v : ℕ) → v < u → Paired m classes old next work u v → getD groups u 0 ≡ getD groups v 0) x
+            (λ u low v. so-far .complete u v low) (λ v low pair. absurd (unlisted (pair .first)))
 
-  pub joining-row :
-      (i : ℕ) (base groups : List ℕ) (a : Bool) → Joining n i n parents classes old work matrix base groups a →
-      Joining n (suc i) 0 parents classes old work matrix base groups a
-  joining-row i base groups a joining =
-      record {
-        labelled = joining .labelled;
-        coarser = joining .coarser;
-        sound = joining .sound;
-        complete = λ e f he hf done. joining .complete e f he hf (done-row n i e f hf done);
-        none = joining .none;
-        some = joining .some;
-      }
+    -- x is compared with its chain and put there
+    module _ {b head : ℕ} {groups′ : List ℕ} {joined : Bool} (in-links : x < length links) (in-heads : b < length heads)
+        (head-is : head ≡ x + 1) (class-is : b ≡ getD classes x 0)
+        (listed : Listed m classes old next work (getD classes x 0) x)
+        (chain : ChainJoined n m next work links (getD heads b 0) x groups groups′ joined) where
+      in-b : Listed m classes old next work b x
+      in-b = subst (λ (c : ℕ). Listed m classes old next work c x) (sym class-is) listed
+
+      -- the states of the chain that m names lead out of as out of x are its pairs
+      chain-pair : (y : ℕ) → y < x → Listed m classes old next work b y → Common next work m x y → Paired m classes old next work x y
+      chain-pair y low in-list common =
+          record {
+            first = listed;
+            second = subst (λ (c : ℕ). Listed m classes old next work c y) class-is in-list;
+            common = common;
+          }
+
+      pair-chain : (v : ℕ) → v < x → Paired m classes old next work x v → getD groups′ x 0 ≡ getD groups′ v 0
+      pair-chain v low pair =
+          chain .together v
+          (listed-on links chained b v low
+          (subst (λ (c : ℕ). Listed m classes old next work c v) (sym class-is) (pair .second))) (pair .common)
+
+      more :
+          (base : List ℕ) (before : Bool) → PairsJoined n x m classes old next work base groups before →
+          PairsJoined n (x + 1) m classes old next work base groups′ (before || joined)
+      more base before so-far =
+          record {
+            labelled = chain .labelled;
+            coarser = λ v w hv hw same. chain .coarser v w hv hw (so-far .coarser v w hv hw same);
+            sound = λ others given refines.
+                chain .sound others
+                (λ y on common.
+                let at = on-listed links chained b y on in
+                given x y inside (at .0) (chain-pair y (at .0) (at .1) common))
+                (so-far .sound others given refines);
+            complete = λ u v low under pair. complete u (omega arith) v under pair;
+            none = both-none before joined base groups groups′ (so-far .none) (chain .none);
+            some = both-some before joined base groups groups′ (so-far .none) (chain .none) (so-far .some) (chain .some);
+          }
+        where
+          complete :
+              (u : ℕ) → u < suc x → (v : ℕ) → v < u → Paired m classes old next work u v → getD groups′ u 0 ≡ getD groups′ v 0
+          complete =
+              below-suc
+              (λ (u : ℕ). (v : ℕ) → v < u → Paired m classes old next work u v → getD groups′ u 0 ≡ getD groups′ v 0) x
+              (λ u low v under pair. chain .coarser u v (omega arith) (omega arith) (so-far .complete u v low under pair))
+              pair-chain
+
+      pub label-joined :
+          LabelSwept n x m classes old next work groups (set links x (getD heads b 0)) (set heads b head) groups′ joined
+      label-joined =
+          record {
+            chained =
+                chained-push x (Listed m classes old next work) links heads b head in-links in-heads head-is in-b
+                (λ c in-c. sym (in-c .class-is) ∙ sym class-is) chained;
+            labelled = chain .labelled;
+            more = more;
+          }
 
 -- names in common under a partition are in common under a coarser one
 share-refines :
@@ -142,53 +158,141 @@ share-refines n parents names groups others arrays refines (suc j) v w hv hw s =
       share-refines n parents names groups others arrays refines j x y (s .4) (s .5) (s .9),
     )
 
--- the joins of all pairs of the level below m are a sweep for m
-module _ (n m matrix : ℕ) (parents classes groups work groups′ : List ℕ) (joined : Bool) (some : 0 < m)
-    (pairing : Pairing n parents classes groups) (levels : LevelsMarked n m matrix parents classes groups work)
-    (joining : Joining n n 0 parents classes groups work matrix groups groups′ joined) where
-  module _ (h : ℕ) (names : List ℕ) (arrays : Arrays n parents names) (by : SuffixClasses n (suc h) parents names classes)
-      (agree : SuffixAgree n h parents names groups) where
-    last : suc (m - 1) ≡ m
-    last = omega arith
-
-    level : LevelIs n h (m - 1) matrix parents names groups work
-    level = levels .level h names arrays by (m - 1) last
-
+-- all pairs of labels joined are a sweep, whatever number of last names the classes go by
+module _ {n m : ℕ} {parents names classes groups next work groups′ : List ℕ} {joined : Bool} (arrays : Arrays n parents names)
+    (labelled : Labelled n groups) (linked : Linked n parents names groups next work)
+    (all : PairsJoined n n m classes groups next work groups groups′ joined) where
+  module _ (h : ℕ) (by : SuffixClasses n h parents names classes) (agree : SuffixAgree n h parents names groups) where
+    -- what is joined has the same last h names, and m names in common after them
     pair-closed :
-        (others : List ℕ) → ContextClosed n h m parents names others → Refines n groups others → (e f : ℕ) → e < n → f < n →
-        Pair classes groups work matrix e f → ParentsJoined parents others e f
-    pair-closed others context refines e f he hf pair =
-        let v = getD parents e 0 in
-        let w = getD parents f 0 in
-        let hv : v < n = parent-below n parents names arrays e he in
-        let hw : w < n = parent-below n parents names arrays f hf in
-        let shared : Share n parents names groups (suc (m - 1)) v w =
-        pair-share n h parents names classes groups arrays pairing by (m - 1) matrix work level e f v w he hf pair refl refl in
-        let arcs = pair-suffix n h parents names classes groups arrays pairing by (m - 1) matrix work level e f he hf pair in
-        context v w hv hw (arcs .3)
-        (share-refines n parents names groups others arrays refines m v w hv hw
-        (subst (λ (k : ℕ). Share n parents names groups k v w) last shared))
+        (others : List ℕ) → ContextClosed n h m parents names others → Refines n groups others → (u v : ℕ) → u < n → v < u →
+        Paired m classes groups next work u v → getD others u 0 ≡ getD others v 0
+    pair-closed others context refines u v hu under pair =
+        let hv : v < n = omega arith in
+        let first = pair .first in
+        let second = pair .second in
+        context u v hu hv (by .alike u v hu hv .0 (first .classed, sym (second .class-is)))
+        (share-refines n parents names groups others arrays refines m u v hu hv
+        (common-share labelled linked m u v (first .label) (second .label) (pair .common)))
 
-    closed : joined ≡ false → ContextClosed n h m parents names groups
-    closed none v w hv hw s shared =
-        let long : Share n parents names groups (suc (m - 1)) v w =
-        subst (λ (k : ℕ). Share n parents names groups k v w) (sym last) shared in
-        let pair = shared-pair n h parents names classes groups arrays pairing by (m - 1) matrix work level agree v w hv hw s long in
-        let one : getD groups′ (getD parents (long .0) 0) 0 ≡ getD groups′ (getD parents (long .1) 0) 0 =
-        joining .complete (long .0) (long .1) (long .4) (long .5) (inl (long .4)) pair in
-        sym (long .7)
-        ∙ subst (λ (l : List ℕ). getD l (getD parents (long .0) 0) 0 ≡ getD l (getD parents (long .1) 0) 0) (joining .none none) one
-        ∙ long .8
+    label : ℕ → ℕ
+    label v = getD groups v 0
+
+    label-below : (v : ℕ) → v < n → label v < n
+    unfolding label
+    label-below v hv = omega (arith, labelled .low v hv)
+
+    -- a label has the last h names of the members of its group that have so many
+    like : (v w : ℕ) → v < n → SameSuffix parents names h v w → SameSuffix parents names h (label v) v
+    unfolding label
+    like v w hv s = go (agree (getD groups v 0) v (label-below v hv) hv (labelled .own v hv))
+      where
+        go : (getD groups v 0 ≡ v) ⊎ SameSuffix parents names h (getD groups v 0) v → SameSuffix parents names h (getD groups v 0) v
+        go (inl e) = subst (λ (x : ℕ). SameSuffix parents names h x v) (sym e) (suffix-refl n parents names arrays h v w s)
+        go (inr t) = t
+
+    module _ (fork : ForkClosed n parents names groups) where
+      -- the labels of two states that the rule joins are a pair
+      labels-pair :
+          (v w : ℕ) → v < n → w < n → SameSuffix parents names h v w → Share n parents names groups m v w →
+          Paired m classes groups next work (label v) (label w)
+      unfolding label
+      labels-pair v w hv hw s shared =
+          let x = getD groups v 0 in
+          let y = getD groups w 0 in
+          let back = suffix-sym n parents names arrays h v w s in
+          let alike : SameSuffix parents names h x y =
+          suffix-trans n parents names arrays h x v y (like v w hv s)
+          (suffix-trans n parents names arrays h v w y s (suffix-sym n parents names arrays h y w (like w v hw back))) in
+          let class = by .alike x y (label-below v hv) (label-below w hw) .1 alike in
+          let common : Common next work m x y = share-common labelled linked fork m v w shared in
+          record {
+            first =
+                record {
+                  classed = class .0;
+                  class-is = refl;
+                  label = labelled .own v hv;
+                  leads = common-first next work m x y common;
+                };
+            second =
+                record {
+                  classed = class .0;
+                  class-is = sym (class .1);
+                  label = labelled .own w hw;
+                  leads = common-first next work m y x (common-sym next work m x y common);
+                };
+            common = common;
+          }
+
+      -- so the sweep made them one, whichever comes first
+      labels-one :
+          (v w : ℕ) → v < n → w < n → Paired m classes groups next work (label v) (label w) →
+          Paired m classes groups next work (label w) (label v) → getD groups′ (label v) 0 ≡ getD groups′ (label w) 0
+      labels-one v w hv hw pair back = go (eq-dec (label v) (label w)) (decided (tells-ltb (label v) (label w)))
+        where
+          go :
+              (label v ≡ label w) ⊎ (label v ≡ label w → ⊥) → (label v < label w) ⊎ (label v < label w → ⊥) →
+              getD groups′ (label v) 0 ≡ getD groups′ (label w) 0
+          go (inl e) order = ap (λ (x : ℕ). getD groups′ x 0) e
+          go (inr apart) (inl before) = sym (all .complete (label w) (label v) (label-below w hw) before back)
+          go (inr apart) (inr after) = all .complete (label v) (label w) (label-below v hv) (omega arith) pair
+
+      closed : joined ≡ false → ContextClosed n h m parents names groups
+      unfolding label
+      closed none v w hv hw s shared =
+          let x = getD groups v 0 in
+          let y = getD groups w 0 in
+          let back : SameSuffix parents names h w v = suffix-sym n parents names arrays h v w s in
+          let one : getD groups′ x 0 ≡ getD groups′ y 0 =
+          labels-one v w hv hw (labels-pair v w hv hw s shared)
+          (labels-pair w v hw hv back (share-sym m v w shared)) in
+          sym (labelled .own v hv)
+          ∙ subst (λ (l : List ℕ). getD l x 0 ≡ getD l y 0) (all .none none) one
+          ∙ labelled .own w hw
+        where
+          share-sym : (j v w : ℕ) → Share n parents names groups j v w → Share n parents names groups j w v
+          share-sym zero v w s = tt
+          share-sym (suc j) v w s =
+              (s .1, s .0, s .3, s .2, s .5, s .4, sym (s .6), s .8, s .7, share-sym j (s .0) (s .1) (s .9))
 
     all-swept : Swept n h m parents names groups groups′ joined
     all-swept =
         record {
-          labelled = joining .labelled;
-          coarser = joining .coarser;
-          sound = λ others context refines. joining .sound others (pair-closed others context refines) refines;
-          none = λ none fork. (joining .none none, closed none);
-          some = joining .some;
+          labelled = all .labelled;
+          coarser = all .coarser;
+          sound = λ others context refines. all .sound others (pair-closed others context refines) refines;
+          none = λ none fork. (all .none none, closed fork none);
+          some = all .some;
         }
 
-  pub joins-sweep : SweptBy n m parents classes groups groups′ joined
-  joins-sweep = record { swept = all-swept }
+  pub pairs-sweep : SweptBy n m parents names classes groups groups′ joined
+  pairs-sweep = record { swept = all-swept }
+
+-- the same, with the groups at first written into another list and read again
+module _ {parents names groups old next work : List ℕ} (arrays : Arrays (length groups) parents names)
+    (labelled : Labelled (length groups) groups) (same : old ≡ groups) (linked : Linked (length old) parents names old next work)
+  where
+    linked-here : Linked (length groups) parents names groups next work
+    linked-here = subst (λ (l : List ℕ). Linked (length l) parents names l next work) same linked
+
+    pub sweep-comparing :
+        {classes : List ℕ} → length classes ≡ length groups → length next ≡ state-limit → work-bytes ≤ length work →
+        Comparing (length old) classes next work
+    sweep-comparing {classes} classes-size next-size room =
+        subst (λ (l : List ℕ). Comparing (length l) classes next work) (sym same)
+        (record {
+          few = arrays .few-states;
+          classes-size = classes-size;
+          next-size = omega (arith, arrays .few-states);
+          cells =
+              linked-cells labelled linked-here (omega (arith, arrays .few-states))
+              (omega arith) room;
+        })
+
+    pub sweep-swept :
+        {m : ℕ} {classes groups′ : List ℕ} {joined : Bool} →
+        PairsJoined (length old) (length old) m classes old next work groups groups′ joined →
+        SweptBy (length groups) m parents names classes groups groups′ joined
+    sweep-swept {m} {classes} {groups′} {joined} all =
+        pairs-sweep arrays labelled linked-here
+        (subst (λ (l : List ℕ). PairsJoined (length l) (length l) m classes l next work groups groups′ joined) same all)

@@ -1,5 +1,4 @@
 -- What climbing from states with the same last names, the sweeps and the rounds promise. Assumes nothing.
-pub mod Bits
 pub mod Climbs
 pub mod Rounds
 pub mod Sweeps

@@ -1,9 +1,7 @@
 -- Rounds of joins: what is joined by the context rule and no more, forks joined until none is left, and what the rounds start
 -- from. Assumes nothing.
-use mathlib.Core.Path.{_≡_}
 use mathlib.Core.List.{List}
-use Prim.Native.Nat.{ℕ, _+_, _<_, _≤_}
-use lib.ListN.{length}
+use Prim.Native.Nat.{ℕ, _<_, _≤_}
 use Rattle.model.specs.Limits.{setting-limit}
 use Rattle.indexed.specs.Trees.{Arrays}
 use Rattle.indexed.specs.Partitions.{Refines, Labelled, ForkClosed, ContextClosed, sum}
@@ -25,6 +23,6 @@ pub record RoundReady (n h m : ℕ) (parents names groups : List ℕ) : Type 0 w
   pub arrays : Arrays n parents names
   pub some-names : 0 < h
   pub some-steps : 0 < m
-  pub limit : h + 1 ≤ setting-limit
+  pub limit : h ≤ setting-limit
   pub labelled : Labelled n groups
   pub sound : ContextSound n h m parents names groups

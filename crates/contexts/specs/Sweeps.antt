@@ -1,121 +1,129 @@
--- The sweep over pairs of groups that j names leave in common, level by level, as pairs in one of two matrices. In order: what it
--- needs, a pair of arcs, what one pair, a row of pairs and all pairs mark in the other matrix, what a level is, and what the last
--- level joins. Arcs go by their target states. Assumes nothing.
+-- The sweep over pairs of groups that m names leave in common. In order: the arcs out of the groups, as a set of names for each
+-- group and a cell for each group and name; names in succession that lead out of two groups; which groups are compared; the chain
+-- that a group is compared with; what joining one pair, one chain and all pairs promises; and the sweep. A group goes by its label.
+-- Assumes nothing.
 use mathlib.Core.Path.{_≡_}
-use mathlib.Core.Logic.{_⊎_}
 use mathlib.Core.Bool.{Bool, true, false, _||_}
 use mathlib.Core.List.{List}
-use Prim.Native.Nat.{ℕ, suc, _-_, _<_, _≤_}
+use Prim.Native.Nat.{ℕ, zero, suc, _+_, _^_, _<_, _≤_}
 use lib.ListN.{length, getD}
-use Rattle.model.specs.Limits.{state-limit}
-use Rattle.indexed.specs.Trees.{Arrays, SameSuffix}
-use Rattle.indexed.specs.Partitions.{Refines, Labelled, Share, SuffixAgree, sum}
+use Rattle.cells.specs.Cells.{work-bytes, cellAt}
+use Rattle.model.specs.Limits.{name-limit, state-limit}
+use Rattle.indexed.specs.Chains.{Chained}
+use Rattle.indexed.specs.Partitions.{Refines, Labelled, SuffixAgree, sum}
 use Rattle.indexed.specs.Passes.{SuffixClasses, Swept}
-use Rattle.suffixes.specs.Rounds.{above}
-use Rattle.contexts.specs.Bits.{bitAt, withBit, place, Marked}
-use Rattle.contexts.specs.Climbs.{ParentsJoined}
+use Rattle.indexed.proofs.Bits.{bit}
 
--- arrays of n states: parents, classes of arcs, and the groups that the sweep goes by
-pub record Pairing (n : ℕ) (parents classes old : List ℕ) : Type 0 where
+-- the arc into a state below i that leads by name a out of group x, into the group that the cell has
+pub record ArcOf (i : ℕ) (parents names old work : List ℕ) (x a : ℕ) : Type 0 where
+  pub target : ℕ
+  pub no-root : 0 < target
+  pub below : target < i
+  pub name-is : getD names target 0 ≡ a
+  pub from-x : getD old (getD parents target 0) 0 ≡ x
+  pub in-cell : cellAt work x a ≡ getD old target 0
+
+-- the arcs into the states below i: bit a of a group's set is set exactly if name a leads out of the group
+pub record Linked (i : ℕ) (parents names old next work : List ℕ) : Type 0 where
+  pub narrow : (x : ℕ) → getD next x 0 < 2 ^ name-limit
+  pub leaves : (v : ℕ) → 0 < v → v < i → bit (getD names v 0) (getD next (getD old (getD parents v 0) 0) 0) ≡ 1
+  pub arc : (x a : ℕ) → bit a (getD next x 0) ≡ 1 → ArcOf i parents names old work x a
+
+-- the cells of the names in a set are groups that have a set
+pub record Cells (next work : List ℕ) : Type 0 where
+  pub few : length next ≤ state-limit
+  pub room : work-bytes ≤ length work
+  pub narrow : (x : ℕ) → getD next x 0 < 2 ^ name-limit
+  pub inside : (x a : ℕ) → bit a (getD next x 0) ≡ 1 → cellAt work x a < length next
+
+-- j names in succession lead out of both groups, by sets and cells
+abbrev pub Common : List ℕ → List ℕ → ℕ → ℕ → ℕ → Type 0
+Common next work zero x y = Unit {0}
+Common next work (suc j) x y =
+    (a : ℕ) × (bit a (getD next x 0) ≡ 1) × (bit a (getD next y 0) ≡ 1)
+    × Common next work j (cellAt work x a) (cellAt work y a)
+
+-- what the comparisons of n states need of their classes, the sets and the cells
+pub record Comparing (n : ℕ) (classes next work : List ℕ) : Type 0 where
   pub few : n ≤ state-limit
-  pub parents-size : length parents ≡ n
-  pub parents-below : (v : ℕ) → v < n → getD parents v 0 < n
   pub classes-size : length classes ≡ n
-  pub old-size : length old ≡ n
-  pub old-below : (v : ℕ) → v < n → getD old v 0 < state-limit
+  pub next-size : n ≤ length next
+  pub cells : Cells next work
 
--- e and f are arcs of one class, and the groups of their targets are in a matrix
-pub record Pair (classes old work : List ℕ) (matrix e f : ℕ) : Type 0 where
-  pub classed : getD classes e 0 < state-limit
-  pub one-class : getD classes e 0 ≡ getD classes f 0
-  pub marked : Marked work matrix (getD old e 0) (getD old f 0)
+-- u is compared with others of class b: it is a label of this class that m names in succession lead out of
+pub record Listed (m : ℕ) (classes old next work : List ℕ) (b u : ℕ) : Type 0 where
+  pub classed : b < state-limit
+  pub class-is : getD classes u 0 ≡ b
+  pub label : getD old u 0 ≡ u
+  pub leads : Common next work m u u
 
--- one pair of arcs: where it is a pair, the groups of the sources are put into the other matrix
-pub data PairMarked (parents classes old : List ℕ) (matrix e f : ℕ) (work work′ : List ℕ) : Type 0 where
-  no-pair : (Pair classes old work matrix e f → ⊥) → work′ ≡ work → PairMarked parents classes old matrix e f work work′
-  put :
-      Pair classes old work matrix e f → work′ ≡ withBit work (place (1 - matrix) (above old parents e) (above old parents f)) →
-      PairMarked parents classes old matrix e f work work′
+-- u and v are compared and joined
+pub record Paired (m : ℕ) (classes old next work : List ℕ) (u v : ℕ) : Type 0 where
+  pub first : Listed m classes old next work (getD classes u 0) u
+  pub second : Listed m classes old next work (getD classes u 0) v
+  pub common : Common next work m u v
 
--- rows below i are done, and of row i what is below j
-abbrev pub Done : ℕ → ℕ → ℕ → ℕ → Type 0
-Done i j e f = (e < i) ⊎ ((e ≡ i) × (f < j))
+-- k links down a chain from a head or a link
+unfoldable pub linkDown : List ℕ → ℕ → ℕ → ℕ
+linkDown links zero at = at
+linkDown links (suc k) zero = 0
+linkDown links (suc k) (suc v) = linkDown links k (getD links v 0)
 
--- x and y are the groups of the sources of a pair
-pub record Source (n : ℕ) (parents classes old work : List ℕ) (matrix x y : ℕ) : Type 0 where
-  pub e : ℕ
-  pub f : ℕ
-  pub e-below : e < n
-  pub f-below : f < n
-  pub pair : Pair classes old work matrix e f
-  pub at-x : above old parents e ≡ x
-  pub at-y : above old parents f ≡ y
+-- y is on the chain from a head or a link
+abbrev pub OnChain : List ℕ → ℕ → ℕ → Type 0
+OnChain links at y = (k : ℕ) × (linkDown links k at ≡ suc y)
 
--- the pairs done, and none but pairs, are in the other matrix
-pub record Marking (n i j matrix : ℕ) (parents classes old work₀ work : List ℕ) : Type 0 where
-  pub size : length work ≡ length work₀
-  pub kept : (x y : ℕ) → x < 512 → y < 512 → bitAt work (place matrix x y) ≡ bitAt work₀ (place matrix x y)
-  pub sound : (x y : ℕ) → x < 512 → y < 512 → Marked work (1 - matrix) x y → Source n parents classes old work₀ matrix x y
-  pub complete :
-      (e f : ℕ) → e < n → f < n → Done i j e f → Pair classes old work₀ matrix e f →
-      Marked work (1 - matrix) (above old parents e) (above old parents f)
+-- the states on a chain come before x, and their links lead down
+abbrev pub Falling : List ℕ → ℕ → ℕ → Type 0
+Falling links at x = (y : ℕ) → OnChain links at y → (y < x) × (getD links y 0 ≤ y)
 
--- a row of pairs
-pub record RowMarked (n e matrix : ℕ) (parents classes old work work′ : List ℕ) : Type 0 where
-  pub row :
-      (work₀ : List ℕ) → Marking n e 0 matrix parents classes old work₀ work →
-      Marking n (suc e) 0 matrix parents classes old work₀ work′
-
--- a matrix has the pairs of groups that j names leave in common, all of those with the same last h names before them
-pub record LevelIs (n h j matrix : ℕ) (parents names old work : List ℕ) : Type 0 where
+-- x and y are joined where m names lead out of both; true where they were in two groups
+pub record PairJoined (n m : ℕ) (next work : List ℕ) (x y : ℕ) (groups groups′ : List ℕ) (joined : Bool) : Type 0 where
+  pub labelled : Labelled n groups′
+  pub coarser : Refines n groups groups′
   pub sound :
-      (v w : ℕ) → v < n → w < n → Marked work matrix (getD old v 0) (getD old w 0) → Share n parents names old j v w
+      (others : List ℕ) → (Common next work m x y → getD others x 0 ≡ getD others y 0) → Refines n groups others →
+      Refines n groups′ others
+  pub together : Common next work m x y → getD groups′ x 0 ≡ getD groups′ y 0
+  pub none : joined ≡ false → groups′ ≡ groups
+  pub some : joined ≡ true → sum groups′ < sum groups
+
+-- x is joined with every state of a chain that m names lead out of as out of x
+pub record ChainJoined (n m : ℕ) (next work links : List ℕ) (at x : ℕ) (groups groups′ : List ℕ) (joined : Bool) : Type 0 where
+  pub labelled : Labelled n groups′
+  pub coarser : Refines n groups groups′
+  pub sound :
+      (others : List ℕ) →
+      ((y : ℕ) → OnChain links at y → Common next work m x y → getD others x 0 ≡ getD others y 0) →
+      Refines n groups others → Refines n groups′ others
+  pub together : (y : ℕ) → OnChain links at y → Common next work m x y → getD groups′ x 0 ≡ getD groups′ y 0
+  pub none : joined ≡ false → groups′ ≡ groups
+  pub some : joined ≡ true → sum groups′ < sum groups
+
+-- the pairs below x, and nothing but pairs, are joined
+pub record PairsJoined (n x m : ℕ) (classes old next work groups groups′ : List ℕ) (joined : Bool) : Type 0 where
+  pub labelled : Labelled n groups′
+  pub coarser : Refines n groups groups′
+  pub sound :
+      (others : List ℕ) →
+      ((u v : ℕ) → u < n → v < u → Paired m classes old next work u v → getD others u 0 ≡ getD others v 0) →
+      Refines n groups others → Refines n groups′ others
   pub complete :
-      SuffixAgree n h parents names old → (v w : ℕ) → v < n → w < n → SameSuffix parents names h v w →
-      Share n parents names old j v w → Marked work matrix (getD old v 0) (getD old w 0)
+      (u v : ℕ) → u < x → v < u → Paired m classes old next work u v → getD groups′ u 0 ≡ getD groups′ v 0
+  pub none : joined ≡ false → groups′ ≡ groups
+  pub some : joined ≡ true → sum groups′ < sum groups
 
--- the levels below m are done, and the last of them is in this matrix
-pub record LevelsMarked (n m matrix : ℕ) (parents classes old work : List ℕ) : Type 0 where
-  pub two : matrix ≤ 1
-  pub level :
-      (h : ℕ) (names : List ℕ) → Arrays n parents names → SuffixClasses n (suc h) parents names classes → (j : ℕ) → suc j ≡ m →
-      LevelIs n h j matrix parents names old work
+-- the pairs of x with states before it are joined, and x is in its chain
+pub record LabelSwept
+    (n x m : ℕ) (classes old next work groups links′ heads′ groups′ : List ℕ) (joined : Bool) : Type 0 where
+  pub chained : Chained (x + 1) (Listed m classes old next work) links′ heads′
+  pub labelled : Labelled n groups′
+  pub more :
+      (base : List ℕ) (before : Bool) → PairsJoined n x m classes old next work base groups before →
+      PairsJoined n (x + 1) m classes old next work base groups′ (before || joined)
 
--- the sources of e and f are joined where e and f are a pair; true where they were in two groups
-pub record PairJoined (n : ℕ) (parents classes old work : List ℕ) (matrix e f : ℕ) (groups groups′ : List ℕ) (joined : Bool) : Type 0
-  where
-    pub labelled : Labelled n groups′
-    pub coarser : Refines n groups groups′
-    pub sound :
-        (others : List ℕ) → (Pair classes old work matrix e f → ParentsJoined parents others e f) → Refines n groups others →
-        Refines n groups′ others
-    pub together : Pair classes old work matrix e f → ParentsJoined parents groups′ e f
-    pub none : joined ≡ false → groups′ ≡ groups
-    pub some : joined ≡ true → sum groups′ < sum groups
-
--- the sources of the pairs done, and nothing else, are joined
-pub record Joining (n i j : ℕ) (parents classes old work : List ℕ) (matrix : ℕ) (groups groups′ : List ℕ) (joined : Bool) : Type 0
-  where
-    pub labelled : Labelled n groups′
-    pub coarser : Refines n groups groups′
-    pub sound :
-        (others : List ℕ) →
-        ((e f : ℕ) → e < n → f < n → Pair classes old work matrix e f → ParentsJoined parents others e f) →
-        Refines n groups others → Refines n groups′ others
-    pub complete :
-        (e f : ℕ) → e < n → f < n → Done i j e f → Pair classes old work matrix e f → ParentsJoined parents groups′ e f
-    pub none : joined ≡ false → groups′ ≡ groups
-    pub some : joined ≡ true → sum groups′ < sum groups
-
--- a row of pairs joined
-pub record RowJoined (n e : ℕ) (parents classes old work : List ℕ) (matrix : ℕ) (groups groups′ : List ℕ) (joined : Bool) : Type 0
-  where
-    pub row :
-        (base : List ℕ) (before : Bool) → Joining n e 0 parents classes old work matrix base groups before →
-        Joining n (suc e) 0 parents classes old work matrix base groups′ (before || joined)
-
--- all levels and the joins of the last, by classes of the last h + 1 names and the groups as they were at first
-pub record SweptBy (n m : ℕ) (parents classes groups groups′ : List ℕ) (joined : Bool) : Type 0 where
+-- the sweep by classes, whatever number of last names they go by
+pub record SweptBy (n m : ℕ) (parents names classes groups groups′ : List ℕ) (joined : Bool) : Type 0 where
   pub swept :
-      (h : ℕ) (names : List ℕ) → Arrays n parents names → SuffixClasses n (suc h) parents names classes →
-      SuffixAgree n h parents names groups → Swept n h m parents names groups groups′ joined
+      (h : ℕ) → SuffixClasses n h parents names classes → SuffixAgree n h parents names groups →
+      Swept n h m parents names groups groups′ joined

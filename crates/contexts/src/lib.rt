@@ -1,27 +1,23 @@
 // The joining of a book's prefix tree by the context rule: states with the same last h names out of whose groups k - h names lead
 // in common are in one group, and no group has arcs of one name to two groups.
-pub mod bits;
 pub mod forks;
+pub mod pairs;
 
 use cells::numbers::wide16;
 ghost use mathlib.Core.Path.{_≡_};
-ghost use mathlib.Core.Bool.{true};
-ghost use mathlib.Core.Logic.{_↔_};
-ghost use Prim.Native.Nat.{ℕ, _+_, _<_, _≤_};
+ghost use Prim.Native.Nat.{_+_, _<_, _≤_};
 ghost use lib.ListN.{length, getD};
 ghost use Rattle.cells.specs.Cells.{work-bytes};
 ghost use Rattle.model.specs.Limits.{setting-limit, state-limit};
 ghost use Rattle.model.specs.Lists.{numbersFrom};
 ghost use Rattle.indexed.specs.Trees.{Arrays};
-ghost use Rattle.indexed.specs.Partitions.{Labelled, SuffixAgree};
-ghost use Rattle.indexed.specs.Passes.{ContextJoined, Swept};
+ghost use Rattle.indexed.specs.Partitions.{Labelled};
+ghost use Rattle.indexed.specs.Passes.{ContextJoined};
 ghost use Rattle.contexts.specs.Climbs.{Above, Climbed, ClimbedBelow};
 ghost use Rattle.contexts.specs.Rounds.{RoundReady};
-ghost use Rattle.contexts.specs.Sweeps.{Pairing, Pair, PairMarked, Marking, RowMarked, LevelsMarked};
-ghost use Rattle.contexts.specs.Sweeps.{PairJoined, RowJoined, Joining, SweptBy};
 
-// The class of a state with too few names.
-const NONE: u16 = 512;
+// No partition has more states.
+pub const STATE_LIMIT: usize = 512;
 
 // Joins the groups of the ancestors of v and w, the first of each, the second, and so on up to the m-th.
 fn climb(m: usize, parents: &[u16], groups: &mut [u16], v: usize, w: usize)
@@ -85,250 +81,12 @@ fn climb_starts(m: usize, parents: &[u16], groups: &mut [u16])
         (now (groups .entry)) (now (groups .exit)) ⌝ }
 {
     let n = groups.len();
-    let mut starts = [0u16; 512];
+    let mut starts = [0u16; STATE_LIMIT];
     suffixes::copy(groups, &mut starts[..n]);
     climb_all(m, parents, &starts[..n], groups);
 }
 
-// Whether e and f are arcs of one class and the groups of their targets are in a matrix.
-fn is_pair(classes: &[u16], old: &[u16], work: &[u8], matrix: usize, e: usize, f: usize) -> bool
-    requires sizes { ⌜ (length (now classes) ≡ length (now old)) × (length (now old) ≤ state-limit) ⌝ }
-    requires below { ⌜ ((v : ℕ) → v < length (now old) → getD (now old) v 0 < state-limit) ⌝ }
-    requires matrix_two { ⌜ matrix ≤ 1 ⌝ }
-    requires e_inside { ⌜ e < length (now old) ⌝ }
-    requires f_inside { ⌜ f < length (now old) ⌝ }
-    requires room { ⌜ work-bytes ≤ length (now work) ⌝ }
-    ensures { λ r. ⌜ (r ≡ true) ↔ Pair (now (classes .entry)) (now (old .entry)) (now (work .entry)) matrix e f ⌝ }
-{
-    let class = classes[e];
-    if NONE <= class {
-        return false;
-    }
-    if class != classes[f] {
-        return false;
-    }
-    bits::has_bit(work, bits::place_of(matrix, wide16(old[e]), wide16(old[f])))
-}
-
-// Where e and f are a pair, puts the groups of their sources into the other matrix.
-fn mark_pair(
-    parents: &[u16],
-    classes: &[u16],
-    old: &[u16],
-    work: &mut [u8],
-    matrix: usize,
-    e: usize,
-    f: usize,
-)
-    requires ready { ⌜ Pairing (length (now old)) (now parents) (now classes) (now old) ⌝ }
-    requires matrix_two { ⌜ matrix ≤ 1 ⌝ }
-    requires e_inside { ⌜ e < length (now old) ⌝ }
-    requires f_inside { ⌜ f < length (now old) ⌝ }
-    requires room { ⌜ work-bytes ≤ length (now work) ⌝ }
-    ensures { λ _.
-        ⌜ PairMarked (now (parents .entry)) (now (classes .entry)) (now (old .entry)) matrix e f (now (work .entry))
-        (now (work .exit)) ⌝ }
-{
-    if is_pair(classes, old, work, matrix, e, f) {
-        let x = suffixes::class_above(old, parents, e);
-        let y = suffixes::class_above(old, parents, f);
-        bits::set_bit(work, bits::place_of(1 - matrix, x, y));
-        return;
-    }
-}
-
-// The pairs of e with every arc.
-fn mark_row(parents: &[u16], classes: &[u16], old: &[u16], work: &mut [u8], matrix: usize, e: usize)
-    requires ready { ⌜ Pairing (length (now old)) (now parents) (now classes) (now old) ⌝ }
-    requires matrix_two { ⌜ matrix ≤ 1 ⌝ }
-    requires e_inside { ⌜ e < length (now old) ⌝ }
-    requires room { ⌜ work-bytes ≤ length (now work) ⌝ }
-    ensures { λ _.
-        ⌜ RowMarked (length (now (old .entry))) e matrix (now (parents .entry)) (now (classes .entry)) (now (old .entry))
-        (now (work .entry)) (now (work .exit)) ⌝ }
-{
-    let mut f = 0;
-    while f < old.len() {
-        mark_pair(parents, classes, old, work, matrix, e, f);
-        f += 1;
-    }
-}
-
-// One level more: the other matrix has the groups of the sources of all pairs, and nothing else.
-fn mark_level(parents: &[u16], classes: &[u16], old: &[u16], work: &mut [u8], matrix: usize)
-    requires ready { ⌜ Pairing (length (now old)) (now parents) (now classes) (now old) ⌝ }
-    requires matrix_two { ⌜ matrix ≤ 1 ⌝ }
-    requires room { ⌜ work-bytes ≤ length (now work) ⌝ }
-    ensures { λ _.
-        ⌜ Marking (length (now (old .entry))) (length (now (old .entry))) 0 matrix (now (parents .entry)) (now (classes .entry))
-        (now (old .entry)) (now (work .entry)) (now (work .exit)) ⌝ }
-{
-    bits::fill_matrix(work, 1 - matrix, 0);
-    let mut e = 0;
-    while e < old.len() {
-        mark_row(parents, classes, old, work, matrix, e);
-        e += 1;
-    }
-}
-
-// All levels below m, from every pair at the lowest: which matrix has the last of them.
-fn mark_levels(m: usize, parents: &[u16], classes: &[u16], old: &[u16], work: &mut [u8]) -> usize
-    requires ready { ⌜ Pairing (length (now old)) (now parents) (now classes) (now old) ⌝ }
-    requires some { ⌜ 0 < m ⌝ }
-    requires room { ⌜ work-bytes ≤ length (now work) ⌝ }
-    ensures { λ r.
-        ⌜ LevelsMarked (length (now (old .entry))) m r (now (parents .entry)) (now (classes .entry)) (now (old .entry))
-        (now (work .exit)) ⌝ }
-{
-    bits::fill_matrix(work, 0, 255);
-    let mut matrix = 0;
-    let mut j = 1;
-    while j < m {
-        mark_level(parents, classes, old, work, matrix);
-        matrix = 1 - matrix;
-        j += 1;
-    }
-    matrix
-}
-
-// Where e and f are a pair, joins the groups of their sources; true where they were two.
-fn join_pair(
-    parents: &[u16],
-    classes: &[u16],
-    old: &[u16],
-    work: &[u8],
-    matrix: usize,
-    groups: &mut [u16],
-    e: usize,
-    f: usize,
-) -> bool
-    requires ready { ⌜ Pairing (length (now old)) (now parents) (now classes) (now old) ⌝ }
-    requires matrix_two { ⌜ matrix ≤ 1 ⌝ }
-    requires e_inside { ⌜ e < length (now old) ⌝ }
-    requires f_inside { ⌜ f < length (now old) ⌝ }
-    requires room { ⌜ work-bytes ≤ length (now work) ⌝ }
-    requires size { ⌜ length (now groups) ≡ length (now old) ⌝ }
-    requires labelled { ⌜ Labelled (length (now old)) (now groups) ⌝ }
-    ensures { λ r.
-        ⌜ PairJoined (length (now (old .entry))) (now (parents .entry)) (now (classes .entry)) (now (old .entry))
-        (now (work .entry)) matrix e f (now (groups .entry)) (now (groups .exit)) r ⌝ }
-{
-    if is_pair(classes, old, work, matrix, e, f) {
-        let x = wide16(parents[e]);
-        let y = wide16(parents[f]);
-        return partition::join_states(groups, x, y);
-    }
-    false
-}
-
-// The pairs of e with every arc, joined; true where any were in two groups.
-fn join_row(
-    parents: &[u16],
-    classes: &[u16],
-    old: &[u16],
-    work: &[u8],
-    matrix: usize,
-    groups: &mut [u16],
-    e: usize,
-) -> bool
-    requires ready { ⌜ Pairing (length (now old)) (now parents) (now classes) (now old) ⌝ }
-    requires matrix_two { ⌜ matrix ≤ 1 ⌝ }
-    requires e_inside { ⌜ e < length (now old) ⌝ }
-    requires room { ⌜ work-bytes ≤ length (now work) ⌝ }
-    requires size { ⌜ length (now groups) ≡ length (now old) ⌝ }
-    requires labelled { ⌜ Labelled (length (now old)) (now groups) ⌝ }
-    ensures { λ r.
-        ⌜ RowJoined (length (now (old .entry))) e (now (parents .entry)) (now (classes .entry)) (now (old .entry))
-        (now (work .entry)) matrix (now (groups .entry)) (now (groups .exit)) r ⌝ }
-{
-    let mut joined = false;
-    let mut f = 0;
-    while f < old.len() {
-        let joins = join_pair(parents, classes, old, work, matrix, groups, e, f);
-        joined = joined | joins;
-        f += 1;
-    }
-    joined
-}
-
-// All pairs joined; true where any were in two groups.
-fn join_pairs(
-    parents: &[u16],
-    classes: &[u16],
-    old: &[u16],
-    work: &[u8],
-    matrix: usize,
-    groups: &mut [u16],
-) -> bool
-    requires ready { ⌜ Pairing (length (now old)) (now parents) (now classes) (now old) ⌝ }
-    requires matrix_two { ⌜ matrix ≤ 1 ⌝ }
-    requires room { ⌜ work-bytes ≤ length (now work) ⌝ }
-    requires size { ⌜ length (now groups) ≡ length (now old) ⌝ }
-    requires labelled { ⌜ Labelled (length (now old)) (now groups) ⌝ }
-    ensures { λ r.
-        ⌜ Joining (length (now (old .entry))) (length (now (old .entry))) 0 (now (parents .entry)) (now (classes .entry))
-        (now (old .entry)) (now (work .entry)) matrix (now (groups .entry)) (now (groups .exit)) r ⌝ }
-{
-    let mut joined = false;
-    let mut e = 0;
-    while e < old.len() {
-        let joins = join_row(parents, classes, old, work, matrix, groups, e);
-        joined = joined | joins;
-        e += 1;
-    }
-    joined
-}
-
-// The sweep by classes of arcs, with the groups as they are at first in `old` too; true where anything was joined.
-fn sweep_by(
-    m: usize,
-    parents: &[u16],
-    classes: &[u16],
-    old: &[u16],
-    groups: &mut [u16],
-    work: &mut [u8],
-) -> bool
-    requires ready { ⌜ Pairing (length (now old)) (now parents) (now classes) (now old) ⌝ }
-    requires some { ⌜ 0 < m ⌝ }
-    requires room { ⌜ work-bytes ≤ length (now work) ⌝ }
-    requires same { ⌜ now groups ≡ now old ⌝ }
-    requires labelled { ⌜ Labelled (length (now old)) (now old) ⌝ }
-    ensures { λ r.
-        ⌜ SweptBy (length (now (old .entry))) m (now (parents .entry)) (now (classes .entry)) (now (old .entry))
-        (now (groups .exit)) r ⌝ }
-{
-    let matrix = mark_levels(m, parents, classes, old, work);
-    join_pairs(parents, classes, old, work, matrix, groups)
-}
-
-// The sweep for m names; true where anything was joined.
-fn sweep(
-    h: usize,
-    m: usize,
-    parents: &[u16],
-    names: &[u8],
-    groups: &mut [u16],
-    work: &mut [u8],
-) -> bool
-    requires arrays { ⌜ Arrays (length (now groups)) (now parents) (now names) ⌝ }
-    requires some { ⌜ 0 < m ⌝ }
-    requires limit { ⌜ h + 1 ≤ setting-limit ⌝ }
-    requires labelled { ⌜ Labelled (length (now groups)) (now groups) ⌝ }
-    requires agree { ⌜ SuffixAgree (length (now groups)) h (now parents) (now names) (now groups) ⌝ }
-    requires room { ⌜ work-bytes ≤ length (now work) ⌝ }
-    ensures { λ r.
-        ⌜ Swept (length (now (groups .entry))) h m (now (parents .entry)) (now (names .entry)) (now (groups .entry))
-        (now (groups .exit)) r ⌝ }
-{
-    let n = groups.len();
-    let mut classes = [0u16; 512];
-    suffixes::suffix_classes(h + 1, parents, names, &mut classes[..n], work);
-    let mut old = [0u16; 512];
-    suffixes::copy(groups, &mut old[..n]);
-    sweep_by(m, parents, &classes[..n], &old[..n], groups, work)
-}
-
-// Rounds of forks and a sweep, until a sweep joins nothing.
+// Rounds of forks and a sweep by classes of the last h names, until a sweep joins nothing.
 fn close_contexts(
     h: usize,
     m: usize,
@@ -344,10 +102,13 @@ fn close_contexts(
     ensures { λ _.
         ⌜ ContextJoined (length (now (groups .entry))) (h + m) h (now (parents .entry)) (now (names .entry)) (now (groups .exit)) ⌝ }
 {
+    let n = groups.len();
+    let mut classes = [0u16; STATE_LIMIT];
+    suffixes::suffix_classes(h, parents, names, &mut classes[..n], work);
     let mut joined = true;
     while joined {
         forks::close_forks(parents, names, numbers, groups, work);
-        joined = sweep(h, m, parents, names, groups, work);
+        joined = pairs::sweep(m, parents, names, &classes[..n], groups, work);
     }
 }
 
@@ -366,7 +127,7 @@ fn run_rounds(
         ⌜ ContextJoined (length (now (groups .entry))) (h + m) h (now (parents .entry)) (now (names .entry)) (now (groups .exit)) ⌝ }
 {
     let n = groups.len();
-    let mut numbers = [0u16; 512];
+    let mut numbers = [0u16; STATE_LIMIT];
     forks::own(&mut numbers[..n]);
     close_contexts(h, m, parents, names, &numbers[..n], groups, work);
 }

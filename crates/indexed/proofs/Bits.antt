@@ -1,10 +1,12 @@
--- The bits of a number: of a number with one bit set besides, and that numbers with the same bits are equal. Assumes nothing.
+-- The bits of a number: of a number with one bit set besides, that numbers with the same bits are equal, the bits that two numbers
+-- have in common, and the lowest bit, found and taken away. Assumes nothing.
 use mathlib.Core.Path.{_≡_, refl, sym, ap, _∙_, subst}
 use mathlib.Core.Logic.{_⊎_, inl, inr, ⊎-elim, _↔_}
-use Prim.Native.Nat.{ℕ, zero, suc, _+_, _*_, _/_, _%_, _^_, _<_, _≤_, max}
+use Prim.Native.Nat.{ℕ, zero, suc, _+_, _-_, _*_, _/_, _%_, _^_, _<_, _≤_, max, min}
 use native.Mathlib.Nat.{pow-suc}
 use native.Mathlib.Omega.{arith}
-use lib.Bits.{bitOr, or-step}
+use lib.Bits.{bitAnd, bitOr, and-step, or-step, and-self}
+use lib.Count.{trailingZeros, under}
 use Rattle.model.proofs.Tests.{eq-dec}
 
 -- bit a of n, counted from the lowest
@@ -130,3 +132,70 @@ set-cancel x y b off-x off-y e =
         let other : a ≡ b → ⊥ = λ q. off (subst (λ (c : ℕ). bit c z ≡ 1) q h) in
         let set-in-w : bit a (bitOr w (2 ^ b)) ≡ 1 = ap (bit a) (sym same) ∙ bit-of-set a z b .1 (inl h) in
         ⊎-elim (λ p. p) (λ q. absurd (other q)) (bit-of-set a w b .0 set-in-w)
+
+-- the bits that two numbers have in common
+lower-small : (x y : ℕ) → min (x % 2) (y % 2) < 2
+lower-small x y = omega arith
+
+and-half : (x y : ℕ) → bitAnd x y / 2 ≡ bitAnd (x / 2) (y / 2)
+and-half x y =
+    ap (λ (z : ℕ). z / 2) (and-step x y)
+    ∙ joined-half (bitAnd (x / 2) (y / 2)) (min (x % 2) (y % 2)) (lower-small x y)
+
+bit-and : (a x y : ℕ) → bit a (bitAnd x y) ≡ min (bit a x) (bit a y)
+unfolding bit
+bit-and zero x y =
+    ap (λ (z : ℕ). z % 2) (and-step x y)
+    ∙ joined-odd (bitAnd (x / 2) (y / 2)) (min (x % 2) (y % 2)) (lower-small x y)
+bit-and (suc a) x y = ap (bit a) (and-half x y) ∙ bit-and a (x / 2) (y / 2)
+
+pub bit-of-both : (a x y : ℕ) → (bit a (bitAnd x y) ≡ 1) ↔ ((bit a x ≡ 1) × (bit a y ≡ 1))
+bit-of-both a x y =
+    let both : bit a (bitAnd x y) ≡ min (bit a x) (bit a y) = bit-and a x y in
+    let small-x : bit a x < 2 = bit-small a x in
+    let small-y : bit a y < 2 = bit-small a y in
+    (λ h. (omega arith, omega arith), λ h. omega (arith, h .0, h .1))
+
+-- the zeros below a set bit are as many as its place
+pub lowest-bit : (d n : ℕ) → 0 < n → n < 2 ^ d → (trailingZeros d n < d) × (bit (trailingZeros d n) n ≡ 1)
+unfolding bit trailingZeros
+lowest-bit zero n some small = let z : ⊥ = omega arith in absurd z
+lowest-bit (suc d) n some small =
+    let double : 2 ^ suc d ≡ 2 ^ d * 2 = pow-suc 2 d in
+    go (n % 2) refl (λ half. lowest-bit d (n / 2) half (omega arith))
+  where
+    go :
+        (r : ℕ) → n % 2 ≡ r →
+        (0 < n / 2 → (trailingZeros d (n / 2) < d) × (bit (trailingZeros d (n / 2)) (n / 2) ≡ 1)) →
+        (under r (trailingZeros d (n / 2)) < suc d) × (bit (under r (trailingZeros d (n / 2))) n ≡ 1)
+    go zero e again =
+        let rest = again (omega arith) in
+        (omega (arith, rest .0), rest .1)
+    go (suc r) e again = (omega arith, omega arith)
+
+-- a number without its lowest bit has all its other bits
+pub without-lowest :
+    (d n a : ℕ) → 0 < n → n < 2 ^ d → bit a n ≡ 1 → (a ≡ trailingZeros d n) ⊎ (bit a (bitAnd n (n - 1)) ≡ 1)
+unfolding bit trailingZeros
+without-lowest zero n a some small one = let z : ⊥ = omega arith in absurd z
+without-lowest (suc d) n a some small one =
+    let double : 2 ^ suc d ≡ 2 ^ d * 2 = pow-suc 2 d in
+    go (n % 2) refl a one (λ b half set. without-lowest d (n / 2) b half (omega arith) set)
+  where
+    go :
+        (r : ℕ) → n % 2 ≡ r → (a : ℕ) → bit a n ≡ 1 →
+        ((b : ℕ) → 0 < n / 2 → bit b (n / 2) ≡ 1 →
+        (b ≡ trailingZeros d (n / 2)) ⊎ (bit b (bitAnd (n / 2) (n / 2 - 1)) ≡ 1)) →
+        (a ≡ under r (trailingZeros d (n / 2))) ⊎ (bit a (bitAnd n (n - 1)) ≡ 1)
+    go zero e zero one again = let z : ⊥ = omega arith in absurd z
+    go zero e (suc b) one again =
+        let low : (n - 1) / 2 ≡ n / 2 - 1 = omega arith in
+        let half : bitAnd n (n - 1) / 2 ≡ bitAnd (n / 2) (n / 2 - 1) =
+        and-half n (n - 1) ∙ ap (λ (z : ℕ). bitAnd (n / 2) z) low in
+        ⊎-elim (λ same. inl (ap suc same)) (λ set. inr (ap (bit b) half ∙ set)) (again b (omega arith) one)
+    go (suc r) e zero one again = inl refl
+    go (suc r) e (suc b) one again =
+        let low : (n - 1) / 2 ≡ n / 2 = omega arith in
+        let half : bitAnd n (n - 1) / 2 ≡ n / 2 =
+        and-half n (n - 1) ∙ ap (λ (z : ℕ). bitAnd (n / 2) z) low ∙ and-self (n / 2) in
+        inr (ap (bit b) half ∙ one)

@@ -1,54 +1,94 @@
 -- `contexts::close_contexts` meets its contract. The invariant of its loop: what holds after some rounds. Assumes nothing.
-use mathlib.Core.Path.{_≡_, refl, sym, ap, _∙_, subst}
+use mathlib.Core.Path.{_≡_, refl, sym, ap, _∙_, subst, subst₂}
 use mathlib.Core.Bool.{Bool}
 use mathlib.Core.List.{List}
-use Prim.Native.Nat.{ℕ, _<_, _≤_}
+use Prim.Native.Nat.{ℕ, _<_}
 use native.Mathlib.Omega.{arith}
-use lib.ListN.{length}
+use lib.ListN.{length, replicate}
 use Rattle.model.specs.Lists.{numbersFrom}
 use Rattle.indexed.specs.Trees.{Arrays}
-use Rattle.indexed.specs.Partitions.{Labelled, SuffixAgree}
-use Rattle.indexed.specs.Passes.{Swept}
+use Rattle.indexed.specs.Partitions.{Labelled}
+use Rattle.indexed.specs.Passes.{SuffixClasses, Swept}
+use Rattle.suffixes.proofs.FillLaws.{front-length, front-again, front-fits}
 use Rattle.contexts.specs.Rounds.{ForksJoined}
-use Rattle.contexts.proofs.RoundLaws.{RoundsTo, due, rounds-none, forked-agree, rounds-more, rounds-less, rounds-all}
+use Rattle.contexts.specs.Sweeps.{SweptBy}
+use Rattle.contexts.proofs.RoundLaws.{RoundsTo, due, arrays-front, classes-front, rounds-none, forked-agree, rounds-more}
+use Rattle.contexts.proofs.RoundLaws.{rounds-less, rounds-all}
 use Rattle.contexts.proofs.close_contexts.Statement.{statement}
 use Rattle.contexts.proofs.close_contexts.Tie as tie
 
 abbrev Inv-loop : tie.InvT-loop
-Inv-loop h m parents names numbers groups₀ work₀ joined₀ groups work joined =
+Inv-loop h m parents names numbers groups₀ work₀ n classes joined₀ groups work joined =
     (length work ≡ length work₀) × RoundsTo (length groups₀) h m parents names groups joined
 
 abbrev μ-loop : tie.MeasureT-loop
-μ-loop h m parents names numbers groups₀ work₀ joined₀ groups work joined = due groups joined
+μ-loop h m parents names numbers groups₀ work₀ n classes joined₀ groups work joined = due groups joined
+
+-- the function's entry, from the loop's head
+abbrev entry : tie.At-loop Inv-loop μ-loop → tie.Start Inv-loop μ-loop
+entry c = c .before .before .before .before .before .before
+    .before .before .before .before .before .before
+
+-- the classes, by the number of states at the start
+classes-here :
+    (c : tie.After-suffix-classes Inv-loop μ-loop) → let at = c .before .before .before .before .before .before .before .before in
+    SuffixClasses (length (at .args .groups .now)) (at .args .h) (at .args .parents .now) (at .args .names .now)
+    (c .suffix-classes .last .1 .1 .1 .0)
+classes-here c =
+    let at = c .before .before .before .before .before .before .before .before in
+    classes-front (length (at .args .groups .now)) (at .args .h) (replicate 512 0) (at .args .parents .now) (at .args .names .now)
+    (c .suffix-classes .last .1 .1 .1 .0) (at .pre .0 .arrays .few-states) (c .suffix-classes .ensures)
 
 -- what the forks promise, by the number of states at the start
 forks-here :
     (c : tie.After-close-forks Inv-loop μ-loop) → let here = c .before .before .before .before in
-    let at = here .before .before .before .before .before .before in
+    let at = entry here in
     ForksJoined (length (at .args .groups .now)) (at .args .parents .now) (at .args .names .now) (here .loop .groups)
     (c .close-forks .last .1 .1 .1 .0)
 forks-here c =
     let here = c .before .before .before .before in
-    let at = here .before .before .before .before .before .before in
+    let at = entry here in
     subst (λ (k : ℕ). ForksJoined k (at .args .parents .now) (at .args .names .now) (here .loop .groups)
     (c .close-forks .last .1 .1 .1 .0)) (here .loop .inv .1 .labelled .size) (c .close-forks .ensures)
 
 -- what the sweep promises, by the number of states at the start
 swept-here :
-    (c : tie.After-sweep Inv-loop μ-loop) → let forks = c .before .before .before .before .before .before .before in
-    let at = forks .before .before .before .before .before .before .before .before .before .before in
+    (c : tie.After-sweep Inv-loop μ-loop) → let forks = c .before .before .before .before .before .before .before .before in
+    let at = entry (forks .before .before .before .before) in
     Swept (length (at .args .groups .now)) (at .args .h) (at .args .m) (at .args .parents .now) (at .args .names .now)
     (forks .close-forks .last .1 .1 .1 .0) (c .sweep .last .1 .1 .1 .1 .0) (c .sweep .result)
 swept-here c =
-    let forks = c .before .before .before .before .before .before .before in
-    let at = forks .before .before .before .before .before .before .before .before .before .before in
-    subst (λ (k : ℕ). Swept k (at .args .h) (at .args .m) (at .args .parents .now) (at .args .names .now)
-    (forks .close-forks .last .1 .1 .1 .0) (c .sweep .last .1 .1 .1 .1 .0) (c .sweep .result)) (forks-here forks .labelled .size)
-    (c .sweep .ensures)
+    let forks = c .before .before .before .before .before .before .before .before in
+    let here = forks .before .before .before .before in
+    let at = entry here in
+    let n = length (at .args .groups .now) in
+    let forked = forks .close-forks .last .1 .1 .1 .0 in
+    let cut = here .before .before .before .before in
+    let front = cut .suffix-classes .last .1 .1 .1 .0 in
+    let by = classes-here cut in
+    let agree =
+    forked-agree n (at .args .h) (at .args .m) (at .args .parents .now) (at .args .names .now) (here .loop .groups) forked
+    (here .loop .joined) (at .pre .0 .arrays) (here .loop .inv .1) (forks-here forks) (at .pre .0 .some-names) in
+    subst₂ (λ (k : ℕ) (l : List ℕ). SweptBy k (at .args .m) (at .args .parents .now) (at .args .names .now) l forked
+    (c .sweep .last .1 .1 .1 .1 .0) (c .sweep .result)) (forks-here forks .labelled .size)
+    (front-again n front front _ refl (by .size)) (c .sweep .ensures)
+    .swept (at .args .h) by agree
+
+array-borrow-prefix-classes : tie.Need-array-borrow-prefix-classes Inv-loop μ-loop
+array-borrow-prefix-classes c = c .before .before .before .before .before .pre .0 .arrays .few-states
+
+slice-aggregate-suffix-classes : tie.Need-slice-aggregate-suffix-classes Inv-loop μ-loop
+slice-aggregate-suffix-classes c =
+    sym (front-length _ _ (c .before .before .before .before .before .before .pre .0 .arrays .few-states))
+
+suffix-classes-requires : tie.Need-suffix-classes-requires Inv-loop μ-loop
+suffix-classes-requires c κs =
+    let at = c .before .before .before .before .before .before .before in
+    (arrays-front _ _ _ _ (at .pre .0 .arrays .few-states) (at .pre .0 .arrays), (at .pre .0 .limit, at .pre .1 .1))
 
 loop-holds : tie.Need-loop-holds Inv-loop μ-loop
 loop-holds c =
-    let at = c .before .before .before .before .before in (
+    let at = c .before .before .before .before .before .before .before .before .before .before .before in (
       refl,
       rounds-none (length (at .args .groups .now)) (at .args .h) (at .args .m) (at .args .parents .now) (at .args .names .now)
           (at .args .groups .now) (at .pre .0),
@@ -57,41 +97,53 @@ loop-holds c =
 close-forks-requires : tie.Need-close-forks-requires Inv-loop μ-loop
 close-forks-requires c κs =
     let here = c .before .before .before in
-    let at = here .before .before .before .before .before .before in
+    let at = entry here in
     let size = sym (here .loop .inv .1 .labelled .size) in (
       subst (λ (k : ℕ). Arrays k (at .args .parents .now) (at .args .names .now)) size (at .pre .0 .arrays),
       (
         at .pre .1 .0 ∙ ap (λ (k : ℕ). numbersFrom k 0) size,
         (
           subst (λ (k : ℕ). Labelled k (here .loop .groups)) size (here .loop .inv .1 .labelled),
-          omega (arith, here .loop .inv .0, at .pre .1 .1),
+          omega (arith, here .loop .inv .0, here .before .before .before .before .suffix-classes .kept .1 .1 .1 .1 .0, at .pre .1 .1),
         ),
       ),
     )
 
+array-share-prefix-classes : tie.Need-array-share-prefix-classes Inv-loop μ-loop
+array-share-prefix-classes c =
+    let cut = c .before .before .before .before .before .before .before .before .before .before .before .before in
+    let front = cut .suffix-classes .last .1 .1 .1 .0 in
+    front-fits _ front front _ refl (classes-here cut .size)
+
+slice-aggregate-sweep : tie.Need-slice-aggregate-sweep Inv-loop μ-loop
+slice-aggregate-sweep c =
+    let cut = c .before .before .before .before .before .before .before .before .before .before .before .before .before in
+    let front = cut .suffix-classes .last .1 .1 .1 .0 in
+    let size = classes-here cut .size in
+    sym (ap length (front-again _ front front _ refl size) ∙ size)
+
 sweep-requires : tie.Need-sweep-requires Inv-loop μ-loop
 sweep-requires c κs =
-    let forks = c .before .before .before .before .before .before in
+    let forks = c .before .before .before .before .before .before .before in
     let here = forks .before .before .before .before in
-    let at = here .before .before .before .before .before .before in
-    let n = length (at .args .groups .now) in
+    let at = entry here in
+    let cut = here .before .before .before .before in
     let forked = forks .close-forks .last .1 .1 .1 .0 in
+    let front = cut .suffix-classes .last .1 .1 .1 .0 in
+    let by-size = classes-here cut .size in
     let done = forks-here forks in
-    let size = sym (done .labelled .size) in
-    let agree =
-    forked-agree n (at .args .h) (at .args .m) (at .args .parents .now) (at .args .names .now) (here .loop .groups) forked
-    (here .loop .joined) (at .pre .0 .arrays) (here .loop .inv .1) done (at .pre .0 .some-names) in (
+    let size = sym (done .labelled .size) in (
       subst (λ (k : ℕ). Arrays k (at .args .parents .now) (at .args .names .now)) size (at .pre .0 .arrays),
       (
-        at .pre .0 .some-steps,
+        ap length (front-again _ front front _ refl by-size) ∙ by-size ∙ size,
         (
-          at .pre .0 .limit,
-          (
-            subst (λ (k : ℕ). Labelled k forked) size (done .labelled),
-            (
-              subst (λ (k : ℕ). SuffixAgree k (at .args .h) (at .args .parents .now) (at .args .names .now) forked) size agree,
-              omega (arith, forks .close-forks .kept .1 .1 .1 .1 .0, here .loop .inv .0, at .pre .1 .1),
-            ),
+          subst (λ (k : ℕ). Labelled k forked) size (done .labelled),
+          omega (
+            arith,
+            forks .close-forks .kept .1 .1 .1 .1 .0,
+            here .loop .inv .0,
+            cut .suffix-classes .kept .1 .1 .1 .1 .0,
+            at .pre .1 .1,
           ),
         ),
       ),
@@ -100,9 +152,9 @@ sweep-requires c κs =
 loop-less : tie.Need-loop-less Inv-loop μ-loop
 loop-less c =
     let sweeps = c .before .before .before .before in
-    let forks = sweeps .before .before .before .before .before .before .before in
+    let forks = sweeps .before .before .before .before .before .before .before .before in
     let here = forks .before .before .before .before in
-    let at = here .before .before .before .before .before .before in
+    let at = entry here in
     subst (λ (b : Bool). due (sweeps .sweep .last .1 .1 .1 .1 .0) (sweeps .sweep .result) < due (here .loop .groups) b)
     (sym (forks .before .before .before .loop-test .taken))
     (rounds-less (length (at .args .groups .now)) (at .args .h) (at .args .m) (at .args .parents .now) (at .args .names .now)
@@ -112,9 +164,9 @@ loop-less c =
 loop-again : tie.Need-loop-again Inv-loop μ-loop
 loop-again c =
     let sweeps = c .before .before .before .before in
-    let forks = sweeps .before .before .before .before .before .before .before in
+    let forks = sweeps .before .before .before .before .before .before .before .before in
     let here = forks .before .before .before .before in
-    let at = here .before .before .before .before .before .before in (
+    let at = entry here in (
       sweeps .sweep .kept .1 .1 .1 .1 .1 .0 ∙ forks .close-forks .kept .1 .1 .1 .1 .0 ∙ here .loop .inv .0,
       rounds-more (length (at .args .groups .now)) (at .args .h) (at .args .m) (at .args .parents .now) (at .args .names .now)
           (here .loop .groups) (forks .close-forks .last .1 .1 .1 .0) (here .loop .joined) (at .pre .0 .arrays) (here .loop .inv .1)
@@ -125,12 +177,13 @@ same-length : tie.Need-same-length Inv-loop μ-loop
 same-length c = c .before .loop .inv .1 .labelled .size
 
 same-length-2 : tie.Need-same-length-2 Inv-loop μ-loop
-same-length-2 c = c .before .loop .inv .0
+same-length-2 c =
+    c .before .loop .inv .0 ∙ c .before .before .before .before .before .suffix-classes .kept .1 .1 .1 .1 .0
 
 returns : tie.Need-returns Inv-loop μ-loop
 returns c =
     let here = c .before in
-    let at = here .before .before .before .before .before .before in
+    let at = entry here in
     rounds-all (length (at .args .groups .now)) (at .args .h) (at .args .m) (at .args .parents .now) (at .args .names .now)
     (here .loop .groups) (here .loop .joined) (c .loop-test .left) (here .loop .inv .1)
 
@@ -140,8 +193,13 @@ close-contexts-spec =
     (tie.spec
     Inv-loop
     μ-loop
+    array-borrow-prefix-classes
+    slice-aggregate-suffix-classes
+    suffix-classes-requires
     loop-holds
     close-forks-requires
+    array-share-prefix-classes
+    slice-aggregate-sweep
     sweep-requires
     loop-less
     loop-again

@@ -1,0 +1,124 @@
+-- `pairs::sweep` meets its contract: the groups that are read are those copied, and the sets are those linked. Assumes nothing.
+use mathlib.Core.Path.{refl, sym, ap, subst}
+use mathlib.Core.List.{List}
+use Prim.Native.Nat.{ℕ}
+use native.Mathlib.Omega.{arith}
+use borrow.Author.Needs.{needs}
+use lib.ListN.{length}
+use Rattle.indexed.specs.Trees.{Arrays}
+use Rattle.indexed.specs.Partitions.{Labelled}
+use Rattle.indexed.proofs.Chains.{heads-none}
+use Rattle.suffixes.proofs.FillLaws.{front-length, front-again, front-fits}
+use Rattle.contexts.proofs.SweepLaws.{sweep-comparing, sweep-swept}
+use Rattle.contexts.proofs.pairs.sweep.Statement.{statement}
+use Rattle.contexts.proofs.pairs.sweep.Tie as tie
+
+-- the function's entry, from where the groups are copied
+abbrev entry : tie.After-copy → tie.Start
+entry c = c .before .before .before .before .before .before .before .before
+
+array-borrow-prefix-old : tie.Need-array-borrow-prefix-old
+array-borrow-prefix-old c = search needs
+
+slice-aggregate-copy : tie.Need-slice-aggregate-copy
+slice-aggregate-copy c =
+    sym (front-length _ _ (c .before .before .before .before .before .before .before .pre .0 .few-states))
+
+copy-requires : tie.Need-copy-requires
+copy-requires c κs = front-length _ _ (c .before .before .before .before .before .before .before .pre .0 .few-states)
+
+array-share-prefix-old : tie.Need-array-share-prefix-old
+array-share-prefix-old c =
+    let copied = c .before in
+    let start = entry copied in
+    let groups = start .args .groups .now in
+    front-fits _ groups (copied .copy .last .1 .0) _ (copied .copy .ensures) refl
+
+slice-aggregate-link-arcs : tie.Need-slice-aggregate-link-arcs
+slice-aggregate-link-arcs c =
+    let copied = c .before .before in
+    let start = entry copied in
+    let groups = start .args .groups .now in
+    let same = front-again (length groups) groups (copied .copy .last .1 .0) _ (copied .copy .ensures) refl in
+    sym (ap length same)
+
+slice-aggregate-link-arcs-2 : tie.Need-slice-aggregate-link-arcs-2
+slice-aggregate-link-arcs-2 c = search needs
+
+link-arcs-requires : tie.Need-link-arcs-requires
+link-arcs-requires c κs =
+    let copied = c .before .before .before .before in
+    let start = entry copied in
+    let groups = start .args .groups .now in
+    let same = front-again (length groups) groups (copied .copy .last .1 .0) _ (copied .copy .ensures) refl in (
+      subst (λ (l : List ℕ). Arrays (length l) (start .args .parents .now) (start .args .names .now)) (sym same) (start .pre .0),
+      (
+        subst (λ (l : List ℕ). Labelled (length l) l) (sym same) (start .pre .1 .1 .0),
+        (omega (arith, ap length same, start .pre .0 .few-states), (heads-none 512, start .pre .1 .1 .1)),
+      ),
+    )
+
+array-share-prefix-old-2 : tie.Need-array-share-prefix-old-2
+array-share-prefix-old-2 c =
+    let copied = c .before .before .before .before .before .before .before .before in
+    let start = entry copied in
+    let groups = start .args .groups .now in
+    front-fits _ groups (copied .copy .last .1 .0) _ (copied .copy .ensures) refl
+
+slice-aggregate-sweep-pairs : tie.Need-slice-aggregate-sweep-pairs
+slice-aggregate-sweep-pairs c =
+    let copied = c .before .before .before .before .before .before .before .before .before in
+    let start = entry copied in
+    let groups = start .args .groups .now in
+    let same = front-again (length groups) groups (copied .copy .last .1 .0) _ (copied .copy .ensures) refl in
+    sym (ap length same)
+
+slice-aggregate-sweep-pairs-2 : tie.Need-slice-aggregate-sweep-pairs-2
+slice-aggregate-sweep-pairs-2 c = search needs
+
+sweep-pairs-requires : tie.Need-sweep-pairs-requires
+sweep-pairs-requires c κs =
+    let linked = c .before .before .before .before .before .before .before in
+    let copied = linked .before .before .before .before .before in
+    let start = entry copied in
+    let groups = start .args .groups .now in
+    let same = front-again (length groups) groups (copied .copy .last .1 .0) _ (copied .copy .ensures) refl in
+    let links = linked .link-arcs in (
+      sweep-comparing (start .pre .0) (start .pre .1 .1 .0) same (links .ensures) (start .pre .1 .0) (links .kept .1 .1 .1 .0)
+          (omega (arith, links .kept .1 .1 .1 .1 .0, start .pre .1 .1 .1)),
+      (sym (ap length same), subst (λ (l : List ℕ). Labelled (length l) groups) (sym same) (start .pre .1 .1 .0)),
+    )
+
+same-length : tie.Need-same-length
+same-length c = search needs
+
+same-length-2 : tie.Need-same-length-2
+same-length-2 c = search needs
+
+returns : tie.Need-returns
+returns c =
+    let linked = c .before .before .before .before .before .before .before .before .before .before in
+    let copied = linked .before .before .before .before .before in
+    let start = entry copied in
+    let groups = start .args .groups .now in
+    let same = front-again (length groups) groups (copied .copy .last .1 .0) _ (copied .copy .ensures) refl in
+    sweep-swept (start .pre .0) (start .pre .1 .1 .0) same (linked .link-arcs .ensures) (c .before .before .sweep-pairs .ensures)
+
+pub sweep-spec : {M : Type 1} → statement M
+sweep-spec =
+    tie.close
+    (tie.spec
+    array-borrow-prefix-old
+    slice-aggregate-copy
+    copy-requires
+    array-share-prefix-old
+    slice-aggregate-link-arcs
+    slice-aggregate-link-arcs-2
+    link-arcs-requires
+    array-share-prefix-old-2
+    slice-aggregate-sweep-pairs
+    slice-aggregate-sweep-pairs-2
+    sweep-pairs-requires
+    same-length
+    same-length-2
+    returns)
