@@ -3,7 +3,7 @@ use mathlib.Core.Path.{_≡_, refl, _∙_}
 use Prim.Native.Nat.{ℕ, _-_, _<_, _≤_}
 use native.Mathlib.Omega.{arith}
 use lib.ListN.{length, getD, length-set}
-use Rattle.suffixes.proofs.FillLaws.{fill-more}
+use Rattle.indexed.proofs.Fills.{fill-more}
 use Rattle.contexts.proofs.RoundLaws.{own-all}
 use Rattle.contexts.proofs.forks.own.Statement.{statement}
 use Rattle.contexts.proofs.forks.own.Tie as tie
