@@ -16,7 +16,7 @@ use Rattle.indexed.proofs.Keys.{number-at, numbers-length, forks-keys, keys-for
 use Rattle.indexed.proofs.Suffixes.{parent-below}
 use Rattle.indexed.proofs.Contexts.{joined-suffix-agree}
 use Rattle.partition.specs.Steps.{Ready}
-use Rattle.suffixes.proofs.FillLaws.{front-length}
+use Rattle.indexed.proofs.Fills.{front-length}
 use Rattle.contexts.specs.Climbs.{ClimbedBelow}
 use Rattle.contexts.specs.Rounds.{ContextSound, ForksJoined, RoundReady}
 use Rattle.contexts.proofs.ClimbLaws.{climbs-sound}

@@ -104,7 +104,7 @@ fn close_contexts(
 {
     let n = groups.len();
     let mut classes = [0u16; STATE_LIMIT];
-    suffixes::suffix_classes(h, parents, names, &mut classes[..n], work);
+    suffixes::suffix_classes(h, parents, names, &mut classes[..n]);
     let mut joined = true;
     while joined {
         forks::close_forks(parents, names, numbers, groups, work);
@@ -148,7 +148,7 @@ pub fn join_by_context(
     requires room { ⌜ work-bytes ≤ length (now work) ⌝ }
     ensures { λ _. ⌜ ContextJoined (length (now (groups .entry))) k h (now (parents .entry)) (now (names .entry)) (now (groups .exit)) ⌝ }
 {
-    suffixes::by_suffix(k, parents, names, groups, work);
+    suffixes::by_suffix(k, parents, names, groups);
     let m = k - h;
     if m == 0 {
         return;

@@ -11,7 +11,7 @@ use Rattle.model.specs.Limits.{name-limit}
 use Rattle.model.specs.Lists.{numbersFrom}
 use Rattle.indexed.specs.Trees.{Arrays}
 use Rattle.indexed.specs.Partitions.{Refines, KeyClosed, ForkClosed, EndsClosed, BackClosed}
-use Rattle.indexed.specs.Passes.{BySuffix, ByEnds, NamesAbove, SeenSets, BySeen, KeysWhere, FJoined}
+use Rattle.indexed.specs.Passes.{BySuffix, ByEnds, NamesAbove, SeenSets, ByValue, KeysWhere, FJoined}
 use Rattle.indexed.proofs.Keys.{forks-keys, keys-forks}
 use Rattle.indexed.proofs.Functions.{last-forks, seen-forks, last-back, last-keys, seen-back, seen-keys}
 use Rattle.functions.specs.Rounds.{RoundClosed, JoinedUntil, Finished}
@@ -95,7 +95,7 @@ joined-by-last n j parents names accepts classes keys none groups arrays by abov
 
 pub joined-by-seen :
     (n : ℕ) (parents names accepts seen classes enlarging others groups : List ℕ) → Arrays n parents names →
-    SeenSets n parents names seen → BySeen n seen classes → KeysWhere n true parents names seen enlarging →
+    SeenSets n parents names seen → ByValue n seen classes → KeysWhere n true parents names seen enlarging →
     KeysWhere n false parents names seen others → Finished n parents names accepts classes enlarging others groups →
     JoinedBySeen n parents names accepts groups
 joined-by-seen n parents names accepts seen classes enlarging others groups arrays sets by keys keys′ finished =

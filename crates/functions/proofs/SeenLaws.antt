@@ -11,7 +11,7 @@ use lib.Seq.{getD-set-same, getD-set-other}
 use borrow.Author.Count.{below-more}
 use Rattle.model.specs.Limits.{name-limit}
 use Rattle.indexed.specs.Trees.{Arrays}
-use Rattle.indexed.specs.Passes.{SeenSets, BySeen}
+use Rattle.indexed.specs.Passes.{SeenSets, ByValue}
 use Rattle.functions.specs.Parts.{SeenAt, FirstSeen}
 use Rattle.partition.proofs.FillLaws.{Filled}
 
@@ -93,7 +93,7 @@ first-same seen v w x y one at-v at-w =
     omega (arith)
 
 pub by-seen-all :
-    (i : ℕ) (seen out₀ out : List ℕ) → length out₀ ≤ i → Filled (FirstSeen seen) i out₀ out → BySeen (length out₀) seen out
+    (i : ℕ) (seen out₀ out : List ℕ) → length out₀ ≤ i → Filled (FirstSeen seen) i out₀ out → ByValue (length out₀) seen out
 by-seen-all i seen out₀ out all filled =
     record {
       labelled = record { size = filled .size; low = λ v h. at v h .low; own = own };

@@ -6,7 +6,7 @@ use Prim.Native.Nat.{ℕ, _≤_}
 use lib.ListN.{length}
 use Rattle.cells.specs.Cells.{work-bytes}
 use Rattle.indexed.specs.Trees.{Arrays}
-use Rattle.indexed.specs.Passes.{BySuffix, SeenSets, BySeen, FJoined}
+use Rattle.indexed.specs.Passes.{BySuffix, SeenSets, ByValue, FJoined}
 
 -- the tree's arrays, an array of accepting states, and a working area large enough
 pub record JoinReady (n : ℕ) (parents names accepts work : List ℕ) : Type 0 where
@@ -25,5 +25,5 @@ pub record JoinedBySeen (n : ℕ) (parents names accepts groups : List ℕ) : Ty
   pub seen : List ℕ
   pub classes : List ℕ
   pub sets : SeenSets n parents names seen
-  pub by-seen : BySeen n seen classes
+  pub by-seen : ByValue n seen classes
   pub joined : FJoined n parents names accepts classes groups

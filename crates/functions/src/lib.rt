@@ -40,7 +40,7 @@ fn join_last_in(
         ⌜ JoinedByLast (length (now (groups .entry))) j (now (parents .entry)) (now (names .entry)) (now (accepts .entry))
         (now (groups .exit)) ⌝ }
 {
-    suffixes::by_suffix(j, parents, names, classes, work);
+    suffixes::by_suffix(j, parents, names, classes);
     keys::names_above(j, parents, names, keys);
     rounds::finish(
         parents,

@@ -7,7 +7,7 @@ ghost use lib.Bits.{bitOr};
 ghost use lib.ListN.{length, getD};
 ghost use Rattle.model.specs.Limits.{name-limit, state-limit};
 ghost use Rattle.indexed.specs.Trees.{Arrays};
-ghost use Rattle.indexed.specs.Passes.{SeenSets, BySeen};
+ghost use Rattle.indexed.specs.Passes.{SeenSets, ByValue};
 ghost use Rattle.indexed.specs.Chains.{Chained};
 ghost use Rattle.functions.specs.Parts.{SeenAt, bucketOf, Listed, Linked, FirstSeen};
 
@@ -106,7 +106,7 @@ fn link(
 pub fn classes_by_seen(seen: &[u64], classes: &mut [u16])
     requires few { ⌜ length (now classes) ≤ state-limit ⌝ }
     requires seen_size { ⌜ length (now seen) ≡ length (now classes) ⌝ }
-    ensures { λ _. ⌜ BySeen (length (now (classes .entry))) (now (seen .entry)) (now (classes .exit)) ⌝ }
+    ensures { λ _. ⌜ ByValue (length (now (classes .entry))) (now (seen .entry)) (now (classes .exit)) ⌝ }
 {
     let mut links = [0u16; STATE_LIMIT];
     let mut heads = [0u16; STATE_LIMIT];

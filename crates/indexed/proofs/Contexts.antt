@@ -15,7 +15,7 @@ use Rattle.indexed.specs.Partitions.{Refines, Labelled, ForkClosed, Cont
 use Rattle.indexed.specs.Passes.{BySuffix, ContextJoined}
 use Rattle.indexed.proofs.Labels.{Equivalence, labels, labels-alike}
 use Rattle.indexed.proofs.Suffixes.{sameSuffix, tells-suffix, parent-below, suffix-refl, suffix-cast}
-pub use Rattle.indexed.proofs.Suffixes.{classes-zero, suffix-sym, suffix-trans, suffix-fewer, suffix-up}
+pub use Rattle.indexed.proofs.Suffixes.{suffix-sym, suffix-trans, suffix-fewer, suffix-up}
 pub use Rattle.indexed.proofs.Suffixes.{share-up, climb-sound}
 
 module _ (n : ℕ) (parents names : List ℕ) (arrays : Arrays n parents names) where

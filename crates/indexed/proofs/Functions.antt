@@ -13,7 +13,7 @@ use Rattle.model.specs.Limits.{name-limit}
 use Rattle.model.specs.Lists.{numbersFrom}
 use Rattle.indexed.specs.Trees.{Arrays, SameSuffix, up}
 use Rattle.indexed.specs.Partitions.{Refines, KeyClosed, ForkClosed, BackClosed}
-use Rattle.indexed.specs.Passes.{BySuffix, NamesAbove, SeenSets, BySeen, KeysWhere}
+use Rattle.indexed.specs.Passes.{BySuffix, NamesAbove, SeenSets, ByValue, KeysWhere}
 use Rattle.indexed.proofs.Keys.{number-at, named-not-root}
 use Rattle.indexed.proofs.Suffixes.{parent-below, up-below, suffix-cast, suffix-up, suffix-more}
 use Rattle.indexed.proofs.Contexts.{suffix-forks}
@@ -28,7 +28,7 @@ last-forks n j parents names classes arrays by = suffix-forks n parents names ar
 
 pub seen-forks :
     (n : ℕ) (parents names seen classes : List ℕ) → Arrays n parents names → SeenSets n parents names seen →
-    BySeen n seen classes → ForkClosed n parents names classes
+    ByValue n seen classes → ForkClosed n parents names classes
 seen-forks n parents names seen classes arrays sets by v w pv pw hv hw same-name one =
     let pv-below : getD parents v 0 < n = parent-below n parents names arrays v hv in
     let pw-below : getD parents w 0 < n = parent-below n parents names arrays w hw in
@@ -104,7 +104,7 @@ module _ (n : ℕ) (parents names : List ℕ) (arrays : Arrays n parents names) 
 
   -- seen sets: two sets of keys
   pub seen-back :
-      (seen classes enlarging others groups : List ℕ) → SeenSets n parents names seen → BySeen n seen classes →
+      (seen classes enlarging others groups : List ℕ) → SeenSets n parents names seen → ByValue n seen classes →
       KeysWhere n true parents names seen enlarging → KeysWhere n false parents names seen others → Refines n groups classes →
       KeyClosed n (numbersFrom n 0) parents enlarging groups → KeyClosed n (numbersFrom n 0) parents others groups →
       BackClosed n parents names classes groups
@@ -140,7 +140,7 @@ module _ (n : ℕ) (parents names : List ℕ) (arrays : Arrays n parents names) 
       go false e = by-keys false true enlarging keys closed e refl
 
   pub seen-keys :
-      (enlarge : Bool) (seen classes keys groups : List ℕ) → SeenSets n parents names seen → BySeen n seen classes →
+      (enlarge : Bool) (seen classes keys groups : List ℕ) → SeenSets n parents names seen → ByValue n seen classes →
       KeysWhere n enlarge parents names seen keys → Refines n groups classes → BackClosed n parents names classes groups →
       KeyClosed n (numbersFrom n 0) parents keys groups
   seen-keys enlarge seen classes keys groups sets by keys-where agree closed v w hv hw below keys-same numbers-one =

@@ -1,4 +1,5 @@
 -- Why a partition that the passes' promises describe has the table of the book. Assumes nothing.
+pub mod Fills
 pub mod Words
 pub mod Kernels
 pub mod Joined

@@ -7,11 +7,10 @@ use Prim.Native.Nat.{ℕ, zero, suc, _+_, _-_, _<_, _≤_}
 use native.Mathlib.Nat.{not-suc-le-zero}
 use native.Mathlib.Omega.{arith}
 use lib.Dec.{eqb, ltb}
-use lib.ListN.{length, getD}
+use lib.ListN.{getD}
 use Rattle.model.proofs.Tests.{Tells, tells-and, tells-by, tells-eqb, tells-ltb}
 use Rattle.indexed.specs.Trees.{Arrays, SameSuffix, up}
 use Rattle.indexed.specs.Partitions.{ForkClosed, Share, ContextClosed}
-use Rattle.indexed.specs.Passes.{SuffixClasses}
 
 -- the parent of the i-th ancestor
 pub up-parent : (parents : List ℕ) (i v : ℕ) → getD parents (up parents i v) 0 ≡ up parents (suc i) v
@@ -39,20 +38,6 @@ tells-suffix parents names (suc i) v w =
     (λ s. (s .0, (s .1, (s .2, s .3))))
 
 module _ (n : ℕ) (parents names : List ℕ) (arrays : Arrays n parents names) where
-  -- no names at all: one class, the root
-  pub classes-zero :
-      (classes : List ℕ) → length classes ≡ n → ((v : ℕ) → v < n → getD classes v 0 ≡ 0) →
-      SuffixClasses n 0 parents names classes
-  classes-zero classes size zero-all =
-      record {
-        size = size;
-        few = λ v h. omega (arith, zero-all v h);
-        low = λ v h few. omega (arith, zero-all v h);
-        own = λ v h few.
-            ap (λ (x : ℕ). getD classes x 0) (zero-all v h) ∙ zero-all 0 (arrays .some-state) ∙ sym (zero-all v h);
-        alike = λ v w hv hw. (λ e. tt, λ s. (omega (arith, zero-all v hv), zero-all v hv ∙ sym (zero-all w hw)));
-      }
-
   pub parent-below : (v : ℕ) → v < n → getD parents v 0 < n
   parent-below zero h = rw (arrays .root-parent) h
   parent-below (suc v) h = omega (arith, arrays .parent-before (suc v) (omega arith) h)

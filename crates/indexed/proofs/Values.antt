@@ -16,7 +16,7 @@ use Rattle.model.specs.Fields.{Class}
 use Rattle.model.specs.Classes.{Word, fOf, seenSet, lastNames}
 use Rattle.model.specs.Joinings.{treeOf}
 use Rattle.indexed.specs.Trees.{wordAt, TreeArrays, SameSuffix}
-use Rattle.indexed.specs.Passes.{BySuffix, SeenSets, BySeen}
+use Rattle.indexed.specs.Passes.{BySuffix, SeenSets, ByValue}
 use Rattle.indexed.proofs.Words.{root-word, wordAt-one, suffix-words}
 use Rattle.indexed.proofs.Joined.{ClassesOfF}
 use Rattle.indexed.proofs.Bits.{bit, bit-zero, bit-of-set, bits-told}
@@ -125,7 +125,7 @@ seen-bits rows parents names seen tree sets (suc k) (suc v) a low h =
 -- seen set: the classes of f are those of the sets as numbers
 pub seen-classes :
     (c : Class) (rows : List Word) (parents names seen classes : List ℕ) → TreeArrays rows parents names →
-    eqb (c .kind) 1 ≡ true → SeenSets (length (treeOf rows)) parents names seen → BySeen (length (treeOf rows)) seen classes →
+    eqb (c .kind) 1 ≡ true → SeenSets (length (treeOf rows)) parents names seen → ByValue (length (treeOf rows)) seen classes →
     ClassesOfF c rows classes
 seen-classes c rows parents names seen classes tree kind sets by =
     record {

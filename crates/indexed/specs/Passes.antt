@@ -92,10 +92,10 @@ pub record SeenSets (n : ℕ) (parents names seen : List ℕ) : Type 0 where
   pub root-seen : getD seen 0 0 ≡ 0
   pub arc-seen : (v : ℕ) → 0 < v → v < n → getD seen v 0 ≡ bitOr (getD seen (getD parents v 0) 0) (2 ^ getD names v 0)
 
--- states with the same set have the same class, the first such state
-pub record BySeen (n : ℕ) (seen classes : List ℕ) : Type 0 where
+-- states with the same value, a set or a code of names, have the same class, the first such state
+pub record ByValue (n : ℕ) (values classes : List ℕ) : Type 0 where
   pub labelled : Labelled n classes
-  pub alike : (v w : ℕ) → v < n → w < n → (getD classes v 0 ≡ getD classes w 0) ↔ (getD seen v 0 ≡ getD seen w 0)
+  pub alike : (v w : ℕ) → v < n → w < n → (getD classes v 0 ≡ getD classes w 0) ↔ (getD values v 0 ≡ getD values w 0)
 
 -- the names of the arcs that do enlarge the seen set, or of those that do not; 64 at the other arcs and at the root
 pub record KeysWhere (n : ℕ) (enlarge : Bool) (parents names seen keys : List ℕ) : Type 0 where

@@ -1,3 +1,3 @@
--- Why the rounds give the classes by last names. Assumes nothing.
-pub mod FillLaws
-pub mod RoundLaws
+-- Why codes give the classes by last names. Assumes nothing.
+pub mod CodeLaws
+pub mod ClassLaws

@@ -1,2 +1,3 @@
--- What the rounds of the classes by last names promise. Assumes nothing.
-pub mod Rounds
+-- The last names of a state as one number, and the classes and the partition by it. Assumes nothing.
+pub mod Codes
+pub mod Classes

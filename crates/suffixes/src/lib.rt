@@ -1,24 +1,18 @@
-// Classes of the states of a prefix tree by their last names, one name more a round, and the partition by them. A state's class
-// is the first state with the same last names. Each round looks an earlier state up in a table of two-byte cells, by the class
-// above (the row) and the last name (the column); what stands in a cell is believed only after a look at that state itself, so
-// that the lent area needs no clearing.
+// Classes of the states of a prefix tree by their last names, and the partition by them. A state's class is the first state with
+// the same last names. The last names of each state are one number, its code, seven bits a name; states are compared by their
+// codes.
 use cells::numbers::narrow16;
-use cells::numbers::wide8;
 use cells::numbers::wide16;
 ghost use mathlib.Core.Path.{_≡_};
-ghost use mathlib.Core.Bool.{true};
-ghost use mathlib.Core.Logic.{_↔_};
-ghost use Prim.Native.Nat.{ℕ, _<_, _≤_};
+ghost use Prim.Native.Nat.{ℕ, _+_, _-_, _*_, _%_, _^_, _<_, _≤_};
 ghost use lib.ListN.{length, getD};
-ghost use Rattle.cells.specs.Cells.{work-bytes};
-ghost use Rattle.model.specs.Limits.{setting-limit};
+ghost use Rattle.model.specs.Limits.{name-limit, setting-limit};
 ghost use Rattle.indexed.specs.Trees.{Arrays};
 ghost use Rattle.indexed.specs.Passes.{SuffixClasses, BySuffix};
-ghost use Rattle.suffixes.specs.Rounds.{above, Earlier, ClassAt, OneMore, Kept, Grouped};
+ghost use Rattle.suffixes.specs.Codes.{least, Coded};
+ghost use Rattle.suffixes.specs.Classes.{above, Judged, Dropped, Kept, Grouped};
 
-// As many states as a tree may have, and the class of a state with too few names.
-const STATE_LIMIT: usize = 512;
-
+// The class of a state with too few names: as many states as a tree may have.
 const NONE: u16 = 512;
 
 // The class of the state before the last name of v.
@@ -29,61 +23,6 @@ pub fn class_above(old: &[u16], parents: &[u16], v: usize) -> usize
 {
     let parent = wide16(parents[v]);
     wide16(old[parent])
-}
-
-// Whether c is a state before v, not the root, with the same last name and the same class above.
-fn is_earlier(old: &[u16], parents: &[u16], names: &[u8], c: usize, v: usize) -> bool
-    requires { ⌜ Arrays (length (now old)) (now parents) (now names) ⌝ }
-    requires { ⌜ v < length (now old) ⌝ }
-    ensures { λ r. ⌜ (r ≡ true) ↔ Earlier (now (old .entry)) (now (parents .entry)) (now (names .entry)) c v ⌝ }
-{
-    if c == 0 {
-        return false;
-    }
-    if v <= c {
-        return false;
-    }
-    if names[c] != names[v] {
-        return false;
-    }
-    class_above(old, parents, c) == class_above(old, parents, v)
-}
-
-// The class of state v by one name more; where it has one, its cell then holds it.
-fn class_at(old: &[u16], parents: &[u16], names: &[u8], work: &mut [u8], v: usize) -> u16
-    requires { ⌜ Arrays (length (now old)) (now parents) (now names) ⌝ }
-    requires { ⌜ v < length (now old) ⌝ }
-    requires { ⌜ work-bytes ≤ length (now work) ⌝ }
-    ensures { λ r. ⌜ ClassAt (now (old .entry)) (now (parents .entry)) (now (names .entry)) v (now (work .entry)) (now (work .exit)) r ⌝ }
-{
-    if v == 0 {
-        return NONE;
-    }
-    let row = class_above(old, parents, v);
-    if STATE_LIMIT <= row {
-        return NONE;
-    }
-    let column = wide8(names[v]);
-    let c = cells::cell(work, row, column);
-    if is_earlier(old, parents, names, c, v) {
-        return narrow16(c);
-    }
-    cells::set_cell(work, row, column, v);
-    narrow16(v)
-}
-
-// One round: the classes by one name more.
-fn next_classes(old: &[u16], parents: &[u16], names: &[u8], classes: &mut [u16], work: &mut [u8])
-    requires { ⌜ Arrays (length (now old)) (now parents) (now names) ⌝ }
-    requires { ⌜ length (now classes) ≡ length (now old) ⌝ }
-    requires { ⌜ work-bytes ≤ length (now work) ⌝ }
-    ensures { λ _. ⌜ OneMore (length (now (old .entry))) (now (parents .entry)) (now (names .entry)) (now (old .entry)) (now (classes .exit)) ⌝ }
-{
-    let mut v = 0;
-    while v < classes.len() {
-        classes[v] = class_at(old, parents, names, work, v);
-        v += 1;
-    }
 }
 
 // Copies the numbers of one slice into another of the same length.
@@ -98,41 +37,70 @@ pub fn copy(from: &[u16], to: &mut [u16])
     }
 }
 
-// One round in place.
-fn one_more(parents: &[u16], names: &[u8], classes: &mut [u16], work: &mut [u8])
-    requires { ⌜ Arrays (length (now classes)) (now parents) (now names) ⌝ }
-    requires { ⌜ work-bytes ≤ length (now work) ⌝ }
-    ensures { λ _. ⌜ OneMore (length (now (classes .entry))) (now (parents .entry)) (now (names .entry)) (now (classes .entry)) (now (classes .exit)) ⌝ }
+// Ones in the bits of i names.
+fn mask_of(i: usize) -> u64
+    requires { ⌜ i ≤ setting-limit ⌝ }
+    ensures { λ r. ⌜ r ≡ 2 ^ (7 * i) - 1 ⌝ }
 {
-    let n = classes.len();
-    let mut old = [0u16; 512];
-    copy(classes, &mut old[..n]);
-    next_classes(&old[..n], parents, names, classes, work);
+    (1u64 << (7 * i)) - 1
 }
 
-// Every class 0: the classes by no name at all.
-fn clear_classes(classes: &mut [u16])
-    ensures { λ _. ⌜ ((v : ℕ) → v < length (now (classes .entry)) → getD (now (classes .exit)) v 0 ≡ 0) ⌝ }
+// The least code of a state with i names or more.
+fn least_code(i: usize) -> u64
+    requires { ⌜ i ≤ setting-limit ⌝ }
+    ensures { λ r. ⌜ r ≡ least i ⌝ }
 {
-    let mut v = 0;
-    while v < classes.len() {
-        classes[v] = 0;
+    if i == 0 {
+        return 0;
+    }
+    1u64 << (7 * (i - 1))
+}
+
+// A code with one name more at its end, cut to the bits of the mask.
+fn with_name(code: u64, name: u8, mask: u64) -> u64
+    requires { ⌜ code < 2 ^ 56 ⌝ }
+    requires { ⌜ name < name-limit ⌝ }
+    ensures { λ r. ⌜ ((i : ℕ) → mask ≡ 2 ^ (7 * i) - 1 → r ≡ (code * 128 + (name + 1)) % 2 ^ (7 * i)) ⌝ }
+{
+    ((code << 7) | (name as u64 + 1)) & mask
+}
+
+// The code of each state by its last i names, from that of the state before it.
+fn codes(i: usize, parents: &[u16], names: &[u8], values: &mut [u64])
+    requires { ⌜ Arrays (length (now values)) (now parents) (now names) ⌝ }
+    requires { ⌜ i ≤ setting-limit ⌝ }
+    ensures { λ _. ⌜ Coded (length (now (values .entry))) i (now (parents .entry)) (now (names .entry)) (now (values .exit)) ⌝ }
+{
+    let mask = mask_of(i);
+    values[0] = 0;
+    let mut v = 1;
+    while v < values.len() {
+        let parent = wide16(parents[v]);
+        values[v] = with_name(values[parent], names[v], mask);
         v += 1;
     }
 }
 
-// The classes by the last i names. What the lent area holds at first is all the same, and what it holds after is of no use.
-pub fn suffix_classes(i: usize, parents: &[u16], names: &[u8], classes: &mut [u16], work: &mut [u8])
-    requires { ⌜ Arrays (length (now classes)) (now parents) (now names) ⌝ }
-    requires { ⌜ i ≤ setting-limit ⌝ }
-    requires { ⌜ work-bytes ≤ length (now work) ⌝ }
-    ensures { λ _. ⌜ SuffixClasses (length (now (classes .entry))) i (now (parents .entry)) (now (names .entry)) (now (classes .exit)) ⌝ }
+// The class of a state with this code: none where the code is below the least.
+fn class_or_none(bound: u64, value: u64, class: u16) -> u16
+    ensures { λ r. ⌜ Judged bound value class r ⌝ }
 {
-    clear_classes(classes);
-    let mut j = 0;
-    while j < i {
-        one_more(parents, names, classes, work);
-        j += 1;
+    if value < bound {
+        return NONE;
+    }
+    class
+}
+
+// No class for the states with codes below the least.
+fn drop_short(bound: u64, values: &[u64], classes: &mut [u16])
+    requires { ⌜ length (now values) ≡ length (now classes) ⌝ }
+    ensures { λ _.
+        ⌜ Dropped (length (now (classes .entry))) bound (now (values .entry)) (now (classes .entry)) (now (classes .exit)) ⌝ }
+{
+    let mut v = 0;
+    while v < classes.len() {
+        classes[v] = class_or_none(bound, values[v], classes[v]);
+        v += 1;
     }
 }
 
@@ -159,13 +127,38 @@ fn group(classes: &mut [u16])
     }
 }
 
+// The classes by the last i names, with room for the codes: those of equal codes, none for states with fewer names.
+fn classes_in(i: usize, parents: &[u16], names: &[u8], values: &mut [u64], classes: &mut [u16])
+    requires { ⌜ Arrays (length (now classes)) (now parents) (now names) ⌝ }
+    requires { ⌜ i ≤ setting-limit ⌝ }
+    requires { ⌜ length (now values) ≡ length (now classes) ⌝ }
+    ensures { λ _.
+        ⌜ SuffixClasses (length (now (classes .entry))) i (now (parents .entry)) (now (names .entry)) (now (classes .exit)) ⌝ }
+{
+    codes(i, parents, names, values);
+    values::classes_of(values, classes);
+    drop_short(least_code(i), values, classes);
+}
+
+// The classes by the last i names.
+pub fn suffix_classes(i: usize, parents: &[u16], names: &[u8], classes: &mut [u16])
+    requires { ⌜ Arrays (length (now classes)) (now parents) (now names) ⌝ }
+    requires { ⌜ i ≤ setting-limit ⌝ }
+    ensures { λ _.
+        ⌜ SuffixClasses (length (now (classes .entry))) i (now (parents .entry)) (now (names .entry)) (now (classes .exit)) ⌝ }
+{
+    let n = classes.len();
+    let mut values = [0u64; 512];
+    classes_in(i, parents, names, &mut values[..n], classes);
+}
+
 // The partition by the last k names, states with fewer each by itself.
-pub fn by_suffix(k: usize, parents: &[u16], names: &[u8], groups: &mut [u16], work: &mut [u8])
+pub fn by_suffix(k: usize, parents: &[u16], names: &[u8], groups: &mut [u16])
     requires { ⌜ Arrays (length (now groups)) (now parents) (now names) ⌝ }
     requires { ⌜ k ≤ setting-limit ⌝ }
-    requires { ⌜ work-bytes ≤ length (now work) ⌝ }
-    ensures { λ _. ⌜ BySuffix (length (now (groups .entry))) k (now (parents .entry)) (now (names .entry)) (now (groups .exit)) ⌝ }
+    ensures { λ _.
+        ⌜ BySuffix (length (now (groups .entry))) k (now (parents .entry)) (now (names .entry)) (now (groups .exit)) ⌝ }
 {
-    suffix_classes(k, parents, names, groups, work);
+    suffix_classes(k, parents, names, groups);
     group(groups);
 }

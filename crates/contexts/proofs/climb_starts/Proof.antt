@@ -7,7 +7,7 @@ use native.Mathlib.Omega.{arith}
 use lib.ListN.{length, getD}
 use borrow.Author.Needs.{needs}
 use Rattle.indexed.specs.Partitions.{Labelled}
-use Rattle.suffixes.proofs.FillLaws.{front-length, front-again, front-fits}
+use Rattle.indexed.proofs.Fills.{front-length, front-again, front-fits}
 use Rattle.contexts.specs.Climbs.{ClimbedBelow}
 use Rattle.contexts.proofs.climb_starts.Statement.{statement}
 use Rattle.contexts.proofs.climb_starts.Tie as tie

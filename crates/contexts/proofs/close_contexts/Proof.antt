@@ -9,7 +9,7 @@ use Rattle.model.specs.Lists.{numbersFrom}
 use Rattle.indexed.specs.Trees.{Arrays}
 use Rattle.indexed.specs.Partitions.{Labelled}
 use Rattle.indexed.specs.Passes.{SuffixClasses, Swept}
-use Rattle.suffixes.proofs.FillLaws.{front-length, front-again, front-fits}
+use Rattle.indexed.proofs.Fills.{front-length, front-again, front-fits}
 use Rattle.contexts.specs.Rounds.{ForksJoined}
 use Rattle.contexts.specs.Sweeps.{SweptBy}
 use Rattle.contexts.proofs.RoundLaws.{RoundsTo, due, arrays-front, classes-front, rounds-none, forked-agree, rounds-more}
@@ -26,16 +26,15 @@ abbrev μ-loop : tie.MeasureT-loop
 
 -- the function's entry, from the loop's head
 abbrev entry : tie.At-loop Inv-loop μ-loop → tie.Start Inv-loop μ-loop
-entry c = c .before .before .before .before .before .before
-    .before .before .before .before .before .before
+entry c = c .before .before .before .before .before .before .before .before .before
 
 -- the classes, by the number of states at the start
 classes-here :
-    (c : tie.After-suffix-classes Inv-loop μ-loop) → let at = c .before .before .before .before .before .before .before .before in
+    (c : tie.After-suffix-classes Inv-loop μ-loop) → let at = c .before .before .before .before .before .before .before in
     SuffixClasses (length (at .args .groups .now)) (at .args .h) (at .args .parents .now) (at .args .names .now)
     (c .suffix-classes .last .1 .1 .1 .0)
 classes-here c =
-    let at = c .before .before .before .before .before .before .before .before in
+    let at = c .before .before .before .before .before .before .before in
     classes-front (length (at .args .groups .now)) (at .args .h) (replicate 512 0) (at .args .parents .now) (at .args .names .now)
     (c .suffix-classes .last .1 .1 .1 .0) (at .pre .0 .arrays .few-states) (c .suffix-classes .ensures)
 
@@ -63,7 +62,7 @@ swept-here c =
     let at = entry here in
     let n = length (at .args .groups .now) in
     let forked = forks .close-forks .last .1 .1 .1 .0 in
-    let cut = here .before .before .before .before in
+    let cut = here .before .before in
     let front = cut .suffix-classes .last .1 .1 .1 .0 in
     let by = classes-here cut in
     let agree =
@@ -83,12 +82,12 @@ slice-aggregate-suffix-classes c =
 
 suffix-classes-requires : tie.Need-suffix-classes-requires Inv-loop μ-loop
 suffix-classes-requires c κs =
-    let at = c .before .before .before .before .before .before .before in
-    (arrays-front _ _ _ _ (at .pre .0 .arrays .few-states) (at .pre .0 .arrays), (at .pre .0 .limit, at .pre .1 .1))
+    let at = c .before .before .before .before .before .before in
+    (arrays-front _ _ _ _ (at .pre .0 .arrays .few-states) (at .pre .0 .arrays), at .pre .0 .limit)
 
 loop-holds : tie.Need-loop-holds Inv-loop μ-loop
 loop-holds c =
-    let at = c .before .before .before .before .before .before .before .before .before .before .before in (
+    let at = c .before .before .before .before .before .before .before .before in (
       refl,
       rounds-none (length (at .args .groups .now)) (at .args .h) (at .args .m) (at .args .parents .now) (at .args .names .now)
           (at .args .groups .now) (at .pre .0),
@@ -104,20 +103,20 @@ close-forks-requires c κs =
         at .pre .1 .0 ∙ ap (λ (k : ℕ). numbersFrom k 0) size,
         (
           subst (λ (k : ℕ). Labelled k (here .loop .groups)) size (here .loop .inv .1 .labelled),
-          omega (arith, here .loop .inv .0, here .before .before .before .before .suffix-classes .kept .1 .1 .1 .1 .0, at .pre .1 .1),
+          omega (arith, here .loop .inv .0, at .pre .1 .1),
         ),
       ),
     )
 
 array-share-prefix-classes : tie.Need-array-share-prefix-classes Inv-loop μ-loop
 array-share-prefix-classes c =
-    let cut = c .before .before .before .before .before .before .before .before .before .before .before .before in
+    let cut = c .before .before .before .before .before .before .before .before .before .before in
     let front = cut .suffix-classes .last .1 .1 .1 .0 in
     front-fits _ front front _ refl (classes-here cut .size)
 
 slice-aggregate-sweep : tie.Need-slice-aggregate-sweep Inv-loop μ-loop
 slice-aggregate-sweep c =
-    let cut = c .before .before .before .before .before .before .before .before .before .before .before .before .before in
+    let cut = c .before .before .before .before .before .before .before .before .before .before .before in
     let front = cut .suffix-classes .last .1 .1 .1 .0 in
     let size = classes-here cut .size in
     sym (ap length (front-again _ front front _ refl size) ∙ size)
@@ -127,7 +126,7 @@ sweep-requires c κs =
     let forks = c .before .before .before .before .before .before .before in
     let here = forks .before .before .before .before in
     let at = entry here in
-    let cut = here .before .before .before .before in
+    let cut = here .before .before in
     let forked = forks .close-forks .last .1 .1 .1 .0 in
     let front = cut .suffix-classes .last .1 .1 .1 .0 in
     let by-size = classes-here cut .size in
@@ -138,13 +137,7 @@ sweep-requires c κs =
         ap length (front-again _ front front _ refl by-size) ∙ by-size ∙ size,
         (
           subst (λ (k : ℕ). Labelled k forked) size (done .labelled),
-          omega (
-            arith,
-            forks .close-forks .kept .1 .1 .1 .1 .0,
-            here .loop .inv .0,
-            cut .suffix-classes .kept .1 .1 .1 .1 .0,
-            at .pre .1 .1,
-          ),
+          omega (arith, forks .close-forks .kept .1 .1 .1 .1 .0, here .loop .inv .0, at .pre .1 .1),
         ),
       ),
     )
@@ -177,8 +170,7 @@ same-length : tie.Need-same-length Inv-loop μ-loop
 same-length c = c .before .loop .inv .1 .labelled .size
 
 same-length-2 : tie.Need-same-length-2 Inv-loop μ-loop
-same-length-2 c =
-    c .before .loop .inv .0 ∙ c .before .before .before .before .before .suffix-classes .kept .1 .1 .1 .1 .0
+same-length-2 c = c .before .loop .inv .0
 
 returns : tie.Need-returns Inv-loop μ-loop
 returns c =

@@ -20,23 +20,20 @@ sub-m : tie.Need-sub-m
 sub-m c = search needs
 
 same-length : tie.Need-same-length
-same-length c = c .before .before .before .before .before .by-suffix .kept .1 .1 .1 .0
-
-same-length-2 : tie.Need-same-length-2
-same-length-2 c = c .before .before .before .before .before .by-suffix .kept .1 .1 .1 .1 .0
+same-length c = c .before .before .before .by-suffix .kept .1 .1 .1 .0
 
 returns : tie.Need-returns
 returns c =
-    let start = c .before .before .before .before .before .before .before .before .before .before .before .before in
-    let by = c .before .before .before .before .before .by-suffix in
+    let start = c .before .before .before .before .before .before .before .before .before in
+    let by = c .before .before .before .by-suffix in
     let same : start .args .h ≡ start .args .k = omega (arith, start .pre .1 .1 .0, c .if1 .taken) in
     starts-closed (length (start .args .groups .now)) (start .args .h) (start .args .k) (start .args .parents .now)
     (start .args .names .now) (by .last .1 .1 .1 .0) (start .pre .0) (start .pre .1 .0) same (by .ensures)
 
 climb-starts-requires : tie.Need-climb-starts-requires
 climb-starts-requires c κs =
-    let start = c .before .before .before .before .before .before .before .before .before .before .before .before .before in
-    let by = c .before .before .before .before .before .before .by-suffix in
+    let start = c .before .before .before .before .before .before .before .before .before .before in
+    let by = c .before .before .before .before .by-suffix in
     let n = length (start .args .groups .now) in
     let size = by .kept .1 .1 .1 .0 in (
       subst (λ (k : ℕ). Above k (start .args .parents .now)) (sym size)
@@ -51,31 +48,27 @@ climb-starts-requires c κs =
 
 -- what the climbs promise, by the number of states at the start
 climbed-here :
-    (c : tie.After-climb-starts) → let start = c .before .before .before .before .before .before .before .before .before .before
-    .before .before .before .before in
-    let starts = c .before .before .before .before .before .before .before .by-suffix .last .1 .1 .1 .0 in
+    (c : tie.After-climb-starts) → let start = c .before .before .before .before .before .before .before .before .before .before .before in
+    let starts = c .before .before .before .before .before .by-suffix .last .1 .1 .1 .0 in
     ClimbedBelow (length (start .args .groups .now)) (length (start .args .groups .now)) (start .args .k - start .args .h)
     (start .args .parents .now) starts starts (c .climb-starts .last .1 .1 .0)
 climbed-here c =
-    let start = c .before .before .before .before .before .before .before .before .before .before .before .before .before .before in
-    let by = c .before .before .before .before .before .before .before .by-suffix in
+    let start = c .before .before .before .before .before .before .before .before .before .before .before in
+    let by = c .before .before .before .before .before .by-suffix in
     let starts = by .last .1 .1 .1 .0 in
     subst (λ (k : ℕ). ClimbedBelow k k (start .args .k - start .args .h) (start .args .parents .now) starts starts
     (c .climb-starts .last .1 .1 .0)) (by .kept .1 .1 .1 .0) (c .climb-starts .ensures)
 
-same-length-3 : tie.Need-same-length-3
-same-length-3 c =
+same-length-2 : tie.Need-same-length-2
+same-length-2 c =
     let climbs = c .before .before .before in
-    climbs .climb-starts .kept .1 .1 .0 ∙ climbs .before .before .before .before .before .before .before .by-suffix .kept .1 .1 .1 .0
-
-same-length-4 : tie.Need-same-length-4
-same-length-4 c = c .before .before .before .before .before .before .before .before .before .before .by-suffix .kept .1 .1 .1 .1 .0
+    climbs .climb-starts .kept .1 .1 .0 ∙ climbs .before .before .before .before .before .by-suffix .kept .1 .1 .1 .0
 
 returns-2 : tie.Need-returns-2
 returns-2 c =
     let climbs = c .before .before .before in
-    let start = climbs .before .before .before .before .before .before .before .before .before .before .before .before .before .before in
-    let by = climbs .before .before .before .before .before .before .before .by-suffix in
+    let start = climbs .before .before .before .before .before .before .before .before .before .before .before in
+    let by = climbs .before .before .before .before .before .by-suffix in
     let n = length (start .args .groups .now) in
     let starts = by .last .1 .1 .1 .0 in
     let one : start .args .k - start .args .h ≡ 1 = omega (arith, c .if2 .taken) in
@@ -88,33 +81,30 @@ returns-2 c =
 run-rounds-requires : tie.Need-run-rounds-requires
 run-rounds-requires c κs =
     let climbs = c .before .before .before .before .before in
-    let start = climbs .before .before .before .before .before .before .before .before .before .before .before .before .before .before in
-    let by = climbs .before .before .before .before .before .before .before .by-suffix in
+    let start = climbs .before .before .before .before .before .before .before .before .before .before .before in
+    let by = climbs .before .before .before .before .before .by-suffix in
     let sum-is : start .args .h + (start .args .k - start .args .h) ≡ start .args .k = omega arith in (
       climbs-ready (length (start .args .groups .now)) (start .args .h) (start .args .k - start .args .h) (start .args .k)
           (start .args .parents .now) (start .args .names .now) (by .last .1 .1 .1 .0) (climbs .climb-starts .last .1 .1 .0)
           (start .pre .0) (start .pre .1 .0) sum-is (start .pre .1 .1 .1 .0) (by .ensures) (climbed-here climbs),
-      omega (arith, by .kept .1 .1 .1 .1 .0, start .pre .1 .1 .1 .1),
+      start .pre .1 .1 .1 .1,
     )
 
-same-length-5 : tie.Need-same-length-5
-same-length-5 c =
+same-length-3 : tie.Need-same-length-3
+same-length-3 c =
     let climbs = c .before .before .before .before .before .before .before .before .before .before in
     c .before .before .before .before .run-rounds .kept .1 .1 .1 .1 .0
     ∙ climbs .climb-starts .kept .1 .1 .0
-    ∙ climbs .before .before .before .before .before .before .before .by-suffix .kept .1 .1 .1 .0
+    ∙ climbs .before .before .before .before .before .by-suffix .kept .1 .1 .1 .0
 
-same-length-6 : tie.Need-same-length-6
-same-length-6 c =
-    let climbs = c .before .before .before .before .before .before .before .before .before .before in
-    c .before .before .before .before .run-rounds .kept .1 .1 .1 .1 .1 .0
-    ∙ climbs .before .before .before .before .before .before .before .by-suffix .kept .1 .1 .1 .1 .0
+same-length-4 : tie.Need-same-length-4
+same-length-4 c = c .before .before .before .before .run-rounds .kept .1 .1 .1 .1 .1 .0
 
 returns-3 : tie.Need-returns-3
 returns-3 c =
     let rounds = c .before .before .before .before .run-rounds in
     let climbs = c .before .before .before .before .before .before .before .before .before .before in
-    let start = climbs .before .before .before .before .before .before .before .before .before .before .before .before .before .before in
+    let start = climbs .before .before .before .before .before .before .before .before .before .before .before in
     let sum-is : start .args .h + (start .args .k - start .args .h) ≡ start .args .k = omega arith in
     rounds-joined (length (start .args .groups .now)) (start .args .h) (start .args .k - start .args .h) (start .args .k)
     (start .args .parents .now) (start .args .names .now) (climbs .climb-starts .last .1 .1 .0) (rounds .last .1 .1 .1 .1 .0)
@@ -127,13 +117,11 @@ join-by-context-spec =
     by-suffix-requires
     sub-m
     same-length
-    same-length-2
     returns
     climb-starts-requires
-    same-length-3
-    same-length-4
+    same-length-2
     returns-2
     run-rounds-requires
-    same-length-5
-    same-length-6
+    same-length-3
+    same-length-4
     returns-3)

@@ -7,7 +7,7 @@ use lib.ListN.{length, replicate, take}
 use borrow.Author.Needs.{needs}
 use Rattle.model.specs.Lists.{numbersFrom}
 use Rattle.indexed.proofs.Keys.{numbers-length}
-use Rattle.suffixes.proofs.FillLaws.{front-length, front-again, front-fits}
+use Rattle.indexed.proofs.Fills.{front-length, front-again, front-fits}
 use Rattle.contexts.proofs.RoundLaws.{own-front}
 use Rattle.contexts.proofs.run_rounds.Statement.{statement}
 use Rattle.contexts.proofs.run_rounds.Tie as tie

@@ -1,7 +1,6 @@
 -- `join_last_in` meets its contract: classes, keys, and rounds. Assumes nothing.
 use mathlib.Core.Path.{subst}
 use Prim.Native.Nat.{ℕ}
-use native.Mathlib.Omega.{arith}
 use lib.ListN.{length}
 use Rattle.indexed.specs.Passes.{BySuffix, NamesAbove}
 use Rattle.functions.proofs.FLaws.{arrays-for, joined-by-last}
@@ -11,10 +10,10 @@ use Rattle.functions.proofs.join_last_in.Tie as tie
 
 -- the entry, seen from the places that the facts below are about
 abbrev from-classes : tie.After-by-suffix → tie.Start
-from-classes c = c .before .before .before .before .before .before .before .before .before .before .before .before
+from-classes c = c .before .before .before .before .before .before .before .before .before .before .before
 
 abbrev from-above-arg : tie.After-names-above-arg → tie.Start
-from-above-arg c = from-classes (c .before .before .before .before .before)
+from-above-arg c = from-classes (c .before .before .before)
 
 abbrev from-above : tie.After-names-above → tie.Start
 from-above c = from-above-arg (c .before)
@@ -40,10 +39,10 @@ above-here c =
 
 by-suffix-requires : tie.Need-by-suffix-requires
 by-suffix-requires c κs =
-    let at = c .before .before .before .before .before .before .before .before .before .before .before in (
+    let at = c .before .before .before .before .before .before .before .before .before .before in (
       arrays-for (length (at .args .groups .now)) (length (at .args .classes .now)) (at .args .parents .now) (at .args .names .now)
           (at .pre .1 .1 .1 .1 .0) (at .pre .1 .0 .arrays),
-      (at .pre .0, at .pre .1 .0 .room),
+      at .pre .0,
     )
 
 names-above-requires : tie.Need-names-above-requires
@@ -55,7 +54,7 @@ names-above-requires c κs =
 finish-requires : tie.Need-finish-requires
 finish-requires c κs =
     let above = c .before .before .before .before .before .before .before in
-    let classed = above .before .before .before .before .before .before in
+    let classed = above .before .before .before .before in
     let at = from-classes classed in (
       record {
         arrays = at .pre .1 .0 .arrays;
@@ -64,7 +63,7 @@ finish-requires c κs =
         keys-size = above-here above .size;
         more-size = at .pre .1 .1 .0;
       },
-      (at .pre .1 .1 .1 .1 .1 .1, omega (arith, classed .by-suffix .kept .1 .1 .1 .1 .0, at .pre .1 .0 .room)),
+      (at .pre .1 .1 .1 .1 .1 .1, at .pre .1 .0 .room),
     )
 
 same-length : tie.Need-same-length
@@ -86,7 +85,7 @@ returns : tie.Need-returns
 returns c =
     let finishes = c .before .before .before .before .before .before in
     let above = finishes .before .before .before .before .before .before .before .before in
-    let classed = above .before .before .before .before .before .before in
+    let classed = above .before .before .before .before in
     let at = from-classes classed in
     joined-by-last (length (at .args .groups .now)) (at .args .j) (at .args .parents .now) (at .args .names .now)
     (at .args .accepts .now)

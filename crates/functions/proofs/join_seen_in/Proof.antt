@@ -3,7 +3,7 @@ use mathlib.Core.Path.{sym, _∙_, subst}
 use Prim.Native.Nat.{ℕ}
 use lib.ListN.{length}
 use mathlib.Core.Bool.{true, false}
-use Rattle.indexed.specs.Passes.{SeenSets, BySeen, KeysWhere}
+use Rattle.indexed.specs.Passes.{SeenSets, ByValue, KeysWhere}
 use Rattle.functions.proofs.FLaws.{arrays-for, joined-by-seen}
 use borrow.Author.Needs.{needs}
 use Rattle.functions.proofs.join_seen_in.Statement.{statement}
@@ -27,11 +27,11 @@ sets-here c =
 
 by-seen-here :
     (c : tie.After-classes-by-seen) → let seen = c .before .before .before .before .before in let at = from-sets seen in
-    BySeen (length (at .args .groups .now)) (seen .seen-sets .last .1 .1 .0) (c .classes-by-seen .last .1 .0)
+    ByValue (length (at .args .groups .now)) (seen .seen-sets .last .1 .1 .0) (c .classes-by-seen .last .1 .0)
 by-seen-here c =
     let seen = c .before .before .before .before .before in
     let at = from-sets seen in
-    subst (λ (m : ℕ). BySeen m (seen .seen-sets .last .1 .1 .0) (c .classes-by-seen .last .1 .0)) (at .pre .1 .1 .0)
+    subst (λ (m : ℕ). ByValue m (seen .seen-sets .last .1 .1 .0) (c .classes-by-seen .last .1 .0)) (at .pre .1 .1 .0)
     (c .classes-by-seen .ensures)
 
 enlarging-here :

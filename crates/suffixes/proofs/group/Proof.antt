@@ -1,10 +1,10 @@
 -- `suffixes::group` meets its contract. The invariant: what was passed is grouped, the rest is as it came. Assumes nothing.
-use mathlib.Core.Path.{_≡_, refl, _∙_, subst}
+use mathlib.Core.Path.{_≡_, refl, subst}
 use Prim.Native.Nat.{ℕ, _-_, _<_, _≤_}
 use native.Mathlib.Omega.{arith}
 use lib.ListN.{length, getD, length-set}
-use Rattle.suffixes.specs.Rounds.{Kept}
-use Rattle.suffixes.proofs.FillLaws.{fill-more, rest-kept}
+use Rattle.suffixes.specs.Classes.{Kept}
+use Rattle.indexed.proofs.Fills.{fill-more, rest-kept}
 use Rattle.suffixes.proofs.group.Statement.{statement}
 use Rattle.suffixes.proofs.group.Tie as tie
 
@@ -51,7 +51,8 @@ loop-again c =
     subst (λ (x : ℕ). Kept v x (c .group-of .result)) (at-loop .loop .inv .3 v (omega arith)) (c .group-of .ensures) in (
       omega arith,
       simp length-set (at-loop .loop .inv .1),
-      fill-more (λ (w x : ℕ). Kept w (getD classes₀ w 0) x) classes v (c .group-of .result) (omega arith) (at-loop .loop .inv .2) here,
+      fill-more (λ (w x : ℕ). Kept w (getD classes₀ w 0) x) classes v (c .group-of .result) (omega arith)
+          (at-loop .loop .inv .2) here,
       rest-kept classes₀ classes v (c .group-of .result) (at-loop .loop .inv .3),
     )
 

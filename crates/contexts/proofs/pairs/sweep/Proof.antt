@@ -8,7 +8,7 @@ use lib.ListN.{length}
 use Rattle.indexed.specs.Trees.{Arrays}
 use Rattle.indexed.specs.Partitions.{Labelled}
 use Rattle.indexed.proofs.Chains.{heads-none}
-use Rattle.suffixes.proofs.FillLaws.{front-length, front-again, front-fits}
+use Rattle.indexed.proofs.Fills.{front-length, front-again, front-fits}
 use Rattle.contexts.proofs.SweepLaws.{sweep-comparing, sweep-swept}
 use Rattle.contexts.proofs.pairs.sweep.Statement.{statement}
 use Rattle.contexts.proofs.pairs.sweep.Tie as tie

@@ -1,11 +1,12 @@
--- A loop that fills a list from the front: what holds of each element before the place just written, and of that one, holds of
--- each before the next place; what was not reached yet is as it came. A front of a list, written and read again. Assumes nothing.
-use mathlib.Core.Path.{_≡_, sym, ap, _∙_, subst}
+-- Laws of a list filled from the front: what holds of each element before the place just written, and of that one, holds of each
+-- before the next place; what was not reached yet is as it came. Then of a front of a list, written and read again.
+-- Assumes nothing.
+use mathlib.Core.Path.{_≡_, refl, sym, ap, _∙_, subst}
 use mathlib.Core.Logic.{⊎-elim}
 use mathlib.Core.List.{List, _++_}
 use Prim.Native.Nat.{ℕ, _+_, _<_, _≤_}
 use native.Mathlib.Omega.{arith}
-use lib.ListN.{length, getD, set, take, length-append}
+use lib.ListN.{length, getD, set, take, length-append, length-set}
 use lib.Seq.{getD-set-same, getD-set-other, length-take-le, take-at}
 use Rattle.model.proofs.Tests.{eq-dec}
 
@@ -22,6 +23,23 @@ pub rest-kept :
     (list₀ list : List ℕ) (at value : ℕ) → ((v : ℕ) → at ≤ v → getD list v 0 ≡ getD list₀ v 0) →
     (v : ℕ) → at + 1 ≤ v → getD (set list at value) v 0 ≡ getD list₀ v 0
 rest-kept list₀ list at value rest v h = getD-set-other list at v value 0 (λ e. omega arith) ∙ rest v (omega arith)
+
+-- each of the first i elements is as it should be
+pub record Filled (P : ℕ → ℕ → Type 0) (i : ℕ) (list₀ list : List ℕ) : Type 0 where
+  pub size : length list ≡ length list₀
+  pub done : (v : ℕ) → v < i → P v (getD list v 0)
+
+pub filled-none : (P : ℕ → ℕ → Type 0) (list₀ : List ℕ) → Filled P 0 list₀ list₀
+filled-none P list₀ = record { size = refl; done = λ v h. absurd (omega arith) }
+
+pub filled-more :
+    (P : ℕ → ℕ → Type 0) (i value : ℕ) (list₀ list : List ℕ) → i < length list₀ → P i value → Filled P i list₀ list →
+    Filled P (i + 1) list₀ (set list i value)
+filled-more P i value list₀ list inside here so-far =
+    record {
+      size = length-set list i value ∙ so-far .size;
+      done = fill-more P list i value (omega (arith, so-far .size)) (so-far .done) here;
+    }
 
 -- the front of a list is as long as it says
 pub front-length : (n : ℕ) (list : List ℕ) → n ≤ length list → length (take n list) ≡ n
