@@ -1,5 +1,5 @@
--- Laws of joins: a list of groups relabelled one state at a time from the lowest that changes, and what a join of two groups promises where they
--- are one already and where the first or the second has the lower label. Assumes nothing.
+-- Laws of joins: a list of groups relabelled one state at a time from the label's own state on, and what a join of two groups
+-- promises where they are one already and where the first or the second has the lower label. Assumes nothing.
 use mathlib.Core.Path.{_≡_, refl, sym, ap, _∙_, subst}
 use mathlib.Core.Bool.{Bool, true, false, cond}
 use mathlib.Core.List.{List}
