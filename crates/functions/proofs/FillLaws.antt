@@ -1,18 +1,15 @@
 -- Laws of lists filled from the front: names above, and keys by the seen set. Then laws of a local array cut to the number of
 -- states. Assumes nothing.
 use mathlib.Core.Path.{_≡_, refl, sym, ap, ap₂, _∙_, subst}
-use mathlib.Core.Bool.{Bool, true, false, cond, Bool·beq}
+use mathlib.Core.Bool.{Bool}
 use mathlib.Core.List.{List}
 use Prim.Native.Nat.{ℕ, zero, suc, _-_, _<_, _≤_}
 use native.Mathlib.Omega.{arith}
-use lib.Dec.{eqb}
 use lib.ListN.{length, getD, take, replicate, length-replicate, getD-replicate}
 use lib.Seq.{getD-take, length-take-le}
-use Rattle.model.specs.Limits.{name-limit}
 use Rattle.indexed.specs.Trees.{Arrays, up}
 use Rattle.indexed.specs.Passes.{NamesAbove, KeysWhere}
 use Rattle.indexed.proofs.Suffixes.{parent-below}
-use Rattle.partition.proofs.StepLaws.{no-truth, no-falsehood}
 use Rattle.partition.proofs.FillLaws.{Filled}
 use Rattle.functions.specs.Parts.{KeyAt}
 
@@ -40,29 +37,7 @@ pub above-all :
 above-all j i parents names out₀ out all filled =
     record { size = filled .size; above = λ v h. filled .done v (omega arith) }
 
--- a key that is none, and one that is the name
-pub key-none : (b : Bool) (name : ℕ) → b ≡ true → name-limit ≡ cond b name-limit name
-key-none true name e = refl
-key-none false name e = absurd (no-truth e)
-
-pub key-name : (b : Bool) (name : ℕ) → b ≡ false → name ≡ cond b name-limit name
-key-name true name e = absurd (no-falsehood e)
-key-name false name e = refl
-
 -- keys by the seen set
-pub key-root : (enlarge : Bool) (parents names seen : List ℕ) (v : ℕ) → v ≡ 0 → KeyAt enlarge parents names seen v name-limit
-key-root enlarge parents names seen v e = record { root = λ q. refl; arc = λ h. absurd (omega arith) }
-
-pub key-arc :
-    (enlarge : Bool) (parents names seen : List ℕ) (v parent x : ℕ) → (v ≡ 0 → ⊥) → parent ≡ getD parents v 0 →
-    x ≡ cond (Bool·beq (eqb (getD seen v 0) (getD seen parent 0)) enlarge) name-limit (getD names v 0) →
-    KeyAt enlarge parents names seen v x
-key-arc enlarge parents names seen v parent x d is e =
-    record {
-      root = λ q. absurd (d q);
-      arc = λ h. e ∙ ap (λ (p : ℕ). cond (Bool·beq (eqb (getD seen v 0) (getD seen p 0)) enlarge) name-limit (getD names v 0)) is;
-    }
-
 pub keys-all :
     (enlarge : Bool) (i : ℕ) (parents names seen out₀ out : List ℕ) → Arrays (length out₀) parents names → length out₀ ≤ i →
     Filled (KeyAt enlarge parents names seen) i out₀ out → KeysWhere (length out₀) enlarge parents names seen out

@@ -1,6 +1,7 @@
 -- Laws that the functions of this crate rest on. Assumes nothing.
 pub mod FillLaws
 pub mod SeenLaws
+pub mod KeyLaws
 pub mod BucketLaws
 pub mod EndLaws
 pub mod RoundLaws

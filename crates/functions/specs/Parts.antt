@@ -1,6 +1,7 @@
--- What the parts promise: an ancestor, the key and the set of one state, the first state with a seen set and the lists in which it
--- is sought, the first accepting state of a class. Assumes nothing.
+-- What the parts promise: an ancestor, what an arc adds to the seen set, the key and the set of one state, the first state with a
+-- seen set and the lists in which it is sought, the first accepting state of a class. Assumes nothing.
 use mathlib.Core.Path.{_≡_}
+use mathlib.Core.Logic.{_⊎_}
 use mathlib.Core.Bool.{Bool, cond, Bool·beq}
 use mathlib.Core.List.{List}
 use Prim.Native.Nat.{ℕ, suc, _+_, _/_, _%_, _^_, _<_, _≤_}
@@ -14,6 +15,10 @@ use Rattle.indexed.specs.Trees.{up}
 pub record Ancestor (n j : ℕ) (parents : List ℕ) (v answer : ℕ) : Type 0 where
   pub value : answer ≡ up parents j v
   pub inside : answer < n
+
+-- what an arc adds to the seen set: its name, or nothing where that was seen before
+abbrev pub Added : ℕ → ℕ → Type 0
+Added name added = (added ≡ 0) ⊎ (added ≡ 2 ^ name)
 
 -- the key of the arc to v
 pub record KeyAt (enlarge : Bool) (parents names seen : List ℕ) (v answer : ℕ) : Type 0 where

@@ -3,11 +3,12 @@ use cells::numbers;
 ghost use mathlib.Core.Path.{_≡_};
 ghost use mathlib.Core.Bool.{cond, Bool·beq};
 ghost use Prim.Native.Nat.{_<_};
+ghost use lib.Dec.{eqb};
 ghost use lib.ListN.{length};
 ghost use Rattle.model.specs.Limits.{name-limit};
 ghost use Rattle.indexed.specs.Trees.{Arrays};
-ghost use Rattle.indexed.specs.Passes.{NamesAbove, KeysWhere};
-ghost use Rattle.functions.specs.Parts.{Ancestor, KeyAt};
+ghost use Rattle.indexed.specs.Passes.{NamesAbove, SeenSets, KeysWhere};
+ghost use Rattle.functions.specs.Parts.{Ancestor, Added, KeyAt};
 
 // A key of this or more is none.
 const NAME_LIMIT: u8 = 64;
@@ -41,16 +42,27 @@ pub fn names_above(j: usize, parents: &[u16], names: &[u8], keys: &mut [u8])
     }
 }
 
-// The name where the sets are of the kind asked for, no key otherwise.
-fn key_where(enlarge: bool, same: bool, name: u8) -> u8
-    ensures { λ r. ⌜ r ≡ cond (Bool·beq same enlarge) name-limit name ⌝ }
+// The key of an arc by what it adds to the seen set, its name or nothing. Of the arcs that enlarge the set it is the lowest name
+// added, and 64, no key, where none is; of the others it is the name where none is added.
+fn key_where(enlarge: bool, added: u64, name: u8) -> u8
+    requires name_below { ⌜ name < name-limit ⌝ }
+    requires name_or_none { ⌜ Added name added ⌝ }
+    ensures { λ r. ⌜ r ≡ cond (Bool·beq (eqb added 0) enlarge) name-limit name ⌝ }
 {
-    if same == enlarge { NAME_LIMIT } else { name }
+    if enlarge {
+        return u64::trailing_zeros(added) as u8;
+    }
+    if u64::count_ones(added) == 0 {
+        name
+    } else {
+        NAME_LIMIT
+    }
 }
 
 // The key of the arc to state v; none at the root.
 fn key_at(enlarge: bool, parents: &[u16], names: &[u8], seen: &[u64], v: usize) -> u8
     requires arrays { ⌜ Arrays (length (now seen)) (now parents) (now names) ⌝ }
+    requires sets { ⌜ SeenSets (length (now seen)) (now parents) (now names) (now seen) ⌝ }
     requires inside { ⌜ v < length (now seen) ⌝ }
     ensures { λ r. ⌜ KeyAt enlarge (now (parents .entry)) (now (names .entry)) (now (seen .entry)) v r ⌝ }
 {
@@ -58,14 +70,14 @@ fn key_at(enlarge: bool, parents: &[u16], names: &[u8], seen: &[u64], v: usize) 
         return NAME_LIMIT;
     }
     let parent = numbers::wide16(parents[v]);
-    let same = seen[v] == seen[parent];
-    key_where(enlarge, same, names[v])
+    let added = seen[v] - seen[parent];
+    key_where(enlarge, added, names[v])
 }
 
 // The names of the arcs that do enlarge the seen set, or of those that do not; no key at the others.
 pub fn keys_where(enlarge: bool, parents: &[u16], names: &[u8], seen: &[u64], keys: &mut [u8])
     requires arrays { ⌜ Arrays (length (now keys)) (now parents) (now names) ⌝ }
-    requires seen_size { ⌜ length (now seen) ≡ length (now keys) ⌝ }
+    requires sets { ⌜ SeenSets (length (now keys)) (now parents) (now names) (now seen) ⌝ }
     ensures { λ _.
         ⌜ KeysWhere (length (now (keys .entry))) enlarge (now (parents .entry)) (now (names .entry)) (now (seen .entry))
         (now (keys .exit)) ⌝ }

@@ -47,7 +47,7 @@ ones-shifted : (q k : ℕ) → ones (q * 2 ^ k) ≡ ones q
 unfolding ones
 ones-shifted q k = ap ones (sym (add-zero (q * 2 ^ k))) ∙ ones-cat k q 0 (pow-pos k) ∙ add-zero (ones q)
 
-ones-one : (k : ℕ) → ones (2 ^ k) ≡ 1
+pub ones-one : (k : ℕ) → ones (2 ^ k) ≡ 1
 unfolding ones
 ones-one k = ap ones (sym (one-mul (2 ^ k))) ∙ ones-shifted 1 k
 
@@ -67,7 +67,7 @@ ones-nameSet next (a ∷ arcs) up =
     ∙ omega (arith, count)
 
 -- an odd number with i zeros after it
-trailing-shifted : (d m i : ℕ) → m % 2 ≡ 1 → i < d → trailingZeros d (m * 2 ^ i) ≡ i
+pub trailing-shifted : (d m i : ℕ) → m % 2 ≡ 1 → i < d → trailingZeros d (m * 2 ^ i) ≡ i
 unfolding trailingZeros
 trailing-shifted zero m i o h = let z : ⊥ = omega arith in absurd z
 trailing-shifted (suc d) m zero o h =

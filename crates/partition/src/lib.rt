@@ -36,11 +36,12 @@ fn new_label(g: u16, x: u16, y: u16) -> u16
     if g == y { x } else { g }
 }
 
-// Puts every state of group y into group x.
+// Puts every state of group y into group x. A label is the lowest member, so no state below y is in the group.
 pub fn relabel(groups: &mut [u16], x: u16, y: u16)
+    requires lowest { ⌜ ((k : ℕ) → k < y → getD (now groups) k 0 ≡ y → ⊥) ⌝ }
     ensures { λ _. ⌜ now (groups .exit) ≡ relabelled x y (now (groups .entry)) ⌝ }
 {
-    let mut i = 0;
+    let mut i = numbers::wide16(y);
     while i < groups.len() {
         groups[i] = new_label(groups[i], x, y);
         i += 1;

@@ -1,5 +1,5 @@
 -- `join_seen_in` meets its contract: sets, classes, keys, and rounds. Assumes nothing.
-use mathlib.Core.Path.{sym, _∙_, subst}
+use mathlib.Core.Path.{_≡_, sym, subst}
 use Prim.Native.Nat.{ℕ}
 use lib.ListN.{length}
 use mathlib.Core.Bool.{true, false}
@@ -24,6 +24,15 @@ sets-here c =
     let at = from-sets c in
     subst (λ (m : ℕ). SeenSets m (at .args .parents .now) (at .args .names .now) (c .seen-sets .last .1 .1 .0))
     (at .pre .1 .0) (c .seen-sets .ensures)
+
+-- the sets, by the length of another array of as many states
+sets-for :
+    (c : tie.After-seen-sets) (m : ℕ) → let at = from-sets c in m ≡ length (at .args .groups .now) →
+    SeenSets m (at .args .parents .now) (at .args .names .now) (c .seen-sets .last .1 .1 .0)
+sets-for c m size =
+    let at = from-sets c in
+    subst (λ (k : ℕ). SeenSets k (at .args .parents .now) (at .args .names .now) (c .seen-sets .last .1 .1 .0)) (sym size)
+    (sets-here c)
 
 by-seen-here :
     (c : tie.After-classes-by-seen) → let seen = c .before .before .before .before .before in let at = from-sets seen in
@@ -69,7 +78,7 @@ keys-where-requires c κs =
     let at = from-sets sets in (
       arrays-for (length (at .args .groups .now)) (length (at .args .enlarging .now)) (at .args .parents .now) (at .args .names .now)
           (at .pre .1 .1 .1 .0) (at .pre .0 .arrays),
-      sets .seen-sets .kept .1 .1 .0 ∙ at .pre .1 .0 ∙ sym (at .pre .1 .1 .1 .0),
+      sets-for sets (length (at .args .enlarging .now)) (at .pre .1 .1 .1 .0),
     )
 
 keys-where-requires-2 : tie.Need-keys-where-requires-2
@@ -78,7 +87,7 @@ keys-where-requires-2 c κs =
     let at = from-sets sets in (
       arrays-for (length (at .args .groups .now)) (length (at .args .others .now)) (at .args .parents .now) (at .args .names .now)
           (at .pre .1 .1 .1 .1 .0) (at .pre .0 .arrays),
-      sets .seen-sets .kept .1 .1 .0 ∙ at .pre .1 .0 ∙ sym (at .pre .1 .1 .1 .1 .0),
+      sets-for sets (length (at .args .others .now)) (at .pre .1 .1 .1 .1 .0),
     )
 
 finish-requires : tie.Need-finish-requires

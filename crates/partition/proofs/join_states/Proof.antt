@@ -2,7 +2,7 @@
 use mathlib.Core.Bool.{true}
 use native.Mathlib.Omega.{arith}
 use lib.ListN.{length}
-use Rattle.partition.proofs.JoinLaws.{joined-none, joined-first, joined-flip}
+use Rattle.partition.proofs.JoinLaws.{label-lowest, joined-none, joined-first, joined-flip}
 use borrow.Author.Needs.{needs}
 use Rattle.partition.proofs.join_states.Statement.{statement}
 use Rattle.partition.proofs.join_states.Tie as tie
@@ -25,7 +25,9 @@ returns c =
     joined-none (length (at .args .groups .now)) (at .args .v) (at .args .w) (at .args .groups .now) (at .pre .0) (c .if1 .taken)
 
 relabel-requires : tie.Need-relabel-requires
-relabel-requires c κs = search needs
+relabel-requires c κs =
+    let at = c .before .before .before .before .before .before in
+    label-lowest (length (at .args .groups .now)) (at .args .w) (at .args .groups .now) (at .pre .0) (at .pre .1 .1)
 
 same-length : tie.Need-same-length
 same-length c = search needs
@@ -37,7 +39,9 @@ returns-2 c =
     (at .pre .0) (at .pre .1 .0) (at .pre .1 .1) (omega arith) (c .before .before .relabel .ensures)
 
 relabel-requires-2 : tie.Need-relabel-requires-2
-relabel-requires-2 c κs = search needs
+relabel-requires-2 c κs =
+    let at = c .before .before .before .before .before .before in
+    label-lowest (length (at .args .groups .now)) (at .args .v) (at .args .groups .now) (at .pre .0) (at .pre .1 .0)
 
 same-length-2 : tie.Need-same-length-2
 same-length-2 c = search needs

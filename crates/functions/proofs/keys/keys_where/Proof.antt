@@ -5,6 +5,7 @@ use native.Mathlib.Omega.{arith}
 use lib.ListN.{length}
 use Rattle.functions.specs.Parts.{KeyAt}
 use Rattle.indexed.specs.Trees.{Arrays}
+use Rattle.indexed.specs.Passes.{SeenSets}
 use Rattle.partition.proofs.FillLaws.{Filled, filled-none, filled-more}
 use Rattle.functions.proofs.FillLaws.{keys-all}
 use Rattle.functions.proofs.keys.keys_where.Statement.{statement}
@@ -22,8 +23,12 @@ loop-holds c = (omega arith, filled-none _ _)
 key-at-requires : tie.Need-key-at-requires Inv-loop μ-loop
 key-at-requires c κs =
     let at = c .before .before .before .before .before .before in (
-      subst (λ (m : ℕ). Arrays m (at .args .parents .now) (at .args .names .now)) (sym (at .pre .1)) (at .pre .0),
-      omega (arith, at .pre .1),
+      subst (λ (m : ℕ). Arrays m (at .args .parents .now) (at .args .names .now)) (sym (at .pre .1 .size)) (at .pre .0),
+      (
+        subst (λ (m : ℕ). SeenSets m (at .args .parents .now) (at .args .names .now) (at .args .seen .now))
+            (sym (at .pre .1 .size)) (at .pre .1),
+        omega (arith, at .pre .1 .size),
+      ),
     )
 
 slice-write-keys : tie.Need-slice-write-keys Inv-loop μ-loop
