@@ -1,7 +1,7 @@
 -- Names in succession that lead out of two groups: the search for the first of them through the names that leave both, lowest
 -- first; and that they lead out of each of the two, and out of the two the other way round. Assumes nothing.
 use mathlib.Core.Path.{_≡_, sym, subst, subst₂}
-use mathlib.Core.Logic.{_⊎_, ⊎-elim}
+use mathlib.Core.Logic.{⊎-elim}
 use mathlib.Core.List.{List}
 use Prim.Native.Nat.{ℕ, zero, suc, _-_, _^_, _<_}
 use native.Mathlib.Omega.{arith}

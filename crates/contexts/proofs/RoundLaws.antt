@@ -6,7 +6,6 @@ use mathlib.Core.List.{List}
 use Prim.Native.Nat.{ℕ, _+_, _<_, _≤_}
 use native.Mathlib.Omega.{arith}
 use lib.ListN.{length, getD, take}
-use lib.Seq.{ext-getD}
 use Rattle.model.specs.Lists.{numbersFrom}
 use Rattle.model.specs.Limits.{setting-limit}
 use Rattle.indexed.specs.Trees.{Arrays}

@@ -1,12 +1,12 @@
 -- What a later crate uses of an accepted file's place: its names and its rows or states, how many they are, the bytes of each, where each
 -- begins, and that each lies within the input; and the definition's answer. Assumes nothing.
-use mathlib.Core.Path.{_≡_, refl, sym, ap}
+use mathlib.Core.Path.{_≡_, sym, ap}
 use mathlib.Core.List.{List, []}
 use Prim.Native.Nat.{ℕ, _≤_, _<_}
 use native.Mathlib.Omega.{arith}
 use lib.ListN.{length, getD}
 use Rattle.model.specs.Fields.{Class, FileKind, Read, readWith}
-use Rattle.fields.specs.Offsets.{lengthAt, bodyAt, nextAt, offsetAt}
+use Rattle.fields.specs.Offsets.{bodyAt, nextAt, offsetAt}
 use Rattle.fields.specs.Places.{fileOf, Sound, ReadAs}
 use Rattle.fields.specs.declared.Place.{Place}
 use Rattle.fields.specs.declared.Fields.the-variants.{Accepted, Refused}

@@ -14,7 +14,7 @@ use Rattle.model.specs.Limits.{state-limit}
 use Rattle.indexed.specs.Passes.{ByEnds}
 use Rattle.indexed.proofs.Chains.{heads-none}
 use Rattle.functions.specs.Parts.{FirstEnd, Firsts, EndLabel}
-use Rattle.partition.proofs.FillLaws.{Filled}
+use Rattle.indexed.proofs.Fills.{Filled}
 
 -- a state's group, where it accepts and where not
 pub label-end :

@@ -1,6 +1,6 @@
 -- Laws of lists filled from the front: names above, and keys by the seen set. Then laws of a local array cut to the number of
 -- states. Assumes nothing.
-use mathlib.Core.Path.{_≡_, refl, sym, ap, ap₂, _∙_, subst}
+use mathlib.Core.Path.{_≡_, refl, sym, ap₂, _∙_, subst}
 use mathlib.Core.Bool.{Bool}
 use mathlib.Core.List.{List}
 use Prim.Native.Nat.{ℕ, zero, suc, _-_, _<_, _≤_}
@@ -10,7 +10,7 @@ use lib.Seq.{getD-take, length-take-le}
 use Rattle.indexed.specs.Trees.{Arrays, up}
 use Rattle.indexed.specs.Passes.{NamesAbove, KeysWhere}
 use Rattle.indexed.proofs.Suffixes.{parent-below}
-use Rattle.partition.proofs.FillLaws.{Filled}
+use Rattle.indexed.proofs.Fills.{Filled}
 use Rattle.functions.specs.Parts.{KeyAt}
 
 -- one ancestor further

@@ -2,7 +2,6 @@
 pub mod FillLaws
 pub mod SeenLaws
 pub mod KeyLaws
-pub mod BucketLaws
 pub mod EndLaws
 pub mod RoundLaws
 pub mod FLaws

@@ -1,4 +1,4 @@
--- Laws of seen sets: one name more, sets filled in from the root on, and classes of states with the same set. Assumes nothing.
+-- Laws of seen sets: one name more, and sets filled in from the root on. Assumes nothing.
 use mathlib.Core.Path.{_≡_, refl, sym, ap, _∙_, subst}
 use mathlib.Core.List.{List}
 use Prim.Native.Nat.{ℕ, _+_, _*_, _%_, _^_, _<_, _≤_}
@@ -11,9 +11,8 @@ use lib.Seq.{getD-set-same, getD-set-other}
 use borrow.Author.Count.{below-more}
 use Rattle.model.specs.Limits.{name-limit}
 use Rattle.indexed.specs.Trees.{Arrays}
-use Rattle.indexed.specs.Passes.{SeenSets, ByValue}
-use Rattle.functions.specs.Parts.{SeenAt, FirstSeen}
-use Rattle.partition.proofs.FillLaws.{Filled}
+use Rattle.indexed.specs.Passes.{SeenSets}
+use Rattle.functions.specs.Parts.{SeenAt}
 
 -- one bit more: the shift loses nothing
 pub with-bit : (seen name : ℕ) → name < name-limit → bitOr seen ((1 * 2 ^ name) % 2 ^ 64) ≡ bitOr seen (2 ^ name)
@@ -84,30 +83,3 @@ seen-all parents names i seen₀ seen arrays all so-far =
       root-seen = so-far .done 0 (omega (arith, arrays .some-state)) .root refl;
       arc-seen = λ v p h. so-far .done v (omega arith) .arc p;
     }
-
--- first states of equal sets are equal
-first-same : (seen : List ℕ) (v w x y : ℕ) → getD seen v 0 ≡ getD seen w 0 → FirstSeen seen v x → FirstSeen seen w y → x ≡ y
-first-same seen v w x y one at-v at-w =
-    let not-lower : x < y → ⊥ = λ h. at-w .first x h (at-v .alike ∙ one) in
-    let not-higher : y < x → ⊥ = λ h. at-v .first y h (at-w .alike ∙ sym one) in
-    omega (arith)
-
-pub by-seen-all :
-    (i : ℕ) (seen out₀ out : List ℕ) → length out₀ ≤ i → Filled (FirstSeen seen) i out₀ out → ByValue (length out₀) seen out
-by-seen-all i seen out₀ out all filled =
-    record {
-      labelled = record { size = filled .size; low = λ v h. at v h .low; own = own };
-      alike = λ v w hv hw. (
-        λ e. sym (at v hv .alike) ∙ ap (λ (x : ℕ). getD seen x 0) e ∙ at w hw .alike,
-        λ one. first-same seen v w (getD out v 0) (getD out w 0) one (at v hv) (at w hw),
-      );
-    }
-  where
-    at : (v : ℕ) → v < length out₀ → FirstSeen seen v (getD out v 0)
-    at v h = filled .done v (omega arith)
-
-    own : (v : ℕ) → v < length out₀ → getD out (getD out v 0) 0 ≡ getD out v 0
-    own v h =
-        let below : getD out v 0 < length out₀ = omega (arith, at v h .low) in
-        first-same seen (getD out v 0) v (getD out (getD out v 0) 0) (getD out v 0) (at v h .alike) (at (getD out v 0) below)
-        (at v h)

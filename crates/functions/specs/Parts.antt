@@ -1,13 +1,13 @@
--- What the parts promise: an ancestor, what an arc adds to the seen set, the key and the set of one state, the first state with a
--- seen set and the lists in which it is sought, the first accepting state of a class. Assumes nothing.
+-- What the parts promise: an ancestor, what an arc adds to the seen set, the key and the set of one state, the first accepting state of
+-- a class. Assumes nothing.
 use mathlib.Core.Path.{_≡_}
 use mathlib.Core.Logic.{_⊎_}
 use mathlib.Core.Bool.{Bool, cond, Bool·beq}
 use mathlib.Core.List.{List}
-use Prim.Native.Nat.{ℕ, suc, _+_, _/_, _%_, _^_, _<_, _≤_}
-use lib.Bits.{bitOr, bitXor}
+use Prim.Native.Nat.{ℕ, suc, _^_, _<_, _≤_}
+use lib.Bits.{bitOr}
 use lib.Dec.{eqb}
-use lib.ListN.{length, getD, set}
+use lib.ListN.{length, getD}
 use Rattle.model.specs.Limits.{name-limit, state-limit}
 use Rattle.indexed.specs.Trees.{up}
 
@@ -31,29 +31,6 @@ pub record KeyAt (enlarge : Bool) (parents names seen : List ℕ) (v answer : �
 pub record SeenAt (parents names seen : List ℕ) (v answer : ℕ) : Type 0 where
   pub root : v ≡ 0 → answer ≡ 0
   pub arc : 0 < v → answer ≡ bitOr (getD seen (getD parents v 0) 0) (2 ^ getD names v 0)
-
--- a number's bits from the k-th on laid over its lowest
-abbrev folded : ℕ → ℕ → ℕ
-folded x k = bitXor x (x / 2 ^ k)
-
--- the bucket of a set, below 512. Only that equal sets have one bucket is used
-unfoldable pub bucketOf : ℕ → ℕ
-bucketOf seen = folded (folded (folded seen 32) 16) 9 % state-limit
-
--- the states in the list of a bucket: each is the first with its set
-abbrev pub Listed : List ℕ → ℕ → ℕ → Type 0
-Listed seen b u = (bucketOf (getD seen u 0) ≡ b) × ((k : ℕ) → k < u → getD seen k 0 ≡ getD seen u 0 → ⊥)
-
--- state v put at the end of list b where it is the first with its set, else nothing
-pub record Linked (b v first : ℕ) (links heads links′ heads′ : List ℕ) : Type 0 where
-  pub pushed : first ≡ v → (links′ ≡ set links v (getD heads b 0)) × (heads′ ≡ set heads b (v + 1))
-  pub kept : (first ≡ v → ⊥) → (links′ ≡ links) × (heads′ ≡ heads)
-
--- the first state with the set of v
-pub record FirstSeen (seen : List ℕ) (v answer : ℕ) : Type 0 where
-  pub low : answer ≤ v
-  pub alike : getD seen answer 0 ≡ getD seen v 0
-  pub first : (u : ℕ) → u < answer → getD seen u 0 ≡ getD seen v 0 → ⊥
 
 -- the first accepting state of the class of v
 pub record FirstEnd (accepts classes : List ℕ) (v answer : ℕ) : Type 0 where

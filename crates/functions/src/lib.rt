@@ -9,8 +9,6 @@ ghost use mathlib.Core.Path.{_≡_};
 ghost use Prim.Native.Nat.{ℕ, _<_, _≤_};
 ghost use lib.ListN.{length, getD};
 ghost use Rattle.model.specs.Limits.{name-limit, setting-limit};
-ghost use Rattle.indexed.specs.Trees.{Arrays};
-ghost use Rattle.cells.specs.Cells.{work-bytes};
 ghost use Rattle.functions.specs.Results.{JoinReady, JoinedByLast, JoinedBySeen};
 
 // No partition has more states.
@@ -113,7 +111,7 @@ fn join_seen_in(
         (now (groups .exit)) ⌝ }
 {
     seen::seen_sets(parents, names, sets);
-    seen::classes_by_seen(sets, classes);
+    values::classes_of(sets, classes);
     keys::keys_where(true, parents, names, sets, enlarging);
     keys::keys_where(false, parents, names, sets, others);
     rounds::finish(

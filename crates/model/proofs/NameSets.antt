@@ -3,7 +3,7 @@
 use mathlib.Core.Path.{_≡_, refl, sym, ap, _∙_}
 use mathlib.Core.List.{List, [], _∷_}
 use Prim.Native.Nat.{ℕ, zero, suc, _+_, _*_, _-_, _/_, _%_, _^_, _≤_, _<_}
-use native.Mathlib.Nat.{add-zero, zero-mul, mul-one, one-mul, pow-suc, mul-assoc, mul-comm, add-comm}
+use native.Mathlib.Nat.{add-zero, zero-mul, mul-one, one-mul, pow-suc, mul-assoc, add-comm}
 use native.Mathlib.Omega.{arith}
 use lib.Bits.{shifted-even, shifted-half}
 use lib.Count.{ones, ones-cat, trailingZeros, under}

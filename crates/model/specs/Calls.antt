@@ -1,14 +1,14 @@
 -- What is given back (document 01): which refusal a build, a rewriting and a walk come to, in the order in which they are
 -- judged, and what is written where there is none. What the public entries say of their results and of each lent byte is
 -- built on these in the crate `plans`. Assumes nothing.
-use mathlib.Core.Bool.{Bool, true, false, _&&_, _||_, not}
-use mathlib.Core.List.{List, [], _∷_}
-use Prim.Native.Nat.{ℕ, zero, suc, _-_}
-use lib.Dec.{eqb, ltb, leb}
+use mathlib.Core.Bool.{_||_, not}
+use mathlib.Core.List.{List}
+use Prim.Native.Nat.{ℕ, _-_}
+use lib.Dec.{ltb}
 use lib.ListN.{length}
 use Rattle.model.specs.Limits.{state-limit, input-limit, work-bytes, when, firstOf}
 use Rattle.model.specs.Limits.{bad-sizes, bad-row, tree-too-large, bad-numbering, output-too-short}
-use Rattle.model.specs.Fields.{File, Class, book, table, readFields, rowOk}
+use Rattle.model.specs.Fields.{File, book, table, readFields, rowOk}
 use Rattle.model.specs.Tables.{State, statesIn, tableBytes, isFirstMet}
 use Rattle.model.specs.Joinings.{treeOf}
 use Rattle.model.specs.Quotients.{bookStates, bookTable}

@@ -1,15 +1,14 @@
 -- What is claimed of the definitions: demand 3, whole, and that tables read back as written and are rewritten to the same
 -- bytes. `demands` of proofs/Demands.antt proves it all. Assumes nothing.
 use mathlib.Core.Path.{_≡_}
-use mathlib.Core.Bool.{Bool, true, false}
-use mathlib.Core.List.{List, [], _∷_}
-use Prim.Native.Nat.{ℕ, zero, suc, _<_, _≤_}
-use lib.Dec.{eqb}
+use mathlib.Core.Bool.{Bool, true}
+use mathlib.Core.List.{List}
+use Prim.Native.Nat.{ℕ, _<_, _≤_}
 use lib.ListN.{length, getD}
 use Rattle.model.specs.Limits.{work-bytes}
 use Rattle.model.specs.Lists.{all, hasRow}
-use Rattle.model.specs.Fields.{File, Class}
-use Rattle.model.specs.Tables.{State, admits}
+use Rattle.model.specs.Fields.{File}
+use Rattle.model.specs.Tables.{admits}
 use Rattle.model.specs.Classes.{Word, InClass}
 use Rattle.model.specs.Joinings.{Step, treeOf, isFull, isFullJoining, joinedGroups}
 use Rattle.model.specs.Quotients.{bookStates, bookTable, tableAfter}

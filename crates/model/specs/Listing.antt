@@ -1,11 +1,10 @@
 -- The listing (document 01, "Worked days"): the text that the listing program prints for a book, as bytes. Assumes nothing.
-use mathlib.Core.Bool.{Bool, true, false, cond}
+use mathlib.Core.Bool.{true, false, cond}
 use mathlib.Core.List.{List, [], _∷_, _++_, flatMap}
 use Prim.Native.Nat.{ℕ, zero, suc, _+_, _/_, _%_}
 use lib.Dec.{eqb, ltb}
 use lib.ListN.{length, getD}
 use Rattle.model.specs.Limits.{input-limit, bad-sizes, when, firstOf}
-use Rattle.model.specs.Fields.{File}
 use Rattle.model.specs.Tables.{Arc, State}
 use Rattle.model.specs.Quotients.{bookStates}
 use Rattle.model.specs.Calls.{bookOf, bookFault, joinsOf}

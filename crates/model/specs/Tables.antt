@@ -1,6 +1,6 @@
 -- Tables: deterministic automata as lists of states, written as fields, read back from them, checked for first-met numbering,
 -- and walked (document 01, "Fields" and "Walking a row"). State 0 is the start. Assumes nothing.
-use mathlib.Core.Bool.{Bool, true, false, _&&_, not, cond}
+use mathlib.Core.Bool.{Bool, true, false, _&&_, cond}
 use mathlib.Core.List.{List, [], _∷_, _++_, map, flatMap}
 use Prim.Native.Nat.{ℕ, zero, suc, _+_, _-_, _*_, _/_, _%_, _^_}
 use lib.Dec.{eqb, ltb}

@@ -3,14 +3,14 @@
 use mathlib.Core.Path.{_≡_, refl, sym, ap, _∙_}
 use mathlib.Core.Bool.{Bool, true, false, cond}
 use mathlib.Core.List.{List}
-use Prim.Native.Nat.{ℕ, _-_, _≤_, _<_}
+use Prim.Native.Nat.{ℕ, _≤_, _<_}
 use native.Mathlib.Omega.{arith}
 use borrow.Author.Tests.{ltb-false, eqb-true}
 use lib.Dec.{eqb, ltb}
 use lib.ListN.{length, take, drop, length-append}
 use lib.Seq.{take-append-seam}
 use Rattle.model.specs.Limits.{when, firstOf, input-limit, work-bytes, state-limit, bad-sizes, tree-too-large}
-use Rattle.model.specs.Fields.{File, Read, default-class, readFields}
+use Rattle.model.specs.Fields.{File, default-class, readFields}
 use Rattle.model.specs.Fields as fields
 use Rattle.model.specs.Joinings.{treeOf, joinedGroups}
 use Rattle.model.specs.Quotients.{bookStates, bookTable}

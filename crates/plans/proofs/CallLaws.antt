@@ -1,9 +1,9 @@
 -- Which refusal a call comes to, in the order in which they are judged; and what a call gives back that is refused, that copies an
 -- accepted table, or that walked a row over one. Assumes nothing.
-use mathlib.Core.Path.{_≡_, refl, sym, ap, _∙_, subst}
+use mathlib.Core.Path.{_≡_, refl, sym, ap, _∙_}
 use mathlib.Core.Bool.{Bool, true, false, not, cond, _||_, and-eq-true-iff}
-use mathlib.Core.List.{List, [], _∷_, _++_}
-use Prim.Native.Nat.{ℕ, zero, suc, _+_, _≤_, _<_}
+use mathlib.Core.List.{List, [], _++_}
+use Prim.Native.Nat.{ℕ, zero, suc, _≤_, _<_}
 use native.Mathlib.Nat.{zero-add}
 use native.Mathlib.Omega.{arith}
 use borrow.Author.Tests.{ltb-false, lt-ltb, le-ltb, leb-true, eq-eqb, ne-eqb, eqb-true}
@@ -11,7 +11,7 @@ use lib.Dec.{eqb, ltb, leb}
 use lib.ListN.{length, take, drop, length-take}
 use Rattle.model.specs.Limits.{when, firstOf, input-limit, work-bytes, row-limit, bad-sizes, bad-row, output-too-short}
 use Rattle.model.specs.Fields.{File, allBelow, rowOk}
-use Rattle.model.specs.Tables.{State, longestBeginning, walk, outcome, nextNames, nextCount}
+use Rattle.model.specs.Tables.{longestBeginning, walk, outcome, nextNames, nextCount}
 use Rattle.model.specs.Claims.{AllBytes}
 use Rattle.model.specs.Calls.{sizesFault, outputFault, tableOf, tableStates, tableFault, rewritten, rewriteFault, walkFault}
 use Rattle.model.proofs.FieldLaws.{first-of}
@@ -22,7 +22,7 @@ use Rattle.writing.specs.Writing.{Written}
 use Rattle.tables.specs.Accepting.{readFault, TableRead}
 use Rattle.plans.specs.declared.Built.{Built}
 use Rattle.plans.specs.declared.walking.Ended.{Ended}
-use Rattle.plans.specs.Says.{over, unless, Gives, RewriteGives, walkedPart, WalkGives}
+use Rattle.plans.specs.Says.{over, unless, Gives, RewriteGives, walkedPart}
 use Rattle.plans.specs.Parts.{NoTable, NoWalk, EndsOver, EndsAs}
 
 -- ---- a value unless a refusal

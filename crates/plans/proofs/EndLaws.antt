@@ -1,14 +1,13 @@
 -- How a walk over an accepted table ends: the state reached, by the field at the offset that the working area keeps for it; its arcs
 -- are at most 64, and the set of their names has as many bits. Assumes nothing.
-use mathlib.Core.Path.{_≡_, refl, sym, ap, _∙_, subst}
+use mathlib.Core.Path.{_≡_, sym, ap, _∙_, subst}
 use mathlib.Core.Bool.{Bool, cond}
 use mathlib.Core.List.{List, [], _∷_}
-use Prim.Native.Nat.{ℕ, zero, suc, _+_, _≤_, _<_}
+use Prim.Native.Nat.{ℕ, suc, _+_, _≤_}
 use native.Mathlib.Omega.{arith}
 use lib.Dec.{ltb}
 use lib.Count.{ones}
 use lib.ListN.{length, getD}
-use Rattle.model.specs.Limits.{row-limit}
 use Rattle.model.specs.Tables as model
 use Rattle.model.specs.Tables.{Arc, State, no-state, stateIn, nameSet, walk, reachedState, outcome, nextNames, nextCount}
 use Rattle.model.specs.Calls.{tableStates}

@@ -1,12 +1,11 @@
 -- What is handed over with build: demand 3, whole, said of the bytes that a call of build_table wrote. `build-handed-over` of
 -- proofs/Handed.antt proves it of every call. Assumes nothing.
 use mathlib.Core.Path.{_≡_}
-use mathlib.Core.Bool.{Bool, true}
+use mathlib.Core.Bool.{true}
 use mathlib.Core.List.{List}
 use Prim.Native.Nat.{ℕ}
 use lib.ListN.{take}
 use Rattle.model.specs.Lists.{hasRow}
-use Rattle.model.specs.Fields.{File}
 use Rattle.model.specs.Tables.{admits}
 use Rattle.model.specs.Classes.{Word, InClass}
 use Rattle.model.specs.Joinings.{Step, isFullJoining}

@@ -1,9 +1,9 @@
 -- What the public entries say (document 01, "What is given back", "Walking a row" and the listing of "Worked days"): the result,
 -- and every lent byte, are equal to what a definition of `model` gives. Assumes nothing.
 use mathlib.Core.Path.{_≡_}
-use mathlib.Core.Bool.{Bool, true, false, cond, _||_}
-use mathlib.Core.List.{List, [], _∷_, _++_}
-use Prim.Native.Nat.{ℕ, zero, suc}
+use mathlib.Core.Bool.{Bool, cond, _||_}
+use mathlib.Core.List.{List, [], _++_}
+use Prim.Native.Nat.{ℕ}
 use lib.Dec.{eqb, ltb}
 use lib.ListN.{length, drop, replicate}
 use Rattle.model.specs.Limits.{work-bytes}

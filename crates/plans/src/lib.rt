@@ -8,7 +8,6 @@ mod rewriting;
 mod walking;
 
 use cells::clear;
-ghost use mathlib.Core.Path.{_≡_};
 ghost use Rattle.plans.specs.Says.{BuildSays, RewriteSays, WalkSays, WalkedSays, ListSays};
 
 // What a call that writes a table gives back: a refusal's number or 0, then the table's length in bytes, its states, and the

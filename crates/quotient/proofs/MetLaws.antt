@@ -1,25 +1,23 @@
 -- Groups met: one target more, the targets of one group's arcs, and all groups in turn, from the root's on. Assumes nothing.
 use mathlib.Core.Path.{_≡_, refl, sym, ap, _∙_, subst}
-use mathlib.Core.Logic.{_⊎_, inl, inr, ⊎-elim}
+use mathlib.Core.Logic.{_⊎_, ⊎-elim}
 use mathlib.Core.Bool.{Bool, true, false, cond}
 use mathlib.Core.List.{List, [], _∷_, _++_, List·Memᴰ as In, List·Memᴰ·head as here}
-use mathlib.Core.List.{List·Memᴰ·not-nil, List·Memᴰ·cases-cons, List·Memᴰ·append-cases}
+use mathlib.Core.List.{List·Memᴰ·not-nil, List·Memᴰ·append-cases}
 use mathlib.Core.List.{List·Memᴰ·eq-of-singleton, Memᴰ·append-left, Memᴰ·append-right}
 use Prim.Native.Nat.{ℕ, zero, suc, _+_, _-_, _^_, _<_, _≤_}
 use native.Mathlib.Numerals.{add-one}
 use native.Mathlib.Omega.{arith}
 use lib.Count.{trailingZeros}
-use lib.Dec.{ltb}
 use lib.ListN.{length, getD, set, take, replicate, length-append, length-set, length-replicate, getD-replicate}
 use lib.Seq.{take-suc-set, getD-set-same, getD-set-other, getD-take}
-use borrow.Author.Tests.{lt-ltb, le-ltb}
 use Rattle.model.specs.Limits.{name-limit, state-limit}
 use Rattle.model.specs.Lists.{any, isIn, indexIn}
 use Rattle.model.specs.Classes.{Word}
 use Rattle.model.specs.Tables.{Arc}
 use Rattle.model.specs.Joinings.{Transition, treeOf, transitionsOf}
 use Rattle.model.specs.Quotients.{arcsOutOf, metWith, metFrom, metGroups}
-use Rattle.model.proofs.Tests.{tells-isIn, not-told, eq-dec}
+use Rattle.model.proofs.Tests.{tells-isIn, not-told}
 use Rattle.model.proofs.Places.{nth-in, nth-of-index, index-after, index-front}
 use Rattle.model.proofs.Trees.{treeOf-tree}
 use Rattle.model.proofs.Meeting.{metWith-grown}

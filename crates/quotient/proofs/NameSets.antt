@@ -1,15 +1,13 @@
 -- Sets of names in 64 bits: a name has its bit in the set of arcs exactly if an arc has that name. Assumes nothing.
-use mathlib.Core.Path.{_≡_, refl, sym, ap, _∙_}
+use mathlib.Core.Path.{_≡_, sym, ap, _∙_}
 use mathlib.Core.Logic.{inl, inr, ⊎-elim, _↔_}
 use mathlib.Core.List.{List, [], _∷_, List·Memᴰ as In, List·Memᴰ·head as here, List·Memᴰ·tail as there}
 use mathlib.Core.List.{List·Memᴰ·not-nil, List·Memᴰ·cases-cons}
-use Prim.Native.Nat.{ℕ, zero, suc, _+_, _*_, _-_, _/_, _%_, _^_, _≤_, _<_}
-use native.Mathlib.Nat.{add-zero, zero-mul, mul-one, one-mul, pow-suc, mul-assoc, add-comm, mod-eq-of-lt}
+use Prim.Native.Nat.{ℕ, suc, _+_, _*_, _%_, _^_, _<_}
+use native.Mathlib.Nat.{one-mul, add-comm, mod-eq-of-lt}
 use native.Mathlib.Omega.{arith}
-use lib.Bits.{bitOr, shifted-even, shifted-half, or-shifted}
-use lib.Count.{ones, ones-cat, trailingZeros, under}
-use lib.ListN.{length}
-use lib.Pow.{pow-pos, pow-lt, pow-add}
+use lib.Bits.{bitOr, or-shifted}
+use lib.Pow.{pow-lt}
 use Rattle.model.specs.Tables.{Arc, arc, nameSet}
 use Rattle.model.proofs.Arcs.{Ascending}
 use Rattle.indexed.proofs.Bits.{bit, bit-zero, bit-of-set}

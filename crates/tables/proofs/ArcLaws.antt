@@ -1,18 +1,18 @@
 -- A state's arcs by their offsets in its field: the arcs from an offset on, and what is known there of the test that the field
 -- passed; then that its arcs ascend, and the search for a name among them. Assumes nothing.
 use mathlib.Core.Path.{_≡_, refl, sym, ap, _∙_, subst}
-use mathlib.Core.Bool.{Bool, true, false, _&&_, false≢true, and-eq-true-iff}
+use mathlib.Core.Bool.{true, _&&_, false≢true, and-eq-true-iff}
 use mathlib.Core.List.{List, [], _∷_}
 use Prim.Native.Nat.{ℕ, zero, suc, _+_, _*_, _-_, _≤_, _<_}
 use native.Mathlib.Omega.{arith}
-use borrow.Author.Tests.{leb-true, ltb-true, leb-false, eq-eqb, ne-eqb}
+use borrow.Author.Tests.{leb-true, ltb-true, eq-eqb, ne-eqb}
 use lib.Dec.{eqb, leb, ltb}
 use lib.ListN.{length, getD, drop, drop-of-length-le, length-drop}
 use lib.Seq.{drop-cons, drop-drop, getD-drop}
 use Rattle.model.specs.Fields.{arcsOk, stateOk}
 use Rattle.model.specs.Tables.{Arc, arc, arcsIn, stateIn, targetIn}
 use Rattle.model.proofs.Arcs.{Ascending}
-use Rattle.fields.proofs.StateLaws.{ArcsLeft, arcs-begin, arcs-cut, arcs-unnamed, arcs-unordered, arcs-go, state-empty, state-first}
+use Rattle.fields.proofs.StateLaws.{ArcsLeft, arcs-begin, arcs-cut, arcs-unnamed, arcs-unordered, arcs-go}
 use Rattle.tables.specs.Arcs.{StateOk, targetAt}
 
 -- the arcs from offset i on

@@ -1,16 +1,13 @@
 -- Sets of names in 64 bits: one more name put into the set with `|` and `<<`. Assumes nothing.
-use mathlib.Core.Path.{_≡_, refl, sym, ap, _∙_}
-use mathlib.Core.List.{List, [], _∷_}
-use Prim.Native.Nat.{ℕ, zero, suc, _+_, _*_, _-_, _/_, _%_, _^_, _≤_, _<_}
-use native.Mathlib.Nat.{add-zero, zero-mul, mul-one, one-mul, pow-suc, mul-assoc, mul-comm, add-comm, mod-eq-of-lt}
+use mathlib.Core.Path.{_≡_, ap, _∙_}
+use mathlib.Core.List.{List, _∷_}
+use Prim.Native.Nat.{ℕ, _+_, _*_, _%_, _^_, _<_}
+use native.Mathlib.Nat.{pow-suc, mod-eq-of-lt}
 use native.Mathlib.Numerals.{add-one}
 use native.Mathlib.Omega.{arith}
-use lib.Bits.{bitOr, shifted-even, shifted-half, or-shifted-r}
-use lib.Count.{ones, ones-cat, trailingZeros, under}
-use lib.ListN.{length}
-use lib.Pow.{pow-pos, pow-mono, pow-lt, pow-add}
+use lib.Bits.{bitOr, or-shifted-r}
+use lib.Pow.{pow-lt}
 use Rattle.model.specs.Tables.{Arc, arc, nameSet}
-use Rattle.model.proofs.Arcs.{Ascending}
 
 -- one more name above those in the set
 pub with-name : (names a : ℕ) → names < 2 ^ a → a < 64 → bitOr names (1 * 2 ^ a % 2 ^ 64) ≡ names + 2 ^ a

@@ -2,31 +2,30 @@
 -- from its begin over its turns to its answers. Assumes nothing.
 use mathlib.Core.Path.{_≡_, refl, sym, ap, _∙_, subst}
 use mathlib.Core.Logic.{⊎-elim}
-use mathlib.Core.Bool.{Bool, true, false, not, _&&_, true≢false, false≢true, and-eq-true-iff}
+use mathlib.Core.Bool.{Bool, true, false, not, _&&_, true≢false, and-eq-true-iff}
 use mathlib.Core.List.{List, [], _∷_, _++_, map, List·Memᴰ as In, List·Memᴰ·head as here, List·Memᴰ·tail as there}
 use mathlib.Core.List.{List·Memᴰ·not-nil, List·Memᴰ·append-cases, List·Memᴰ·eq-of-singleton}
-use Prim.Native.Nat.{ℕ, zero, suc, _+_, _-_, _*_, _≤_, _<_}
+use Prim.Native.Nat.{ℕ, zero, suc, _+_, _≤_, _<_}
 use native.Mathlib.Numerals.{add-one}
 use native.Mathlib.Omega.{arith}
 use borrow.Author.Tests.{ltb-true, ltb-false, lt-ltb, eq-eqb, ne-eqb}
-use lib.Dec.{eqb, ltb, leb}
+use lib.Dec.{ltb, leb}
 use lib.ListN.{length, getD, drop, length-map, length-append, List·getD-map}
-use Rattle.model.specs.Limits.{when, firstOf, state-limit, input-limit, work-bytes}
+use Rattle.model.specs.Limits.{when, firstOf, work-bytes}
 use Rattle.model.specs.Fields.{File, Read, unread, default-class, table, withField, arcsOk, stateOk, readFields, readWith}
 use Rattle.model.specs.Tables.{State, no-state, stateIn, statesIn, metByArcs, metByStates, isFirstMet}
 use Rattle.model.specs.Calls.{tableOf, tableStates}
 use Rattle.model.proofs.FieldLaws.{Fitting, a-name, a-class, a-row, a-state, fitting}
 use Rattle.model.proofs.Turns.{read-keeps}
 use Rattle.fields.specs.Offsets.{bodyAt, nextAt, offsetAt, fieldsAt}
-use Rattle.fields.specs.Places.{fileOf, Sound, ReadAs}
+use Rattle.fields.specs.Places.{ReadAs}
 use Rattle.fields.specs.declared.Place.{Place}
-use Rattle.fields.specs.declared.Fields.{Fields}
 use Rattle.fields.specs.declared.Fields.the-variants as read
 use Rattle.fields.proofs.OffsetLaws.{offset-suc, field-within, length-fields, field-at}
 use Rattle.cells.specs.Cells.{cellAt, withCell}
 use Rattle.cells.proofs.CellLaws.{length-withCell, cell-same, cell-other-row}
 use Rattle.tables.specs.Arcs.{StateOk}
-use Rattle.tables.specs.Accepting.{readFault, TableRead, StateField, Ready, TableAt, AcceptedAs}
+use Rattle.tables.specs.Accepting.{readFault, TableRead, StateField, AcceptedAs}
 use Rattle.tables.specs.declared.Accepted.the-variants.{Table, Refused}
 use Rattle.tables.proofs.MetLaws.{states-stop, states-go, states-end, first-met-some}
 

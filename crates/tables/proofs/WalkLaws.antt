@@ -1,13 +1,13 @@
 -- Walks: a state's target through the offset that the lent area keeps; one step, the end and the stop of a walk, as the definition
 -- has them. Assumes nothing.
-use mathlib.Core.Path.{_≡_, refl, sym, ap, _∙_, subst}
+use mathlib.Core.Path.{_≡_, refl, sym, ap, _∙_}
 use mathlib.Core.Bool.{false}
-use mathlib.Core.List.{List, [], _∷_}
-use Prim.Native.Nat.{ℕ, zero, suc, _+_, _-_, _≤_, _<_}
+use mathlib.Core.List.{List, _∷_}
+use Prim.Native.Nat.{ℕ, suc, _+_, _-_, _≤_, _<_}
 use native.Mathlib.Numerals.{add-one}
 use native.Mathlib.Omega.{arith}
 use borrow.Author.Tests.{eq-eqb, ne-eqb}
-use lib.Dec.{eqb, eqb·suc-zero}
+use lib.Dec.{eqb}
 use lib.ListN.{length, getD, drop, drop-of-length-le}
 use lib.Seq.{drop-cons}
 use Rattle.model.specs.Tables as model
@@ -16,7 +16,7 @@ use Rattle.model.specs.Calls.{tableStates}
 use Rattle.fields.specs.Offsets.{bodyAt}
 use Rattle.cells.specs.Cells.{cellAt}
 use Rattle.tables.specs.Accepting.{Ready}
-use Rattle.tables.specs.Walking.{targetOf, walkOf, MovedTo, WalkedAs}
+use Rattle.tables.specs.Walking.{targetOf, MovedTo, WalkedAs}
 use Rattle.tables.specs.declared.Walk.{Walk}
 use Rattle.tables.proofs.MetLaws.{target-in-table}
 

@@ -1,13 +1,13 @@
 -- A table accepted: its refusal, the place where its parts stand, and the lent area in which the offset of each state's field is
 -- kept. Assumes nothing.
 use mathlib.Core.Path.{_≡_}
-use mathlib.Core.Bool.{Bool, true, not}
+use mathlib.Core.Bool.{true, not}
 use mathlib.Core.List.{List}
 use Prim.Native.Nat.{ℕ, _≤_, _<_}
 use lib.ListN.{length, getD}
 use Rattle.model.specs.Limits.{when, firstOf, bad-numbering, state-limit, work-bytes}
 use Rattle.model.specs.Fields.{table, readFields}
-use Rattle.model.specs.Tables.{State, stateIn, isFirstMet, no-state}
+use Rattle.model.specs.Tables.{stateIn, isFirstMet, no-state}
 use Rattle.model.specs.Calls.{tableOf, tableStates}
 use Rattle.fields.specs.Offsets.{bodyAt, nextAt, offsetAt}
 use Rattle.fields.specs.Places.{fileOf, Sound}

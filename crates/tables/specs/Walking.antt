@@ -4,7 +4,7 @@ use mathlib.Core.List.{List}
 use Prim.Native.Nat.{ℕ, suc, _≤_, _<_}
 use lib.ListN.{length, getD}
 use Rattle.model.specs.Tables as model
-use Rattle.model.specs.Tables.{State, no-state, targetIn, walk-at, walkFrom}
+use Rattle.model.specs.Tables.{State, no-state, targetIn, walk-at}
 use Rattle.tables.specs.declared.Walk.{Walk}
 use Rattle.tables.specs.declared.Stepped.{Stepped}
 use Rattle.tables.specs.declared.Stepped.the-variants as stepped

@@ -2,7 +2,6 @@
 // arc, and the check of first-met numbering. Every function here requires that the field passed the reader's test.
 use cells::numbers::wide8;
 ghost use mathlib.Core.Path.{_≡_};
-ghost use mathlib.Core.Bool.{true};
 ghost use Prim.Native.Nat.{_+_, _≤_};
 ghost use lib.ListN.{length};
 ghost use Rattle.model.specs.Tables.{stateIn, metByArcs, targetIn, nameSet};

@@ -5,7 +5,6 @@ use mathlib.Core.List.{List, [], _∷_, _++_, flatMap, append-nil, append-assoc}
 use Prim.Native.Nat.{ℕ, _+_, _*_, _/_, _%_}
 use native.Mathlib.Omega.{arith}
 use lib.ListN.{length, take}
-use Rattle.model.specs.Limits.{when}
 use Rattle.model.specs.Fields.{Class}
 use Rattle.model.specs.Tables.{Arc, State, fieldBytes, classField, arcBytes, stateBody, stateFields}
 use Rattle.model.proofs.StateBodies.{body-length}

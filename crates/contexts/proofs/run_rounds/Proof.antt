@@ -1,9 +1,7 @@
 -- `contexts::run_rounds` meets its contract: the numbers that are read are those written. Assumes nothing.
-use mathlib.Core.Path.{_≡_, refl, sym, ap, _∙_}
-use mathlib.Core.List.{List}
-use Prim.Native.Nat.{ℕ, _≤_}
+use mathlib.Core.Path.{_≡_, sym, ap, _∙_}
 use native.Mathlib.Omega.{arith}
-use lib.ListN.{length, replicate, take}
+use lib.ListN.{length, replicate}
 use borrow.Author.Needs.{needs}
 use Rattle.model.specs.Lists.{numbersFrom}
 use Rattle.indexed.proofs.Keys.{numbers-length}

@@ -34,14 +34,14 @@ sets-for c m size =
     subst (λ (k : ℕ). SeenSets k (at .args .parents .now) (at .args .names .now) (c .seen-sets .last .1 .1 .0)) (sym size)
     (sets-here c)
 
-by-seen-here :
-    (c : tie.After-classes-by-seen) → let seen = c .before .before .before .before .before in let at = from-sets seen in
-    ByValue (length (at .args .groups .now)) (seen .seen-sets .last .1 .1 .0) (c .classes-by-seen .last .1 .0)
-by-seen-here c =
+classes-here :
+    (c : tie.After-classes-of) → let seen = c .before .before .before .before .before in let at = from-sets seen in
+    ByValue (length (at .args .groups .now)) (seen .seen-sets .last .1 .1 .0) (c .classes-of .last .1 .0)
+classes-here c =
     let seen = c .before .before .before .before .before in
     let at = from-sets seen in
-    subst (λ (m : ℕ). ByValue m (seen .seen-sets .last .1 .1 .0) (c .classes-by-seen .last .1 .0)) (at .pre .1 .1 .0)
-    (c .classes-by-seen .ensures)
+    subst (λ (m : ℕ). ByValue m (seen .seen-sets .last .1 .1 .0) (c .classes-of .last .1 .0)) (at .pre .1 .1 .0)
+    (c .classes-of .ensures)
 
 enlarging-here :
     (c : tie.After-keys-where) → let seen = sets-of c in let at = from-sets seen in
@@ -69,8 +69,8 @@ seen-sets-requires c κs =
     arrays-for (length (at .args .groups .now)) (length (at .args .sets .now)) (at .args .parents .now) (at .args .names .now)
     (at .pre .1 .0) (at .pre .0 .arrays)
 
-classes-by-seen-requires : tie.Need-classes-by-seen-requires
-classes-by-seen-requires c κs = search needs
+classes-of-requires : tie.Need-classes-of-requires
+classes-of-requires c κs = search needs
 
 keys-where-requires : tie.Need-keys-where-requires
 keys-where-requires c κs =
@@ -99,7 +99,7 @@ finish-requires c κs =
       record {
         arrays = at .pre .0 .arrays;
         accepts-size = at .pre .0 .accepts-size;
-        classes-labelled = by-seen-here classed .labelled;
+        classes-labelled = classes-here classed .labelled;
         keys-size = enlarging-here enlarging .size;
         more-size = others-here others .size;
       },
@@ -139,16 +139,16 @@ returns c =
     let seen = classed .before .before .before .before .before in
     let at = from-sets seen in
     joined-by-seen (length (at .args .groups .now)) (at .args .parents .now) (at .args .names .now) (at .args .accepts .now)
-    (seen .seen-sets .last .1 .1 .0) (classed .classes-by-seen .last .1 .0) (enlarging .keys-where .last .1 .1 .1 .1 .0)
+    (seen .seen-sets .last .1 .1 .0) (classed .classes-of .last .1 .0) (enlarging .keys-where .last .1 .1 .1 .1 .0)
     (others .keys-where2 .last .1 .1 .1 .1 .0) (finishes .finish .last .1 .1 .1 .1 .1 .1 .1 .0) (at .pre .0 .arrays)
-    (sets-here seen) (by-seen-here classed) (enlarging-here enlarging) (others-here others) (finishes .finish .ensures)
+    (sets-here seen) (classes-here classed) (enlarging-here enlarging) (others-here others) (finishes .finish .ensures)
 
 pub join-seen-in-spec : {M : Type 1} → statement M
 join-seen-in-spec =
     tie.close
     (tie.spec
     seen-sets-requires
-    classes-by-seen-requires
+    classes-of-requires
     keys-where-requires
     keys-where-requires-2
     finish-requires

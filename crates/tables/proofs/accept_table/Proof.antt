@@ -1,6 +1,6 @@
 -- `accept_table` meets its contract: what the reader accepts is a table read, and what it refuses is refused. Assumes nothing.
 use borrow.Author.Needs.{needs}
-use mathlib.Core.Path.{_≡_, subst}
+use mathlib.Core.Path.{subst}
 use Rattle.model.specs.Fields.{default-class, table}
 use Rattle.fields.specs.Places.{ReadAs}
 use Rattle.fields.specs.declared.Fields.{Fields}

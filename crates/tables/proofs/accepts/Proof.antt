@@ -1,15 +1,12 @@
 -- `accepts` meets its contract: a state field has a first byte, and it is the mark of acceptance. Assumes nothing.
 use borrow.Author.Needs.{needs}
-use mathlib.Core.Path.{_≡_, refl, sym, ap, _∙_}
-use mathlib.Core.Bool.{false≢true}
-use mathlib.Core.List.{List, [], _∷_}
+use mathlib.Core.Path.{ap, _∙_}
+use mathlib.Core.List.{List}
 use Prim.Native.Nat.{ℕ}
 use native.Mathlib.Omega.{arith}
 use lib.Dec.{eqb}
 use lib.ListN.{length, getD}
-use Rattle.model.specs.Tables.{stateIn}
 use Rattle.fields.specs.Offsets.{bodyAt}
-use Rattle.tables.specs.Arcs.{StateOk}
 use Rattle.tables.proofs.ArcLaws.{state-some, state-accepts}
 use Rattle.tables.proofs.accepts.Statement.{statement}
 use Rattle.tables.proofs.accepts.Tie as tie

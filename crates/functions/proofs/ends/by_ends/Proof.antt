@@ -6,7 +6,7 @@ use native.Mathlib.Omega.{arith}
 use lib.ListN.{length}
 use Rattle.functions.specs.Parts.{Firsts, EndLabel}
 use Rattle.indexed.specs.Partitions.{Labelled}
-use Rattle.partition.proofs.FillLaws.{Filled, filled-none, filled-more}
+use Rattle.indexed.proofs.Fills.{Filled, filled-none, filled-more}
 use Rattle.functions.proofs.EndLaws.{by-ends-all, label-low, firsts-none}
 use Rattle.functions.proofs.ends.by_ends.Statement.{statement}
 use Rattle.functions.proofs.ends.by_ends.Tie as tie

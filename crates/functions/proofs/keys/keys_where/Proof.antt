@@ -6,7 +6,7 @@ use lib.ListN.{length}
 use Rattle.functions.specs.Parts.{KeyAt}
 use Rattle.indexed.specs.Trees.{Arrays}
 use Rattle.indexed.specs.Passes.{SeenSets}
-use Rattle.partition.proofs.FillLaws.{Filled, filled-none, filled-more}
+use Rattle.indexed.proofs.Fills.{Filled, filled-none, filled-more}
 use Rattle.functions.proofs.FillLaws.{keys-all}
 use Rattle.functions.proofs.keys.keys_where.Statement.{statement}
 use Rattle.functions.proofs.keys.keys_where.Tie as tie

@@ -4,7 +4,7 @@ use Prim.Native.Nat.{ℕ, _-_, _≤_}
 use native.Mathlib.Omega.{arith}
 use lib.ListN.{length, getD}
 use Rattle.indexed.specs.Trees.{Arrays}
-use Rattle.partition.proofs.FillLaws.{Filled, filled-none, filled-more}
+use Rattle.indexed.proofs.Fills.{Filled, filled-none, filled-more}
 use Rattle.functions.proofs.FillLaws.{IsAbove, above-all}
 use Rattle.functions.proofs.keys.names_above.Statement.{statement}
 use Rattle.functions.proofs.keys.names_above.Tie as tie

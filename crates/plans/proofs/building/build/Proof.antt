@@ -1,6 +1,5 @@
 -- `build` meets its contract: one law of BuildLaws for each answer. Assumes nothing.
-use mathlib.Core.Path.{_≡_, refl, sym, _∙_, subst}
-use mathlib.Core.Bool.{false}
+use mathlib.Core.Path.{refl, sym, _∙_, subst}
 use native.Mathlib.Omega.{arith}
 use Rattle.model.specs.Fields.{File, default-class}
 use Rattle.model.specs.Fields as model
@@ -8,7 +7,7 @@ use Rattle.fields.specs.Places.{ReadAs}
 use Rattle.fields.specs.declared.Fields.{Fields}
 use Rattle.fields.proofs.Parts.{refused-number}
 use Rattle.inference.specs.Results as inferred
-use Rattle.plans.proofs.CallLaws.{SizesBad, sizes-fit}
+use Rattle.plans.proofs.CallLaws.{sizes-fit}
 use Rattle.plans.proofs.BuildLaws.{book-read-as, build-gives-sizes, build-gives-refusal, build-gives-inferred, inferred-small}
 use borrow.Author.Needs.{needs}
 use Rattle.plans.proofs.building.build.Statement.{statement}

@@ -1,12 +1,11 @@
 -- `arcs::met_by_arcs` meets its contract. The loop's invariant: what is met after the arcs from i on is what is met after all of
 -- them. Assumes nothing.
-use mathlib.Core.Path.{_≡_, refl, sym, ap, _∙_}
+use mathlib.Core.Path.{_≡_, sym, ap, _∙_}
 use Prim.Native.Nat.{ℕ, _+_, _-_, _≤_}
 use native.Mathlib.Omega.{arith}
 use lib.ListN.{length, getD}
-use Rattle.model.specs.Tables.{arc, stateIn, metByArcs}
-use Rattle.tables.specs.Arcs.{targetAt}
-use Rattle.tables.proofs.ArcLaws.{Left, ArcHere, arcsFrom, arcs-all, arcs-turn, arcs-end, left-begins, arc-here, state-some}
+use Rattle.model.specs.Tables.{stateIn, metByArcs}
+use Rattle.tables.proofs.ArcLaws.{Left, ArcHere, arcsFrom, arcs-all, left-begins, arc-here, state-some}
 use Rattle.tables.proofs.MetLaws.{from-past, from-goes, from-end}
 use Rattle.tables.proofs.arcs.met_by_arcs.Statement.{statement}
 use Rattle.tables.proofs.arcs.met_by_arcs.Tie as tie

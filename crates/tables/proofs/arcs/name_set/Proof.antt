@@ -1,6 +1,6 @@
 -- `arcs::name_set` meets its contract. The loop's invariant: the names so far and the set of the arcs from i on are together the
 -- whole set, and those so far are below the names to come. Assumes nothing.
-use mathlib.Core.Path.{_≡_, refl, sym, ap, _∙_}
+use mathlib.Core.Path.{_≡_, sym, ap, _∙_}
 use mathlib.Core.List.{List}
 use Prim.Native.Nat.{ℕ, _+_, _-_, _≤_, _<_, _^_}
 use native.Mathlib.Omega.{arith}

@@ -1,10 +1,9 @@
 -- `arcs::target` meets its contract. The loop's invariant: the arcs from i on decide. Assumes nothing.
-use mathlib.Core.Path.{_≡_, refl, sym, ap, _∙_}
+use mathlib.Core.Path.{_≡_, sym, ap, _∙_}
 use Prim.Native.Nat.{ℕ, _+_, _-_, _≤_}
 use native.Mathlib.Omega.{arith}
 use lib.ListN.{length, getD}
-use Rattle.model.specs.Tables.{arc, stateIn, targetIn}
-use Rattle.tables.specs.Arcs.{targetAt}
+use Rattle.model.specs.Tables.{stateIn, targetIn}
 use Rattle.tables.proofs.ArcLaws.{Left, ArcHere, arcsFrom, arcs-all, left-begins, arc-here, state-some}
 use Rattle.tables.proofs.ArcLaws.{target-found, target-passed, target-goes, target-end}
 use Rattle.tables.proofs.arcs.target.Statement.{statement}
