@@ -25,9 +25,7 @@ returns c =
     joined-none (length (at .args .groups .now)) (at .args .v) (at .args .w) (at .args .groups .now) (at .pre .0) (c .if1 .taken)
 
 relabel-requires : tie.Need-relabel-requires
-relabel-requires c κs =
-    let at = c .before .before .before .before .before .before in
-    label-lowest (length (at .args .groups .now)) (at .args .w) (at .args .groups .now) (at .pre .0) (at .pre .1 .1)
+relabel-requires c κs = search (needs, label-lowest)
 
 same-length : tie.Need-same-length
 same-length c = search needs
@@ -39,9 +37,7 @@ returns-2 c =
     (at .pre .0) (at .pre .1 .0) (at .pre .1 .1) (omega arith) (c .before .before .relabel .ensures)
 
 relabel-requires-2 : tie.Need-relabel-requires-2
-relabel-requires-2 c κs =
-    let at = c .before .before .before .before .before .before in
-    label-lowest (length (at .args .groups .now)) (at .args .v) (at .args .groups .now) (at .pre .0) (at .pre .1 .0)
+relabel-requires-2 c κs = search (needs, label-lowest)
 
 same-length-2 : tie.Need-same-length-2
 same-length-2 c = search needs
