@@ -8,7 +8,7 @@ use crate::sides::Sides;
 use crate::stack;
 use std::time::Duration;
 
-const EFFORT: Effort = Effort { time: Duration::from_millis(40), rounds: 10 };
+const EFFORT: Effort = Effort { time: Duration::from_millis(20), rounds: 10 };
 
 /// All cases are timed so often in turn, so that a busy spell of the machine does not fall on all of one.
 const PASSES: usize = 3;

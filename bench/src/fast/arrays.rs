@@ -48,6 +48,8 @@ impl<T: Copy + Default> containers::Column<T> for Column<T> {
         }
     }
 
+    fn begin(&mut self, _states: usize) {}
+
     fn append(&mut self, state: State, value: T) {
         self[state] = value;
     }
@@ -134,6 +136,8 @@ impl containers::Firsts for Firsts {
             slot += 1;
         }
     }
+
+    fn begin_short(&mut self, _codes: usize) {}
 
     fn first_of_short(&mut self, v: State, code: u64, code_of: impl Fn(State) -> u64) -> State {
         let entry = &mut self.short[code as usize % SHORT_CODES];

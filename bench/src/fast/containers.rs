@@ -15,6 +15,9 @@ pub trait Column<T>: Default + Index<State, Output = T> + IndexMut<State> {
     /// The values of the first states, in ascending order; there are no others.
     fn set(&mut self, values: impl ExactSizeIterator<Item = T>);
 
+    /// There is no state; there will be up to `states`.
+    fn begin(&mut self, states: usize);
+
     /// The value of one state more.
     fn append(&mut self, state: State, value: T);
 
@@ -74,6 +77,9 @@ pub trait Firsts: Default {
     /// The first state asked for since `begin` with this code, `v` itself if it is that.
     fn first(&mut self, v: State, code: u64, code_of: impl Fn(State) -> u64) -> State;
 
-    /// The first state with this code of one or two names. States are asked for in ascending order.
+    /// No state has been asked for; those that will be have codes of one or two names, below `codes`.
+    fn begin_short(&mut self, codes: usize);
+
+    /// The first state asked for since `begin_short` with this code. States are asked for in ascending order, from 1 on.
     fn first_of_short(&mut self, v: State, code: u64, code_of: impl Fn(State) -> u64) -> State;
 }

@@ -27,7 +27,8 @@ impl<C: Containers> Fast<C> {
         other.begin(count, names);
         enlarging.append(0);
         other.append(0);
-        self.values.set([0].into_iter());
+        self.values.begin(count);
+        self.values.append(0, 0);
         for v in 1..count as State {
             let node = self.tree.nodes[v];
             let before = self.values[node.parent];
@@ -44,6 +45,7 @@ impl<C: Containers> Fast<C> {
     fn join_accepting(&mut self) {
         self.partition.take(0..self.tree.count as State);
         self.firsts.begin(self.tree.ends.len());
+        self.pending.reserve(self.tree.count);
         let values = &self.values;
         for &v in &self.tree.ends {
             let first = self.firsts.first(v, values[v], |w| values[w]);

@@ -78,7 +78,7 @@ impl<C: Containers> Fast<C> {
         self.arcs = self.tree.count - 1;
         self.changed.set(repeat_n(false, self.tree.count));
         match front.class {
-            Class::Context(k, h) => self.join_by_context(k, h),
+            Class::Context(k, h) => self.join_by_context(k, h, front.names),
             Class::SeenSet => self.join_by_seen_set(front.names),
             Class::Last(j) => self.join_by_last(j, front.names),
         }

@@ -18,7 +18,7 @@ pub fn write<C: Containers>(fast: &mut Fast<C>, names: &[u8], class: Class, out:
     let out = out.get_mut(..total).ok_or(Refusal::OutputTooShort)?;
     out[..names.len()].copy_from_slice(names);
     out[names.len()..front].copy_from_slice(&class_field(class));
-    write_states(fast, out, front);
+    write_states(fast, states, out, front);
     Ok(Built { number: 0, length: total as u32, states: states as u32, joins: (fast.tree.count - states) as u32 })
 }
 
@@ -40,8 +40,9 @@ fn prepare<C: Containers>(fast: &mut Fast<C>) -> (usize, usize) {
     (states, 4 * states + 3 * fast.arcs)
 }
 
-fn write_states<C: Containers>(fast: &mut Fast<C>, out: &mut [u8], start: usize) {
+fn write_states<C: Containers>(fast: &mut Fast<C>, states: usize, out: &mut [u8], start: usize) {
     fast.met.clear();
+    fast.met.reserve(states);
     fast.met.push(0);
     fast.numbers[0] = 0;
     let (mut at, mut next) = (start, 0);

@@ -12,6 +12,11 @@ pub fn cut(code: u64, length: u8) -> u64 {
     code & ((1 << (NAME_BITS * u32::from(length))) - 1)
 }
 
+/// The codes of `length` of so many names are below this.
+pub fn code_limit(names: usize, length: u8) -> usize {
+    (names + 1) << (NAME_BITS * u32::from(length - 1))
+}
+
 /// The name before the last `length`, if there is one.
 pub fn above(code: u64, length: u8) -> Option<u8> {
     (cut(code >> (NAME_BITS * u32::from(length)), 1) as u8).checked_sub(1)

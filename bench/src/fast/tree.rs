@@ -30,8 +30,12 @@ impl<C: Containers> Tree<C> {
     pub fn read(&mut self, book: &[u8]) -> Result<Front, Refusal> {
         let front = read_front(book)?;
         self.count = 0;
+        let bytes = book.len() - front.end;
         self.ends.clear();
-        self.children.begin(STATES.min(1 + book.len() - front.end), front.names);
+        self.ends.reserve(ROW_LIMIT.min(bytes / 3));
+        let states = STATES.min(1 + bytes);
+        self.nodes.begin(states);
+        self.children.begin(states, front.names);
         self.append(Node::default());
         let mut fits = true;
         let mut at = front.end;

@@ -32,6 +32,7 @@ impl<C: Containers> Table<C> {
         let front = read_front(table)?;
         self.names = front.names;
         self.count = 0;
+        self.places.begin(STATES.min((table.len() - front.end) / 4));
         let mut at = front.end;
         // how many states have been met before each state's arcs, and whether any arc is out of turn
         let mut met = 1;
