@@ -17,7 +17,7 @@ const BARS: [(Bar, &str, f64); 7] = [
     (Bar::Large, "512-state books, memsets", 200.0),
     (Bar::Worst, "worst books found, memsets", 4000.0),
     (Bar::Walk, "walk of 64 names over 512 states, memsets", 12.0),
-    (Bar::Ratio, "library to fast, ratio", 1.2),
+    (Bar::Ratio, "library to maps, ratio", 1.2),
     (Bar::Stack, "stack of a call, KiB", 32.0),
 ];
 

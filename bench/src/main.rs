@@ -1,4 +1,4 @@
-//! What builds and walks cost, against a second implementation that is written for speed, and against bars.
+//! What builds and walks cost, against a second implementation in two variants that is written for speed, and against bars.
 //! With `search SECONDS`: looks for books that cost the library most, and keeps them under bench/books.
 
 mod bars;
@@ -8,10 +8,10 @@ mod clock;
 mod fast;
 mod library;
 mod measure;
-mod pair;
 mod random;
 mod run;
 mod search;
+mod sides;
 mod stack;
 
 use std::env;

@@ -1,4 +1,4 @@
-//! The least times of calls, made in turn.
+//! The least times of calls.
 
 use crate::clock::nanoseconds;
 use crate::library::WORK_BYTES;
@@ -51,19 +51,19 @@ impl Timer {
         Timer { area: vec![0; WORK_BYTES] }
     }
 
-    /// Times rounds in which each call is made once.
-    pub fn time<const N: usize>(&mut self, mut calls: [&mut dyn FnMut(); N], effort: Effort) -> Times<N> {
+    /// Times each call by itself, with this effort: three calls that took turns were seen to take up to 1.7 times as long.
+    pub fn time<const N: usize>(&mut self, calls: [&mut dyn FnMut(); N], effort: Effort) -> Times<N> {
         let mut least = Times::NONE;
-        let begun = Instant::now();
-        let mut rounds = 0;
-        while rounds < effort.rounds || begun.elapsed() < effort.time {
-            for value in 0..MEMSETS {
-                least.memset = least.memset.min(nanoseconds(&mut || set(&mut self.area, value as u8)));
+        for (call, least_of_call) in calls.into_iter().zip(&mut least.calls) {
+            let begun = Instant::now();
+            let mut rounds = 0;
+            while rounds < effort.rounds || begun.elapsed() < effort.time {
+                for value in 0..MEMSETS {
+                    least.memset = least.memset.min(nanoseconds(&mut || set(&mut self.area, value as u8)));
+                }
+                *least_of_call = least_of_call.min(nanoseconds(call));
+                rounds += 1;
             }
-            for (i, call) in calls.iter_mut().enumerate() {
-                least.calls[i] = least.calls[i].min(nanoseconds(call));
-            }
-            rounds += 1;
         }
         least
     }

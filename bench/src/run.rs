@@ -4,11 +4,11 @@ use crate::bars::{Bar, Bars};
 use crate::book::{Book, Class, CLASSES};
 use crate::cases;
 use crate::measure::{Effort, Times};
-use crate::pair::Pair;
+use crate::sides::Sides;
 use crate::stack;
 use std::time::Duration;
 
-const EFFORT: Effort = Effort { time: Duration::from_millis(40), rounds: 10 };
+const EFFORT: Effort = Effort { time: Duration::from_millis(20), rounds: 10 };
 
 /// All cases are timed so often in turn, so that a busy spell of the machine does not fall on all of one.
 const PASSES: usize = 3;
@@ -28,22 +28,22 @@ struct Case {
     bars: Vec<Bar>,
     /// How many states the prefix tree and the table have.
     sizes: Option<[u32; 2]>,
-    times: Times<2>,
+    times: Times<3>,
 }
 
 /// Runs everything; true where every bar is met.
 pub fn run() -> Result<bool, String> {
-    let mut pair = Pair::new();
+    let mut sides = Sides::new();
     let mut bars = Bars::new();
     let mut timed = builds()?;
-    timed.extend(walks(&mut pair)?);
+    timed.extend(walks(&mut sides)?);
     let mut growth = growth();
     for case in timed.iter_mut().chain(&mut growth) {
-        case.compare(&mut pair)?;
+        case.compare(&mut sides)?;
     }
     for _ in 0..PASSES {
         for case in timed.iter_mut().chain(&mut growth) {
-            case.time(&mut pair);
+            case.time(&mut sides);
         }
     }
     show_cases(&timed, &mut bars);
@@ -70,9 +70,9 @@ fn builds() -> Result<Vec<Case>, String> {
     Ok(builds)
 }
 
-fn walks(pair: &mut Pair) -> Result<[Case; 2], String> {
+fn walks(sides: &mut Sides) -> Result<[Case; 2], String> {
     let days = cases::typical();
-    let (_, table) = pair.build(&days.bytes())?;
+    let (_, table) = sides.build(&days.bytes())?;
     Ok([
         Case::walk("walk of 10, typical", table.to_vec(), days.rows[0].clone(), &[]),
         Case::walk("walk of 64, 512 states", cases::chain_table(), vec![0; 64], &[Bar::Walk]),
@@ -97,39 +97,38 @@ impl Case {
         Case { name, class, input, bars: bars.to_vec(), sizes: None, times: Times::NONE }
     }
 
-    /// What the library gives, or an error where the fast implementation gives something else.
-    fn compare(&mut self, pair: &mut Pair) -> Result<(), String> {
+    /// What the library gives, or an error where one of the others gives something else.
+    fn compare(&mut self, sides: &mut Sides) -> Result<(), String> {
         let compared = match &self.input {
-            Input::Book(book) => pair.build(book).map(|(built, _)| Some([built.states + built.joins, built.states])),
-            Input::Walk { table, row } => pair.walk(table, row).map(|_| None),
+            Input::Book(book) => sides.build(book).map(|(built, _)| Some([built.states + built.joins, built.states])),
+            Input::Walk { table, row } => sides.walk(table, row).map(|_| None),
         };
         self.sizes = compared.map_err(|what| format!("{} {}: {what}", self.name, self.class))?;
         Ok(())
     }
 
-    fn time(&mut self, pair: &mut Pair) {
+    fn time(&mut self, sides: &mut Sides) {
         let times = match &self.input {
-            Input::Book(book) => pair.time_builds(book, EFFORT),
-            Input::Walk { table, row } => pair.time_walks(table, row, EFFORT),
+            Input::Book(book) => sides.time_builds(book, EFFORT),
+            Input::Walk { table, row } => sides.time_walks(table, row, EFFORT),
         };
         self.times = self.times.or_less(times);
     }
 }
 
 fn show_cases(timed: &[Case], bars: &mut Bars) {
-    println!(
-        "library, fast: the least time of a call, in memsets of 65,536 bytes; ratio: library to fast; memset: in ns\n"
-    );
-    let head = ["case", "class", "tree", "states", "library", "fast", "ratio", "memset"];
-    let [case, class, tree, states, library, fast, ratio, memset] = head;
-    println!("{case:26}{class:10}{tree:>6}{states:>8}{library:>10}{fast:>9}{ratio:>8}{memset:>8}");
+    println!("library, maps, arrays: the least time of a call, in memsets of 65,536 bytes; memset: in ns");
+    println!("ratio: library to maps, whose memory is made in the call; arrays: memory kept between calls\n");
+    let head = ["case", "class", "tree", "states", "library", "maps", "ratio", "arrays", "memset"];
+    let [case, class, tree, states, library, maps, ratio, arrays, memset] = head;
+    println!("{case:26}{class:10}{tree:>6}{states:>8}{library:>10}{maps:>9}{ratio:>8}{arrays:>9}{memset:>8}");
     for case in timed {
-        let [library, fast] = case.times.in_memsets();
-        let ratio = library / fast;
+        let [library, maps, arrays] = case.times.in_memsets();
+        let ratio = library / maps;
         let [tree, states] =
             case.sizes.map_or([String::new(), String::new()], |sizes| sizes.map(|size| size.to_string()));
         let (name, class, memset) = (case.name, &case.class, case.times.memset());
-        println!("{name:26}{class:10}{tree:>6}{states:>8}{library:10.1}{fast:9.1}{ratio:8.2}{memset:8.0}");
+        println!("{name:26}{class:10}{tree:>6}{states:>8}{library:10.1}{maps:9.1}{ratio:8.2}{arrays:9.1}{memset:8.0}");
         let of = format!("{name} {class}");
         for &bar in &case.bars {
             bars.take(bar, library, &of);

@@ -3,8 +3,8 @@
 use crate::book::{short_names, Book, Class, CLASSES, NAME_LIMIT, ROW_LENGTH, ROW_LIMIT};
 use crate::cases;
 use crate::measure::Effort;
-use crate::pair::Pair;
 use crate::random::Random;
+use crate::sides::Sides;
 use std::fs;
 use std::time::{Duration, Instant, UNIX_EPOCH};
 
@@ -21,18 +21,18 @@ struct Found {
 }
 
 struct Search {
-    pair: Pair,
+    sides: Sides,
     random: Random,
 }
 
 /// Searches for so many seconds, the same time for each class, and keeps what is costlier than the book kept before.
 pub fn run(seconds: u32) -> Result<(), String> {
-    let mut search = Search { pair: Pair::new(), random: Random::new(seed()) };
+    let mut search = Search { sides: Sides::new(), random: Random::new(seed()) };
     for class in CLASSES {
         let end = Instant::now() + Duration::from_secs(1) * seconds / CLASSES.len() as u32;
         let kept = cases::worst_found()?;
         let before = match kept.iter().find(|book| book.class == class) {
-            Some(book) => search.pair.time_library(&book.bytes(), CONFIRM),
+            Some(book) => search.sides.time_library(&book.bytes(), CONFIRM),
             None => 0.0,
         };
         let mut worst = before;
@@ -67,7 +67,7 @@ impl Search {
         let large = cases::large().map(|(_, book)| book);
         for book in kept.iter().chain(&large) {
             let book = book.with_class(class);
-            let cost = self.pair.time_library(&book.bytes(), TRY);
+            let cost = self.sides.time_library(&book.bytes(), TRY);
             if cost > worst.cost {
                 worst = Found { book, cost };
             }
@@ -98,7 +98,7 @@ impl Search {
     /// The costliest book that small changes lead to, until the time is up or nothing costlier comes.
     fn climb(&mut self, start: Book, end: Instant) -> Result<Found, String> {
         let book = self.fitted(start)?;
-        let cost = self.pair.time_library(&book.bytes(), CONFIRM);
+        let cost = self.sides.time_library(&book.bytes(), CONFIRM);
         let mut best = Found { book, cost };
         let mut tries = 0;
         while tries < PATIENCE && Instant::now() < end {
@@ -109,10 +109,10 @@ impl Search {
             }
             let book = self.fitted(book)?;
             let bytes = book.bytes();
-            if self.pair.time_library(&bytes, TRY) <= best.cost {
+            if self.sides.time_library(&bytes, TRY) <= best.cost {
                 continue;
             }
-            let cost = self.pair.time_library(&bytes, CONFIRM);
+            let cost = self.sides.time_library(&bytes, CONFIRM);
             if cost > best.cost {
                 best = Found { book, cost };
                 tries = 0;
@@ -121,9 +121,9 @@ impl Search {
         Ok(best)
     }
 
-    /// The book with rows cut until it is accepted. Stops the search where the two implementations differ.
+    /// The book with rows cut until it is accepted. Stops the search where the implementations differ.
     fn fitted(&mut self, mut book: Book) -> Result<Book, String> {
-        while self.pair.build(&book.bytes())?.0.number != 0 {
+        while self.sides.build(&book.bytes())?.0.number != 0 {
             let at = self.random.below(book.rows.len());
             if book.rows[at].pop().is_none() {
                 book.rows.remove(at);

@@ -1,33 +1,41 @@
 //! Joining by seen sets and by last names: accepting states of equal f first, then forks both along the arcs and against them.
 
-use super::arcs::Arcs;
+use super::containers::{Arcs, Column, Containers, Firsts};
 use super::suffixes::{above, cut};
-use super::{index, Fast, State};
+use super::{Fast, State};
 
-impl Fast {
+impl<C: Containers> Fast<C> {
     /// Last j names: sources of one target have equal f where the name before the target's last j is the same.
-    pub fn join_by_last(&mut self, j: u8) {
-        for v in 0..self.tree.count as State {
-            let code = self.tree.codes[index(v)];
-            self.values[index(v)] = cut(code, j);
-            set_arrival(&mut self.arrivals[0], v, self.tree.parents[index(v)], above(code, j));
+    pub fn join_by_last(&mut self, j: u8, names: usize) {
+        let count = self.tree.count;
+        let [arrivals, _] = &mut self.arrivals;
+        arrivals.begin(count, names);
+        for v in 0..count as State {
+            let node = self.tree.nodes[v];
+            append_arrival(arrivals, v, node.parent, above(node.code, j));
         }
+        self.values.set(self.tree.nodes.values(count).iter().map(|node| cut(node.code, j)));
         self.join_accepting();
         self.settle(1);
     }
 
     /// Seen sets: sources of one target have equal f where the arcs have one name and both or neither enlarge the set.
-    pub fn join_by_seen_set(&mut self) {
-        self.values[0] = 0;
-        self.arrivals[0].keys[0] = 0;
-        self.arrivals[1].keys[0] = 0;
-        for v in 1..self.tree.count as State {
-            let (parent, name) = (self.tree.parents[index(v)], self.tree.names[index(v)]);
-            let before = self.values[index(parent)];
-            let seen = before | 1 << (name % 64);
-            self.values[index(v)] = seen;
-            set_arrival(&mut self.arrivals[0], v, parent, (seen != before).then_some(name));
-            set_arrival(&mut self.arrivals[1], v, parent, (seen == before).then_some(name));
+    pub fn join_by_seen_set(&mut self, names: usize) {
+        let count = self.tree.count;
+        let [enlarging, other] = &mut self.arrivals;
+        enlarging.begin(count, names);
+        other.begin(count, names);
+        enlarging.append(0);
+        other.append(0);
+        self.values.begin(count);
+        self.values.append(0, 0);
+        for v in 1..count as State {
+            let node = self.tree.nodes[v];
+            let before = self.values[node.parent];
+            let seen = before | 1 << (node.name % 64);
+            self.values.append(v, seen);
+            append_arrival(enlarging, v, node.parent, (seen != before).then_some(node.name));
+            append_arrival(other, v, node.parent, (seen == before).then_some(node.name));
         }
         self.join_accepting();
         self.settle(2);
@@ -35,11 +43,12 @@ impl Fast {
 
     /// Has accepting states with equal values of f joined.
     fn join_accepting(&mut self) {
-        self.partition.reset(self.tree.count);
-        self.firsts.forget();
+        self.partition.take(0..self.tree.count as State);
+        self.firsts.begin(self.tree.ends.len());
+        self.pending.reserve(self.tree.count);
         let values = &self.values;
         for &v in &self.tree.ends {
-            let first = self.firsts.first(v, values[index(v)], |w| values[index(w)]);
+            let first = self.firsts.first(v, values[v], |w| values[w]);
             if first != v {
                 self.pending.push((first, v));
             }
@@ -47,9 +56,9 @@ impl Fast {
     }
 }
 
-/// The only arrival at a state of the tree, or none.
-fn set_arrival(arrivals: &mut Arcs, state: State, source: State, key: Option<u8>) {
-    arrivals.keys[index(state)] = 0;
+/// One state more, with its only arrival in the tree or none.
+fn append_arrival(arrivals: &mut impl Arcs, state: State, source: State, key: Option<u8>) {
+    arrivals.append(state);
     if let Some(key) = key {
         arrivals.put(state, usize::from(key), source);
     }

@@ -1,12 +1,15 @@
-//! Build and walk a second time, written for speed: the yardstick for the library. It shares no code with it, keeps its memory
-//! between calls, and does the same job: it refuses in the same order and leaves the lent working area zero.
+//! Build and walk a second time, written for speed: the yardstick for the library. It shares no code with it and does the same
+//! job: it refuses in the same order and leaves the lent working area zero. The algorithms are written once, over containers
+//! of two sets: `arrays` that are kept between calls, and `maps` that every call makes anew.
 
 #![forbid(unsafe_code)]
 
-mod arcs;
+mod arrays;
+mod containers;
 mod contexts;
 mod fields;
 mod functions;
+mod maps;
 mod partition;
 mod quotient;
 mod refusals;
@@ -16,11 +19,13 @@ mod walk;
 
 use crate::book::Class;
 use crate::library::{Built, Walked, INPUT_LIMIT, WORK_BYTES};
-use arcs::Arcs;
+pub use arrays::Arrays;
+use containers::{Arcs, Column, Containers};
 use contexts::Contexts;
+pub use maps::Maps;
 use partition::Partition;
 use refusals::Refusal;
-use suffixes::Firsts;
+use std::iter::repeat_n;
 use tree::Tree;
 use walk::Table;
 
@@ -29,52 +34,30 @@ type State = u16;
 
 const STATES: usize = crate::book::STATE_LIMIT;
 
-/// A state number as an index of an array of STATES entries; the mask spares the check of the bound.
-fn index(state: State) -> usize {
-    usize::from(state) % STATES
-}
-
-/// The memory of both calls.
-pub struct Fast {
-    tree: Tree,
-    partition: Partition,
-    firsts: Firsts,
-    contexts: Contexts,
+/// The working memory of both calls.
+#[derive(Default)]
+pub struct Fast<C: Containers> {
+    tree: Tree<C>,
+    partition: Partition<C>,
+    firsts: C::Firsts,
+    contexts: Contexts<C>,
     /// The values of f.
-    values: [u64; STATES],
+    values: C::Column<u64>,
     /// Arcs against their direction: for each group and key a source.
-    arrivals: [Arcs; 2],
+    arrivals: [C::Arcs; 2],
     /// How many arcs the groups have.
     arcs: usize,
     /// Pairs of states to be joined.
     pending: Vec<(State, State)>,
     /// The groups that joins have enlarged.
-    changed: [bool; STATES],
+    changed: C::Column<bool>,
     met: Vec<State>,
-    numbers: [State; STATES],
-    accepting: [bool; STATES],
-    table: Table,
+    numbers: C::Column<State>,
+    accepting: C::Column<bool>,
+    table: Table<C>,
 }
 
-impl Fast {
-    pub fn new() -> Box<Fast> {
-        Box::new(Fast {
-            tree: Tree::new(),
-            partition: Partition::new(),
-            firsts: Firsts::new(),
-            contexts: Contexts::new(),
-            values: [0; STATES],
-            arrivals: [Arcs::new(), Arcs::new()],
-            arcs: 0,
-            pending: Vec::with_capacity(STATES),
-            changed: [false; STATES],
-            met: Vec::with_capacity(STATES),
-            numbers: [0; STATES],
-            accepting: [false; STATES],
-            table: Table::new(),
-        })
-    }
-
+impl<C: Containers> Fast<C> {
     /// As plans_build.
     pub fn build(&mut self, book: &[u8], work: &mut [u8], out: &mut [u8]) -> Built {
         let built = self.try_build(book, work.len(), out);
@@ -92,19 +75,14 @@ impl Fast {
     fn try_build(&mut self, book: &[u8], work_length: usize, out: &mut [u8]) -> Result<Built, Refusal> {
         check_sizes(book, work_length)?;
         let front = self.tree.read(book)?;
-        self.join(front.class);
-        let names = &book[..front.names_end];
-        quotient::write(self, names, front.class, out)
-    }
-
-    /// Joins by the class's rule until none applies.
-    fn join(&mut self, class: Class) {
         self.arcs = self.tree.count - 1;
-        match class {
-            Class::Context(k, h) => self.join_by_context(k, h),
-            Class::SeenSet => self.join_by_seen_set(),
-            Class::Last(j) => self.join_by_last(j),
+        self.changed.set(repeat_n(false, self.tree.count));
+        match front.class {
+            Class::Context(k, h) => self.join_by_context(k, h, front.names),
+            Class::SeenSet => self.join_by_seen_set(front.names),
+            Class::Last(j) => self.join_by_last(j, front.names),
         }
+        quotient::write(self, &book[..front.names_end], front.class, out)
     }
 
     /// Joins what is pending and what follows from it: the targets of joined groups by each name, and the sources by each key of
@@ -113,7 +91,7 @@ impl Fast {
         let pending = &mut self.pending;
         while let Some((v, w)) = pending.pop() {
             if let Some((stays, gone)) = self.partition.join(v, w) {
-                self.changed[index(stays)] = true;
+                self.changed[stays] = true;
                 self.tree.children.absorb(stays, gone, |a, b| {
                     self.arcs -= 1;
                     pending.push((a, b));

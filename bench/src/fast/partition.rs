@@ -1,35 +1,31 @@
 //! The partition of the states: a forest whose roots, the lowest states of the groups, stand for them.
 
-use super::{index, State, STATES};
+use super::containers::{Column, Containers};
+use super::State;
 
-pub struct Partition {
-    above: [State; STATES],
-    /// Every state is right below its root, or is one.
-    flat: bool,
+#[derive(Default)]
+pub struct Partition<C: Containers> {
+    above: C::Column<State>,
+    /// Some state may be below another that is no root.
+    deep: bool,
 }
 
-impl Partition {
-    pub fn new() -> Partition {
-        Partition { above: [0; STATES], flat: true }
-    }
-
-    /// Every state by itself.
-    pub fn reset(&mut self, count: usize) {
-        self.flat = true;
-        for (state, above) in self.above[..count].iter_mut().enumerate() {
-            *above = state as State;
-        }
+impl<C: Containers> Partition<C> {
+    /// Takes the partition of which each state's group is given, by its lowest state.
+    pub fn take(&mut self, groups: impl ExactSizeIterator<Item = State>) {
+        self.above.set(groups);
+        self.deep = false;
     }
 
     pub fn group(&mut self, state: State) -> State {
         let mut at = state;
         loop {
-            let above = self.above[index(at)];
+            let above = self.above[at];
             if above == at {
                 return at;
             }
-            let next = self.above[index(above)];
-            self.above[index(at)] = next;
+            let next = self.above[above];
+            self.above[at] = next;
             at = next;
         }
     }
@@ -37,27 +33,21 @@ impl Partition {
     /// The group, found without shortening the way.
     pub fn find(&self, state: State) -> State {
         let mut at = state;
-        while self.above[index(at)] != at {
-            at = self.above[index(at)];
+        while self.above[at] != at {
+            at = self.above[at];
         }
         at
     }
 
     /// Puts every state right below its root, or makes it one; what is above a state is lower. Returns the states' groups.
-    pub fn flatten(&mut self, count: usize) -> &[State; STATES] {
-        if !self.flat {
-            for v in 0..count {
-                self.above[v % STATES] = self.above[index(self.above[v % STATES])];
+    pub fn flatten(&mut self, count: usize) -> &C::Column<State> {
+        if self.deep {
+            for v in 0..count as State {
+                self.above[v] = self.above[self.above[v]];
             }
-            self.flat = true;
+            self.deep = false;
         }
         &self.above
-    }
-
-    /// Takes the partition of which each state's group is given, by its lowest state.
-    pub fn take(&mut self, groups: &[State]) {
-        self.flat = true;
-        self.above[..groups.len()].copy_from_slice(groups);
     }
 
     /// Makes the groups of two states one. Where they were two: the one that stays, and the one that is gone.
@@ -67,8 +57,8 @@ impl Partition {
             return None;
         }
         let (stays, gone) = (x.min(y), x.max(y));
-        self.above[index(gone)] = stays;
-        self.flat = false;
+        self.above[gone] = stays;
+        self.deep = true;
         Some((stays, gone))
     }
 }

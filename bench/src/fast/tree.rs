@@ -1,41 +1,42 @@
 //! The prefix tree of a book's rows, read from its bytes.
 
-use super::arcs::Arcs;
+use super::containers::{Arcs, Column, Containers};
 use super::fields::{field_at, read_front, Front, ROW};
 use super::refusals::Refusal;
 use super::suffixes::lengthen;
-use super::{index, State, STATES};
+use super::{State, STATES};
 use crate::book::{ROW_LENGTH, ROW_LIMIT};
 
-pub struct Tree {
+#[derive(Default)]
+pub struct Tree<C: Containers> {
     pub count: usize,
-    pub parents: [State; STATES],
-    pub names: [u8; STATES],
+    pub nodes: C::Column<Node>,
     /// The state where each row ends.
     pub ends: Vec<State>,
-    /// The last names of each state, as `suffixes` has them.
-    pub codes: [u64; STATES],
-    pub children: Arcs,
+    pub children: C::Arcs,
 }
 
-impl Tree {
-    pub fn new() -> Tree {
-        Tree {
-            count: 0,
-            parents: [0; STATES],
-            names: [0; STATES],
-            ends: Vec::with_capacity(ROW_LIMIT),
-            codes: [0; STATES],
-            children: Arcs::new(),
-        }
-    }
+/// How a state of the tree is reached.
+#[derive(Clone, Copy, Default)]
+pub struct Node {
+    /// The last names, as `suffixes` has them.
+    pub code: u64,
+    pub parent: State,
+    pub name: u8,
+}
 
+impl<C: Containers> Tree<C> {
     /// Reads the book, row by row into the tree.
     pub fn read(&mut self, book: &[u8]) -> Result<Front, Refusal> {
         let front = read_front(book)?;
-        self.count = 1;
+        self.count = 0;
+        let bytes = book.len() - front.end;
         self.ends.clear();
-        self.children.keys[0] = 0;
+        self.ends.reserve(ROW_LIMIT.min(bytes / 3));
+        let states = STATES.min(1 + bytes);
+        self.nodes.begin(states);
+        self.children.begin(states, front.names);
+        self.append(Node::default());
         let mut fits = true;
         let mut at = front.end;
         let mut rows = 0;
@@ -52,10 +53,16 @@ impl Tree {
         Ok(front)
     }
 
+    fn append(&mut self, node: Node) {
+        let state = self.count as State;
+        self.nodes.append(state, node);
+        self.children.append(state);
+        self.count += 1;
+    }
+
     /// Adds a row; false where the tree would be too large. A row with a number that is no name's is refused.
     fn add(&mut self, row: &[u8], names: usize) -> Result<bool, Refusal> {
-        let mut count = self.count;
-        let mut state = 0;
+        let mut parent = 0;
         let mut code = 0;
         for (at, &name) in row.iter().enumerate() {
             let key = usize::from(name);
@@ -63,24 +70,17 @@ impl Tree {
                 return Err(Refusal::BadRow);
             }
             code = lengthen(code, name);
-            if self.children.has(state, key) {
-                state = self.children.get(state, key);
-                continue;
+            let next = self.count as State;
+            let child = self.children.get_or_put(parent, key, next);
+            if child == next {
+                if self.count == STATES {
+                    return check_names(&row[at..], names).map(|()| false);
+                }
+                self.append(Node { code, parent, name });
             }
-            if count == STATES {
-                return check_names(&row[at..], names).map(|()| false);
-            }
-            let child = count as State;
-            self.children.put(state, key, child);
-            self.children.keys[index(child)] = 0;
-            self.parents[index(child)] = state;
-            self.names[index(child)] = name;
-            self.codes[index(child)] = code;
-            count += 1;
-            state = child;
+            parent = child;
         }
-        self.count = count;
-        self.ends.push(state);
+        self.ends.push(parent);
         Ok(true)
     }
 }

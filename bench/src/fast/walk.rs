@@ -1,9 +1,10 @@
 //! Tables read and walked.
 
+use super::containers::{Column, Containers};
 use super::fields::{field_at, read_front, STATE};
 use super::refusals::Refusal;
 use super::tree::check_names;
-use super::STATES;
+use super::{State, STATES};
 use crate::book::ROW_LENGTH;
 use crate::library::Walked;
 
@@ -12,28 +13,26 @@ const ON_THE_WAY: u8 = 2;
 const STOPS: u8 = 3;
 
 /// Where the states of a table stand in its bytes.
-pub struct Table {
+#[derive(Default)]
+pub struct Table<C: Containers> {
     names: usize,
     count: usize,
     /// The offset of each state's body and its end.
-    places: [(u16, u16); STATES],
+    places: C::Column<(u16, u16)>,
 }
 
 /// The names and targets of a state's arcs.
-fn arcs(body: &[u8]) -> impl Iterator<Item = (u8, usize)> + '_ {
-    body[1..].chunks_exact(3).map(|arc| (arc[0], usize::from(u16::from_be_bytes([arc[1], arc[2]]))))
+fn arcs(body: &[u8]) -> impl Iterator<Item = (u8, State)> + '_ {
+    body[1..].chunks_exact(3).map(|arc| (arc[0], State::from_be_bytes([arc[1], arc[2]])))
 }
 
-impl Table {
-    pub fn new() -> Table {
-        Table { names: 0, count: 0, places: [(0, 0); STATES] }
-    }
-
+impl<C: Containers> Table<C> {
     /// Reads the table and judges it wholly.
     pub fn read(&mut self, table: &[u8]) -> Result<(), Refusal> {
         let front = read_front(table)?;
         self.names = front.names;
         self.count = 0;
+        self.places.begin(STATES.min((table.len() - front.end) / 4));
         let mut at = front.end;
         // how many states have been met before each state's arcs, and whether any arc is out of turn
         let mut met = 1;
@@ -47,23 +46,23 @@ impl Table {
                 return Err(Refusal::TooMany);
             }
             check_state(body, front.names)?;
-            in_turn &= self.count < met;
+            in_turn &= self.count < usize::from(met);
             for (_, target) in arcs(body) {
                 in_turn &= target <= met;
-                met += usize::from(target == met);
+                met += State::from(target == met);
             }
             let start = at + 3;
             at = start + body.len();
-            self.places[self.count] = (start as u16, at as u16);
+            self.places.append(self.count as State, (start as u16, at as u16));
             self.count += 1;
         }
-        if !in_turn || met != self.count {
+        if !in_turn || usize::from(met) != self.count {
             return Err(Refusal::BadNumbering);
         }
         Ok(())
     }
 
-    fn body<'a>(&self, table: &'a [u8], state: usize) -> &'a [u8] {
+    fn body<'a>(&self, table: &'a [u8], state: State) -> &'a [u8] {
         let (start, end) = self.places[state];
         &table[usize::from(start)..usize::from(end)]
     }
