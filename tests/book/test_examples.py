@@ -9,7 +9,9 @@ from books.fields import prefix_tree, write_book
 from books.texts import read_text
 from reference import listing_of
 
-EXAMPLES = Path(__file__).resolve().parents[2] / "examples"
+ROOT = Path(__file__).resolve().parents[2]
+EXAMPLES = ROOT / "examples"
+PROGRAM = ROOT / "crates" / "worked_days"
 TEXTS = sorted(EXAMPLES.glob("*/*.txt"))
 
 # Document 01's table: states of the prefix tree, states, joins. Q1 and Q2 stand in crates/model/specs/WorkedDays.antt.
@@ -93,6 +95,23 @@ class WorkedDays(unittest.TestCase):
             path = EXAMPLES / "worked_days" / (name + ".txt")
             table = table_of(f"worked_days/{name}")
             self.assertEqual((len(prefix_tree(book_at(path).rows)), len(table.states), table.joins), counts, name)
+
+
+class Program(unittest.TestCase):
+    """The program worked_days reads the books of these texts, and its output is compared with their listings."""
+
+    def test_data_are_the_books_of_the_texts(self):
+        texts = {path.stem: path for folder in ["worked_days", "sources"] for path in (EXAMPLES / folder).glob("*.txt")}
+        books = {path.stem: path for path in (PROGRAM / "data").iterdir()}
+        self.assertEqual(sorted(books), sorted(texts))
+        for name, path in books.items():
+            self.assertEqual(path.read_bytes(), write_book(book_at(texts[name])), name)
+
+    def test_output_has_the_listings(self):
+        output = (PROGRAM / "stdout").read_text()
+        for path in (PROGRAM / "data").iterdir():
+            listing = next(EXAMPLES.glob(f"*/{path.stem}.listing")).read_text()
+            self.assertIn(f"{path.name}\n{listing}", output)
 
 
 class Sources(unittest.TestCase):
