@@ -24,10 +24,17 @@ help:
 	@echo "make bench-search SECONDS=300   looks for books that cost more"
 	@echo "make fmt           puts every .rt and .antt file into the layout"
 
-# Every target that needs a tool asks for it here, so that a newcomer reads what is missing.
-.PHONY: kit python
+# What is proved and compiled, made anew where a source is newer.
+LIBRARY := target/staticlib/libplans.a
+LISTING := target/bin/listing
+SOURCES := crates.txt $(shell find crates -name '*.rt' -o -name '*.antt')
+
+# Every target that needs a tool or a setting asks for it here, so that a newcomer reads what is missing.
+.PHONY: kit python seconds
 kit:
 	@command -v rt >/dev/null || { echo "make: the command 'rt' is missing: it comes with the Rattle kit (rattle-kit-5)"; exit 1; }
+seconds:
+	@[ -n "$(SECONDS)" ] || { echo "make: say for how long, as SECONDS=300"; exit 1; }
 python:
 	@command -v python3 >/dev/null || { echo "make: the command 'python3' is missing: it is in Debian's package python3"; exit 1; }
 
@@ -40,11 +47,18 @@ test: kit
 check: kit
 	@rt check
 
-lib: kit
-	@rt staticlib plans
+lib: $(LIBRARY)
 
-listing: kit
-	@scripts/listing
+$(LIBRARY): $(SOURCES) | kit
+	@echo "make: proving the library; from nothing that takes some minutes" >&2
+	@scripts/quietly rt staticlib plans
+
+listing: $(LISTING)
+
+$(LISTING): $(SOURCES) | kit
+	@echo "make: proving the listing program; from nothing that takes some minutes" >&2
+	@scripts/quietly rt check listing
+	@touch $(LISTING)
 
 example: lib
 	@scripts/example
@@ -73,15 +87,13 @@ test-outside: lib
 test-c: lib
 	@scripts/test-c
 
-fuzz: lib
-	@[ -n "$(SECONDS)" ] || { echo "make fuzz: say SECONDS=600"; exit 1; }
+fuzz: seconds lib
 	@scripts/test-outside --seconds "$(SECONDS)"
 
 bench: lib
 	@scripts/bench
 
-bench-search: lib
-	@[ -n "$(SECONDS)" ] || { echo "make bench-search: say SECONDS=300"; exit 1; }
+bench-search: seconds lib
 	@scripts/bench search "$(SECONDS)"
 
 fmt: kit
