@@ -50,7 +50,9 @@ module _ (accepts classes firsts : List ℕ) (v : ℕ) (so-far : Firsts accepts 
         some = later;
       }
 
-  module _ (class first : ℕ) (accepting : getD accepts v 0 ≡ 1) (class-is : class ≡ getD classes v 0) (first-is : first ≡ getD firsts class 0)
+  module _
+      (class first : ℕ) (accepting : getD accepts v 0 ≡ 1) (class-is : class ≡ getD classes v 0)
+      (first-is : first ≡ getD firsts class 0)
     where
       pub firsts-found : 0 < first → FirstEnd accepts classes v (first - 1) × Firsts accepts classes (v + 1) firsts
       firsts-found some = (

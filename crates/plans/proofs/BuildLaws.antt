@@ -39,7 +39,8 @@ use Rattle.plans.proofs.CallLaws.{SizesBad, sizes-fit, first-refuses, u
 read-short : (s work : List ℕ) → tableFault s work ≡ 0 → length s ≤ input-limit
 unfolding tableFault sizesFault
 read-short s work none =
-    sizes-fit s work (when-none (SizesBad s work) bad-sizes (omega arith) (first-of (when (SizesBad s work) bad-sizes) _ none .0)) .input-fits
+    sizes-fit s work
+    (when-none (SizesBad s work) bad-sizes (omega arith) (first-of (when (SizesBad s work) bad-sizes) _ none .0)) .input-fits
 
 table-short : (s work : List ℕ) → Accepted s → work-bytes ≤ length work → length (bookTable (bookOf s)) ≤ input-limit
 table-short s work ok room =
@@ -109,7 +110,9 @@ module _ (book work out : List ℕ) where
       build-fits fit ∙ first-refuses (bookFault book) (outputFault (bookTable (bookOf book)) out) (omega arith) ∙ refused
 
   -- a book that is read comes to what inference refuses
-  book-read : readFields fields.book book .number ≡ 0 → bookFault book ≡ when (ltb state-limit (length (treeOf (bookOf book .items)))) tree-too-large
+  book-read :
+      readFields fields.book book .number ≡ 0 →
+      bookFault book ≡ when (ltb state-limit (length (treeOf (bookOf book .items)))) tree-too-large
   unfolding bookFault
   book-read e = rw e
 

@@ -85,7 +85,10 @@ left-begins s ok =
   where
     first : (s : List ℕ) → StateOk s → getD s 0 0 < 2
     first [] ok = omega arith
-    first (b ∷ s) ok = unfold stateOk in let p = and-eq-true-iff (leb b 1) (arcsOk (length s) 64 0 s) .0 ok in omega (arith, leb-true b 1 (p .0))
+    first (b ∷ s) ok =
+        unfold stateOk in
+        let p = and-eq-true-iff (leb b 1) (arcsOk (length s) 64 0 s) .0 ok in
+        omega (arith, leb-true b 1 (p .0))
 
 pub arc-here : (s : List ℕ) (next i : ℕ) → StateOk s → i < length s → Left s next i → ArcHere s next i
 arc-here s next i ok h left =

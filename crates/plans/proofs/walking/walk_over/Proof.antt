@@ -51,7 +51,8 @@ returns c =
     let next = c .before .before .next-names in
     let accepting = c .before .accepts in
     ends-over (start .args .table .now) (start .args .work .now) (start .args .row .now) (walked .result) (start .pre .0)
-    (walked .ensures) (found .result) (next .result) (c .outcome-of .result) _ (accepting .result) _ (found .ensures .value) (next .ensures) (accepting .ensures)
+    (walked .ensures) (found .result) (next .result) (c .outcome-of .result) _ (accepting .result) _ (found .ensures .value)
+    (next .ensures) (accepting .ensures)
     (c .outcome-of .ensures) refl refl refl refl refl refl
 
 pub walk-over-spec : {M : Type 1} → statement M
