@@ -1,5 +1,5 @@
--- Laws of one label's comparisons: the states on a chain, which are those listed; one pair joined or not; and the pairs with the
--- states of a chain, from its head down. Assumes nothing.
+-- Laws of one arc's comparisons: the arcs further down its chain, which are those listed before it; one pair joined or not; and
+-- the pairs with the arcs of a chain, one after another. Assumes nothing.
 use mathlib.Core.Path.{_≡_, refl, sym, ap, _∙_, subst}
 use mathlib.Core.Logic.{_⊎_, inl, inr, ⊎-elim}
 use mathlib.Core.Bool.{Bool, true, false, _||_, true≢false, false≢true}
@@ -11,7 +11,8 @@ use Rattle.model.proofs.Tests.{eq-dec}
 use Rattle.indexed.specs.Chains.{Chained}
 use Rattle.indexed.specs.Partitions.{Refines, Labelled, sum}
 use Rattle.partition.specs.Joins.{JoinedTwo}
-use Rattle.contexts.specs.Sweeps.{Common, linkDown, OnChain, Falling, PairJoined, ChainJoined}
+use Rattle.contexts.specs.Climbs.{ParentsJoined}
+use Rattle.contexts.specs.Sweeps.{CommonAfter, linkDown, OnChain, Falling, Paired, PairJoined, ChainJoined}
 
 -- two steps, each of which may join: nothing in neither, or the sum fell
 pub both-none :
@@ -47,7 +48,7 @@ module _ (links : List ℕ) where
       go zero here = inl (omega (arith, here))
       go (suc k) later = inr (k, later)
 
-  on-none : (at y : ℕ) → at ≡ 0 → OnChain links at y → ⊥
+  pub on-none : (at y : ℕ) → at ≡ 0 → OnChain links at y → ⊥
   unfolding linkDown
   on-none at y e on = go (on .0) (subst (λ (a : ℕ). linkDown links (on .0) a ≡ suc y) e (on .1))
     where
@@ -55,33 +56,35 @@ module _ (links : List ℕ) where
       go zero here = omega (arith, here)
       go (suc k) later = omega (arith, later)
 
-  -- the states on the chain of a list are the states of the list
-  module _ {i : ℕ} {Listed : ℕ → ℕ → Type 0} {heads : List ℕ} (chained : Chained i Listed links heads) (b : ℕ) where
+  -- further down than arc v of a list are the arcs of the list that come before v
+  module _ {i : ℕ} {Listed : ℕ → ℕ → Type 0} {heads : List ℕ} (chained : Chained i Listed links heads) (b v : ℕ) (inside : v < i)
+      (listed-v : Listed b v) where
     abbrev From : ℕ → Type 0
-    From at = (at ≤ i) × ((v : ℕ) → at ≡ suc v → Listed b v)
+    From at = (at ≤ v) × ((w : ℕ) → at ≡ suc w → Listed b w)
 
-    from-head : From (getD heads b 0)
-    from-head = (chained .head-low b, chained .head-in b)
+    from-first : From (getD links v 0)
+    from-first = (chained .link-low b v inside listed-v, λ w e. chained .link-in b v w inside listed-v e)
 
-    from-link : (v : ℕ) → From (suc v) → From (getD links v 0)
-    from-link v from =
-        let listed : Listed b v = from .1 v refl in
-        let low : v < i = from .0 in
-        (omega (arith, chained .link-low b v low listed), λ w e. chained .link-in b v w low listed e)
+    from-link : (w : ℕ) → From (suc w) → From (getD links w 0)
+    from-link w from =
+        let listed : Listed b w = from .1 w refl in
+        let low : w < i = omega (arith, from .0) in
+        (omega (arith, chained .link-low b w low listed, from .0), λ u e. chained .link-in b w u low listed e)
 
-    pub on-listed : (y : ℕ) → OnChain links (getD heads b 0) y → (y < i) × Listed b y
+    pub on-listed : (w : ℕ) → OnChain links (getD links v 0) w → (w < v) × Listed b w
     unfolding linkDown
-    on-listed y on = go (on .0) (getD heads b 0) from-head (on .1)
+    on-listed w on = go (on .0) (getD links v 0) from-first (on .1)
       where
-        go : (k at : ℕ) → From at → linkDown links k at ≡ suc y → (y < i) × Listed b y
-        go zero at from e = (omega (arith, from .0, e), from .1 y e)
+        go : (k at : ℕ) → From at → linkDown links k at ≡ suc w → (w < v) × Listed b w
+        go zero at from e = (omega (arith, from .0, e), from .1 w e)
         go (suc k) zero from e = let z : ⊥ = omega (arith, e) in absurd z
-        go (suc k) (suc v) from e = go k (getD links v 0) (from-link v from) e
+        go (suc k) (suc u) from e = go k (getD links u 0) (from-link u from) e
 
-    pub listed-on : (u : ℕ) → u < i → Listed b u → OnChain links (getD heads b 0) u
+    pub listed-on : (u : ℕ) → u < v → Listed b u → OnChain links (getD links v 0) u
     listed-on u low listed =
-        let under : u < getD heads b 0 = not-above (getD heads b 0) (λ above. chained .head-last b u low above listed) in
-        go (getD heads b 0) (getD heads b 0) (omega arith) from-head under
+        let under : u < getD links v 0 =
+        not-above (getD links v 0) (λ above. chained .link-last b v u inside listed-v above low listed) in
+        go (getD links v 0) (getD links v 0) (omega arith) from-first under
       where
         not-above : (at : ℕ) → (at ≤ u → ⊥) → u < at
         not-above at none = omega arith
@@ -89,29 +92,32 @@ module _ (links : List ℕ) where
         go : (fuel at : ℕ) → at ≤ fuel → From at → u < at → OnChain links at u
         go zero at enough from under = let z : ⊥ = omega arith in absurd z
         go (suc fuel) zero enough from under = let z : ⊥ = omega arith in absurd z
-        go (suc fuel) (suc v) enough from under =
-            ⊎-elim (λ e. on-here (suc v) u (ap suc (sym e)))
-            (λ apart. on-later (suc v) v u refl
-            (go fuel (getD links v 0) (omega (arith, chained .link-low b v (from .0) (from .1 v refl))) (from-link v from)
-            (not-above (getD links v 0)
-            (λ above. chained .link-last b v u (from .0) (from .1 v refl) above (omega arith) listed)))) (eq-dec u v)
+        go (suc fuel) (suc w) enough from under =
+            let low-w : w < i = omega (arith, from .0) in
+            let listed-w : Listed b w = from .1 w refl in
+            ⊎-elim (λ e. on-here (suc w) u (ap suc (sym e)))
+            (λ apart. on-later (suc w) w u refl
+            (go fuel (getD links w 0) (omega (arith, chained .link-low b w low-w listed-w)) (from-link w from)
+            (not-above (getD links w 0)
+            (λ above. chained .link-last b w u low-w listed-w above (omega arith) listed)))) (eq-dec u w)
 
-    pub chain-falls : Falling links (getD heads b 0) i
-    chain-falls y on =
-        let at = on-listed y on in
-        (at .0, chained .link-low b y (at .0) (at .1))
+    pub chain-falls : Falling links (getD links v 0) v
+    chain-falls w on =
+        let at = on-listed w on in
+        let low : w < i = omega (arith, at .0) in
+        (at .0, chained .link-low b w low (at .1))
 
 -- ---- one pair
 
-module _ {n m : ℕ} {next work : List ℕ} {x y : ℕ} {groups : List ℕ} where
+module _ {n j : ℕ} {parents old next work : List ℕ} {v w : ℕ} {groups : List ℕ} where
   -- one group already, or no names in common: nothing is joined
   pub pair-left :
-      Labelled n groups → (Common next work m x y → getD groups x 0 ≡ getD groups y 0) →
-      PairJoined n m next work x y groups groups false
+      Labelled n groups → (CommonAfter old next work j v w → ParentsJoined parents groups v w) →
+      PairJoined n j parents old next work v w groups groups false
   pair-left labelled together =
       record {
         labelled = labelled;
-        coarser = λ v w hv hw same. same;
+        coarser = λ u u′ hu hu′ same. same;
         sound = λ others given refines. refines;
         together = together;
         none = λ _. refl;
@@ -119,8 +125,9 @@ module _ {n m : ℕ} {next work : List ℕ} {x y : ℕ} {groups : List ℕ} wher
       }
 
   pub pair-joined :
-      {groups′ : List ℕ} {joined : Bool} → Common next work m x y → JoinedTwo n x y groups groups′ joined →
-      PairJoined n m next work x y groups groups′ joined
+      {groups′ : List ℕ} {joined : Bool} → CommonAfter old next work j v w →
+      JoinedTwo n (getD parents v 0) (getD parents w 0) groups groups′ joined →
+      PairJoined n j parents old next work v w groups groups′ joined
   pair-joined common two =
       record {
         labelled = two .labelled;
@@ -133,77 +140,101 @@ module _ {n m : ℕ} {next work : List ℕ} {x y : ℕ} {groups : List ℕ} wher
 
 -- ---- a chain
 
--- the states of the chain before `at` are joined with x where they are to be
+-- the arcs of the chain before `at` are done: their sources are joined with that of v where they are to be
 pub record Chaining
-    (n m : ℕ) (next work links : List ℕ) (first x : ℕ) (groups : List ℕ) (at : ℕ) (groups′ : List ℕ) (joined : Bool) : Type 0 where
-  pub labelled : Labelled n groups′
-  pub coarser : Refines n groups groups′
-  pub sound :
-      (others : List ℕ) →
-      ((y : ℕ) → OnChain links first y → Common next work m x y → getD others x 0 ≡ getD others y 0) →
-      Refines n groups others → Refines n groups′ others
-  pub to-come : (y : ℕ) → OnChain links at y → OnChain links first y
-  pub together :
-      (y : ℕ) → OnChain links first y → Common next work m x y → OnChain links at y ⊎ (getD groups′ x 0 ≡ getD groups′ y 0)
-  pub none : joined ≡ false → groups′ ≡ groups
-  pub some : joined ≡ true → sum groups′ < sum groups
+    (n j : ℕ) (parents old next links work : List ℕ) (v : ℕ) (groups : List ℕ) (at : ℕ) (groups′ : List ℕ) (joined : Bool) : Type 0
+  where
+    pub labelled : Labelled n groups′
+    pub coarser : Refines n groups groups′
+    pub sound :
+        (others : List ℕ) → ((w : ℕ) → Paired j old next links work v w → ParentsJoined parents others v w) →
+        Refines n groups others → Refines n groups′ others
+    pub to-come : (w : ℕ) → OnChain links at w → OnChain links (getD links v 0) w
+    pub together :
+        (w : ℕ) → Paired j old next links work v w → OnChain links at w ⊎ ParentsJoined parents groups′ v w
+    pub none : joined ≡ false → groups′ ≡ groups
+    pub some : joined ≡ true → sum groups′ < sum groups
 
-module _ {n m : ℕ} {next work links : List ℕ} {first x : ℕ} {groups : List ℕ} where
-  pub chaining-none : Labelled n groups → Chaining n m next work links first x groups first groups false
-  chaining-none labelled =
+module _ {n j : ℕ} {parents old next links work : List ℕ} {v : ℕ} {groups : List ℕ} where
+  pub chaining-none :
+      {at : ℕ} → at ≡ getD links v 0 → Labelled n groups → Chaining n j parents old next links work v groups at groups false
+  chaining-none {at} at-is labelled =
       record {
         labelled = labelled;
-        coarser = λ v w hv hw same. same;
+        coarser = λ u u′ hu hu′ same. same;
         sound = λ others given refines. refines;
-        to-come = λ y on. on;
-        together = λ y on common. inl on;
+        to-come = λ w on. subst (λ (a : ℕ). OnChain links a w) at-is on;
+        together = λ w pair. inl (subst (λ (a : ℕ). OnChain links a w) (sym at-is) (pair .0));
         none = λ _. refl;
         some = λ e. absurd (false≢true e);
       }
 
-  module _ {at y : ℕ} {now-groups : List ℕ} {a : Bool} (falling : Falling links first x) (at-is : at ≡ suc y)
-      (chaining : Chaining n m next work links first x groups at now-groups a) where
-    pub come-to : (y < x) × (getD links y 0 ≤ y)
-    come-to = falling y (chaining .to-come y (on-here links at y at-is))
+  module _ {at w : ℕ} {now-groups : List ℕ} {a : Bool} (falling : Falling links (getD links v 0) v) (at-is : at ≡ suc w)
+      (chaining : Chaining n j parents old next links work v groups at now-groups a) where
+    on-first : OnChain links (getD links v 0) w
+    on-first = chaining .to-come w (on-here links at w at-is)
+
+    pub come-to : (w < v) × (getD links w 0 ≤ w)
+    come-to = falling w on-first
 
     pub chaining-more :
-        {groups′ : List ℕ} {b : Bool} → x < n → PairJoined n m next work x y now-groups groups′ b →
-        Chaining n m next work links first x groups (getD links y 0) groups′ (a || b)
-    chaining-more {groups′} {b} x-below pair =
+        {groups′ : List ℕ} {b : Bool} → ((u : ℕ) → u < n → getD parents u 0 < n) → v < n →
+        PairJoined n j parents old next work v w now-groups groups′ b →
+        Chaining n j parents old next links work v groups (getD links w 0) groups′ (a || b)
+    chaining-more {groups′} {b} source-below inside pair =
         record {
           labelled = pair .labelled;
-          coarser = λ v w hv hw same. pair .coarser v w hv hw (chaining .coarser v w hv hw same);
+          coarser = λ u u′ hu hu′ same. pair .coarser u u′ hu hu′ (chaining .coarser u u′ hu hu′ same);
           sound = λ others given refines.
-              pair .sound others (given y (chaining .to-come y (on-here links at y at-is)))
-              (chaining .sound others given refines);
-          to-come = λ z on. chaining .to-come z (on-later links at y z at-is on);
-          together = λ z on common. ⊎-elim (here z common) (λ same. inr (kept z on same)) (chaining .together z on common);
+              pair .sound others (λ common. given w (on-first, common)) (chaining .sound others given refines);
+          to-come = λ u on. chaining .to-come u (on-later links at w u at-is on);
+          together = λ u paired.
+              ⊎-elim (here u (paired .1)) (λ same. inr (kept u (paired .0) same)) (chaining .together u paired);
           none = both-none a b groups now-groups groups′ (chaining .none) (pair .none);
           some = both-some a b groups now-groups groups′ (chaining .none) (pair .none) (chaining .some) (pair .some);
         }
       where
-        kept : (z : ℕ) → OnChain links first z → getD now-groups x 0 ≡ getD now-groups z 0 → getD groups′ x 0 ≡ getD groups′ z 0
-        kept z on same = pair .coarser x z x-below (omega (arith, falling z on .0)) same
+        kept :
+            (u : ℕ) → OnChain links (getD links v 0) u → ParentsJoined parents now-groups v u → ParentsJoined parents groups′ v u
+        kept u on same =
+            let low : u < n = omega (arith, falling u on .0) in
+            pair .coarser (getD parents v 0) (getD parents u 0) (source-below v inside) (source-below u low) same
 
         here :
-            (z : ℕ) → Common next work m x z → OnChain links at z →
-            OnChain links (getD links y 0) z ⊎ (getD groups′ x 0 ≡ getD groups′ z 0)
-        here z common on =
+            (u : ℕ) → CommonAfter old next work j v u → OnChain links at u →
+            OnChain links (getD links w 0) u ⊎ ParentsJoined parents groups′ v u
+        here u common on =
             ⊎-elim
-            (λ e. inr (pair .together (subst (λ (v : ℕ). Common next work m x v) e common)
-            ∙ ap (λ (v : ℕ). getD groups′ v 0) (sym e)))
-            (λ later. inl later) (on-split links at y z at-is on)
+            (λ e. inr
+            (subst (λ (z : ℕ). ParentsJoined parents groups′ v z) (sym e)
+            (pair .together (subst (λ (z : ℕ). CommonAfter old next work j v z) e common))))
+            (λ later. inl later) (on-split links at w u at-is on)
 
   pub chaining-done :
-      {at : ℕ} {groups′ : List ℕ} {joined : Bool} → at ≡ 0 → Chaining n m next work links first x groups at groups′ joined →
-      ChainJoined n m next work links first x groups groups′ joined
+      {at : ℕ} {groups′ : List ℕ} {joined : Bool} → at ≡ 0 →
+      Chaining n j parents old next links work v groups at groups′ joined →
+      ChainJoined n j parents old next links work v groups groups′ joined
   chaining-done {at} none chaining =
       record {
         labelled = chaining .labelled;
         coarser = chaining .coarser;
         sound = chaining .sound;
-        together = λ y on common.
-            ⊎-elim (λ left. absurd (on-none links at y none left)) (λ same. same) (chaining .together y on common);
+        together = λ w pair.
+            ⊎-elim (λ left. absurd (on-none links at w none left)) (λ same. same) (chaining .together w pair);
         none = chaining .none;
         some = chaining .some;
+      }
+
+  -- the arc has no pair: nothing is joined
+  pub chain-left :
+      Labelled n groups → ((w : ℕ) → Paired j old next links work v w → ⊥) →
+      ChainJoined n j parents old next links work v groups groups false
+  chain-left labelled alone =
+      record {
+        labelled = labelled;
+        coarser = λ u u′ hu hu′ same. same;
+        sound = λ others given refines. refines;
+        together = λ w pair. absurd (alone w pair);
+        none = λ _. refl;
+        some = λ e. absurd (false≢true e);
       }

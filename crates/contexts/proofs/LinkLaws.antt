@@ -1,10 +1,11 @@
--- The arcs out of the groups as sets of names and cells: no arc yet, one more, all; and why names that lead out of two groups by
--- sets and cells are those that lead out of them by arcs: always by arcs too, and where no fork is open the other way round.
--- Assumes nothing.
+-- The arcs out of the groups as sets of names, cells and chains: no arc yet, one more, all; and why names that lead out of two
+-- groups by sets and cells are those that lead out of them by arcs: always by arcs too, and where no fork is open the other way
+-- round. Assumes nothing.
 use mathlib.Core.Path.{_≡_, refl, sym, ap, _∙_, subst, subst₂}
 use mathlib.Core.Logic.{_⊎_, inl, inr, ⊎-elim}
 use mathlib.Core.List.{List}
-use Prim.Native.Nat.{ℕ, zero, suc, _^_, _<_, _≤_}
+use Prim.Native.Nat.{ℕ, zero, suc, _+_, _^_, _<_, _≤_}
+use native.Mathlib.Numerals.{add-one}
 use native.Mathlib.Omega.{arith}
 use lib.Bits.{bitOr, or-lt}
 use lib.ListN.{length, getD, set}
@@ -16,8 +17,9 @@ use Rattle.cells.specs.Cells.{work-bytes, cellAt, withCell}
 use Rattle.cells.proofs.CellLaws.{cell-same, cell-other}
 use Rattle.indexed.specs.Trees.{Arrays}
 use Rattle.indexed.specs.Partitions.{Labelled, ForkClosed, Share}
-use Rattle.indexed.proofs.Bits.{bit, bit-zero, bit-set, bit-of-set}
-use Rattle.contexts.specs.Sweeps.{ArcOf, Linked, Targets, Common}
+use Rattle.indexed.proofs.Chains.{chained-none, chained-skip, chained-push}
+use Rattle.indexed.proofs.Bits.{bit, bit-zero, bit-set, bit-of-set, set-again}
+use Rattle.contexts.specs.Sweeps.{FirstArc, ArcOf, Linked, Listed, ArcsLinked, Targets, Common}
 use Rattle.contexts.proofs.ClimbLaws.{below-suc}
 
 pub linked-none :
@@ -32,12 +34,51 @@ linked-none none =
           absurd z;
     }
 
--- one arc more: its name is put into a set, and the group that it leads to into a cell
+-- one arc more, whose name leads out of its group already
+linked-known :
+    {i : ℕ} {parents names old next work : List ℕ} → Linked i parents names old next work →
+    bit (getD names i 0) (getD next (getD old (getD parents i 0) 0) 0) ≡ 1 → Linked (suc i) parents names old next work
+linked-known {i} {parents} {names} {old} {next} {work} linked known =
+    record { narrow = linked .narrow; leaves = λ v some low. leaves v low some; arc = arc }
+  where
+    leaves : (v : ℕ) → v < suc i → 0 < v → bit (getD names v 0) (getD next (getD old (getD parents v 0) 0) 0) ≡ 1
+    leaves =
+        below-suc (λ (v : ℕ). (0 < v) → bit (getD names v 0) (getD next (getD old (getD parents v 0) 0) 0) ≡ 1) i
+        (λ v low some. linked .leaves v some low) (λ some. known)
+
+    arc : (x a : ℕ) → bit a (getD next x 0) ≡ 1 → ArcOf (suc i) parents names old work x a
+    arc x a set =
+        let was = linked .arc x a set in
+        record {
+          target = was .target;
+          no-root = was .no-root;
+          below = omega (arith, was .below);
+          name-is = was .name-is;
+          from-x = was .from-x;
+          first = was .first;
+          in-cell = was .in-cell;
+        }
+
+-- whether a name is in a set is told by putting it in
+pub name-known : (x a : ℕ) → bitOr x (2 ^ a) ≡ x → bit a x ≡ 1
+name-known x a same = subst (λ (y : ℕ). bit a y ≡ 1) same (bit-set a x a refl)
+
+pub name-new : (x a : ℕ) → (bitOr x (2 ^ a) ≡ x → ⊥) → bit a x ≡ 1 → ⊥
+name-new x a apart known = apart (set-again x a known)
+
+pub first-arc :
+    {i : ℕ} {parents names old next work : List ℕ} → Linked i parents names old next work →
+    (bit (getD names i 0) (getD next (getD old (getD parents i 0) 0) 0) ≡ 1 → ⊥) → FirstArc parents names old i
+first-arc {i} {parents} {names} {old} {next} linked new u some low same-name same-source =
+    new (subst₂ (λ (a x : ℕ). bit a (getD next x 0) ≡ 1) same-name same-source (linked .leaves u some low))
+
+-- one arc more, the first of its name out of its group: its name is put into a set, and the group that it leads to into a cell
 module _ {n i : ℕ} {parents names old next work : List ℕ} (arrays : Arrays n parents names) (pos : 0 < i) (inside : i < n)
     (linked : Linked i parents names old next work) (from name to : ℕ) (from-is : from ≡ getD old (getD parents i 0) 0)
     (name-is : name ≡ getD names i 0) (to-is : to ≡ getD old i 0) (in-next : from < length next) (in-rows : from < state-limit)
     (room : work-bytes ≤ length work) {next′ work′ : List ℕ}
-    (next-is : next′ ≡ set next from (bitOr (getD next from 0) (2 ^ name))) (work-is : work′ ≡ withCell work from name to) where
+    (next-is : next′ ≡ set next from (bitOr (getD next from 0) (2 ^ name))) (work-is : work′ ≡ withCell work from name to)
+    (new : bit (getD names i 0) (getD next (getD old (getD parents i 0) 0) 0) ≡ 1 → ⊥) where
   name-low : name < name-limit
   name-low = omega (arith, arrays .name-below i pos inside)
 
@@ -84,6 +125,7 @@ module _ {n i : ℕ} {parents names old next work : List ℕ} (arrays : Arrays n
         below = omega arith;
         name-is = sym (f ∙ name-is);
         from-x = sym (e ∙ from-is);
+        first = first-arc linked new;
         in-cell =
             subst₂ (λ (y b : ℕ). cellAt work′ y b ≡ getD old i 0) (sym e) (sym f)
             (ap (λ (l : List ℕ). cellAt l from name) work-is ∙ cell-same work from name to in-rows name-low room ∙ to-is);
@@ -102,6 +144,7 @@ module _ {n i : ℕ} {parents names old next work : List ℕ} (arrays : Arrays n
         below = omega (arith, was .below);
         name-is = was .name-is;
         from-x = was .from-x;
+        first = was .first;
         in-cell =
             ap (λ (l : List ℕ). cellAt l x a) work-is
             ∙ cell-other work from name to x a name-low a-low apart
@@ -122,6 +165,80 @@ module _ {n i : ℕ} {parents names old next work : List ℕ} (arrays : Arrays n
   pub linked-more : Linked (suc i) parents names old next′ work′
   linked-more = record { narrow = more-narrow; leaves = λ v some low. more-leaves v low some; arc = more-arc }
 
+-- ---- the chains of the arcs
+
+module _ {parents names classes old : List ℕ} where
+  pub arcs-none :
+      {next links heads work : List ℕ} → ((x : ℕ) → getD next x 0 ≡ 0) → ((v : ℕ) → getD links v 0 ≡ 0) →
+      ((b : ℕ) → getD heads b 0 ≡ 0) → ArcsLinked 1 parents names classes old next links heads work
+  arcs-none {next} {links} {heads} {work} no-names no-links no-heads =
+      record {
+        linked = linked-none no-names;
+        chained =
+            chained-skip 0 (Listed parents names classes old) links heads
+            (λ b listed. let z : ⊥ = omega (arith, listed .no-root) in z)
+            (chained-none (Listed parents names classes old) links heads no-heads);
+        listed = λ v some. let z : ⊥ = omega (arith, no-links v) in absurd z;
+      }
+
+  module _ {i : ℕ} {next links heads work : List ℕ}
+      (so-far : ArcsLinked i parents names classes old next links heads work) where
+    -- arc i has a name that leads out of its group already
+    pub arcs-known :
+        bit (getD names i 0) (getD next (getD old (getD parents i 0) 0) 0) ≡ 1 →
+        ArcsLinked (i + 1) parents names classes old next links heads work
+    arcs-known known =
+        record {
+          linked = rw add-one (linked-known (so-far .linked) known);
+          chained =
+              chained-skip i (Listed parents names classes old) links heads
+              (λ b listed.
+              let arc = so-far .linked .arc (getD old (getD parents i 0) 0) (getD names i 0) known in
+              listed .first (arc .target) (arc .no-root) (arc .below) (arc .name-is) (arc .from-x)) (so-far .chained);
+          listed = so-far .listed;
+        }
+
+    -- arc i is the first of its name out of its group
+    module _ {next′ work′ : List ℕ} (linked : Linked (suc i) parents names old next′ work′) where
+      -- it has no class
+      pub arcs-short : state-limit ≤ getD classes i 0 → ArcsLinked (i + 1) parents names classes old next′ links heads work′
+      arcs-short short =
+          record {
+            linked = rw add-one linked;
+            chained =
+                chained-skip i (Listed parents names classes old) links heads
+                (λ b listed. let z : ⊥ = omega (arith, listed .classed, listed .class-is) in z) (so-far .chained);
+            listed = so-far .listed;
+          }
+
+      -- it is put into the chain of its class
+      pub arcs-listed :
+          (b head : ℕ) → i < length links → b < length heads → head ≡ i + 1 → b ≡ getD classes i 0 → b < state-limit → 0 < i →
+          FirstArc parents names old i →
+          ArcsLinked (i + 1) parents names classes old next′ (set links i (getD heads b 0)) (set heads b head) work′
+      arcs-listed b head in-links in-heads head-is class-is classed some first =
+          record {
+            linked = rw add-one linked;
+            chained =
+                chained-push i (Listed parents names classes old) links heads b head in-links in-heads head-is
+                (subst (λ (c : ℕ). Listed parents names classes old c i) (sym class-is) here)
+                (λ c in-c. sym (in-c .class-is) ∙ sym class-is) (so-far .chained);
+            listed = λ v linked-v. each v linked-v (eq-dec v i);
+          }
+        where
+          here : Listed parents names classes old (getD classes i 0) i
+          here = record { classed = omega arith; class-is = refl; no-root = some; first = first }
+
+          each :
+              (v : ℕ) → 0 < getD (set links i (getD heads b 0)) v 0 → (v ≡ i) ⊎ (v ≡ i → ⊥) →
+              Listed parents names classes old (getD classes v 0) v
+          each v linked-v (inl e) = subst (λ (u : ℕ). Listed parents names classes old (getD classes u 0) u) (sym e) here
+          each v linked-v (inr other) =
+              so-far .listed v
+              (subst (λ (l : ℕ). 0 < l) (getD-set-other links i v (getD heads b 0) 0 other) linked-v)
+
+-- ---- names in common
+
 module _ {n : ℕ} {parents names old next work : List ℕ} (labelled : Labelled n old) (linked : Linked n parents names old next work)
   where
     pub linked-targets : n ≤ length next → length next ≤ state-limit → work-bytes ≤ length work → Targets next work
@@ -136,7 +253,7 @@ module _ {n : ℕ} {parents names old next work : List ℕ} (labelled : Labelled
         }
 
     -- names in common are told by the groups
-    share-groups :
+    pub share-groups :
         (j v w v′ w′ : ℕ) → getD old v 0 ≡ getD old v′ 0 → getD old w 0 ≡ getD old w′ 0 → Share n parents names old j v w →
         Share n parents names old j v′ w′
     share-groups zero v w v′ w′ e f s = tt

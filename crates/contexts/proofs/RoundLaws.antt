@@ -181,14 +181,15 @@ classes-front n h list parents names classes fits by =
 
 -- the rounds start from the climbs
 pub climbs-ready :
-    (n h m k : ℕ) (parents names starts groups : List ℕ) → Arrays n parents names → 0 < h → h + m ≡ k → k ≤ setting-limit →
-    BySuffix n k parents names starts → ClimbedBelow n n m parents starts starts groups →
+    (n h m k : ℕ) (parents names starts groups : List ℕ) → Arrays n parents names → 0 < h → 0 < m → h + m ≡ k →
+    k ≤ setting-limit → BySuffix n k parents names starts → ClimbedBelow n n m parents starts starts groups →
     RoundReady (length groups) h m parents names groups
-climbs-ready n h m k parents names starts groups arrays some-names sum-is limit by climbed =
+climbs-ready n h m k parents names starts groups arrays some-names more-names sum-is limit by climbed =
     subst (λ (l : ℕ). RoundReady l h m parents names groups) (sym (climbed .labelled .size))
     (record {
       arrays = arrays;
       some-names = some-names;
+      more-names = more-names;
       limit = omega arith;
       labelled = climbed .labelled;
       sound = climbs-sound n h m k parents names starts groups arrays some-names sum-is by climbed;

@@ -1,140 +1,70 @@
--- Laws of the sweep: nothing compared yet, one label more, which is compared with its chain or is none to compare; and what all of
--- them are: a sweep as the context rule asks for. Assumes nothing.
+-- Laws of the sweep: nothing compared yet, one arc more, which is compared with its chain; what the comparisons need; and what all
+-- of them are: a sweep as the context rule asks for. Assumes nothing.
 use mathlib.Core.Path.{_≡_, refl, sym, ap, _∙_, subst}
 use mathlib.Core.Logic.{_⊎_, inl, inr}
-use mathlib.Core.Bool.{Bool, true, false, _||_, false≢true}
+use mathlib.Core.Bool.{Bool, false, _||_, false≢true}
 use mathlib.Core.List.{List}
-use Prim.Native.Nat.{ℕ, zero, suc, _+_, _<_, _≤_}
+use Prim.Native.Nat.{ℕ, zero, suc, _+_, _<_}
+use native.Mathlib.Numerals.{add-one}
 use native.Mathlib.Omega.{arith}
-use lib.ListN.{length, getD, set}
-use Rattle.cells.specs.Cells.{work-bytes}
-use Rattle.model.specs.Limits.{state-limit}
+use lib.ListN.{getD}
 use Rattle.model.proofs.Tests.{eq-dec, decided, tells-ltb}
-use Rattle.indexed.specs.Chains.{Chained}
 use Rattle.indexed.specs.Trees.{Arrays, SameSuffix}
 use Rattle.indexed.specs.Partitions.{Refines, Labelled, Share, SuffixAgree, ContextClosed, ForkClosed}
 use Rattle.indexed.specs.Passes.{SuffixClasses, Swept}
-use Rattle.indexed.proofs.Chains.{chained-push, chained-skip}
 use Rattle.indexed.proofs.Suffixes.{parent-below, suffix-refl, suffix-sym, suffix-trans}
-use Rattle.contexts.specs.Sweeps.{Linked, Common, Comparing, Listed, Paired, ChainJoined, PairsJoined, LabelSwept, SweptBy}
+use Rattle.contexts.specs.Climbs.{ParentsJoined}
+use Rattle.contexts.specs.Sweeps.{ArcOf, Listed, ArcsLinked, Sizes, CommonAfter, OnChain, Falling, Comparing}
+use Rattle.contexts.specs.Sweeps.{Paired, ChainJoined, PairsJoined, SweptBy}
 use Rattle.contexts.proofs.ClimbLaws.{below-suc}
-use Rattle.contexts.proofs.CommonLaws.{common-sym, common-first}
-use Rattle.contexts.proofs.LinkLaws.{linked-targets, common-share, share-common}
-use Rattle.contexts.proofs.ChainLaws.{both-none, both-some, on-listed, listed-on}
+use Rattle.contexts.proofs.CommonLaws.{common-sym}
+use Rattle.contexts.proofs.LinkLaws.{linked-targets, share-groups, common-share, share-common}
+use Rattle.contexts.proofs.ChainLaws.{both-none, both-some, on-none, on-listed, listed-on, chain-falls}
 
-or-false : (a : Bool) → (a || false) ≡ a
-or-false true = refl
-or-false false = refl
-
--- a state is in the list of its class, where it is in any
-list-is :
-    {m b u : ℕ} {classes old next work : List ℕ} → Listed m classes old next work b u →
-    Listed m classes old next work (getD classes u 0) u
-list-is {m} {b} {u} {classes} {old} {next} {work} listed =
-    subst (λ (c : ℕ). Listed m classes old next work c u) (sym (listed .class-is)) listed
-
-module _ {n m : ℕ} {classes old next work : List ℕ} where
-  pub pairs-none : {groups : List ℕ} → Labelled n groups → PairsJoined n 0 m classes old next work groups groups false
+module _ {n j : ℕ} {parents old next links work : List ℕ} where
+  pub pairs-none :
+      {groups : List ℕ} → Labelled n groups → PairsJoined n 0 j parents old next links work groups groups false
   pairs-none labelled =
       record {
         labelled = labelled;
         coarser = λ v w hv hw same. same;
         sound = λ others given refines. refines;
-        complete = λ u v low. let z : ⊥ = omega arith in absurd z;
+        complete = λ v w low. let z : ⊥ = omega arith in absurd z;
         none = λ _. refl;
         some = λ e. absurd (false≢true e);
       }
 
-  module _ {x : ℕ} {links heads groups : List ℕ} (inside : x < n)
-      (chained : Chained x (Listed m classes old next work) links heads) where
-    -- x is none to compare
-    pub label-left :
-        Labelled n groups → (Listed m classes old next work (getD classes x 0) x → ⊥) →
-        LabelSwept n x m classes old next work groups links heads groups false
-    label-left labelled unlisted =
-        record {
-          chained =
-              chained-skip x (Listed m classes old next work) links heads (λ b listed. unlisted (list-is listed)) chained;
-          labelled = labelled;
-          more = λ base before so-far.
-              subst (λ (b : Bool). PairsJoined n (x + 1) m classes old next work base groups b) (sym (or-false before))
-              (record {
-                labelled = so-far .labelled;
-                coarser = so-far .coarser;
-                sound = so-far .sound;
-                complete = λ u v low. complete base before so-far u (omega arith) v;
-                none = so-far .none;
-                some = so-far .some;
-              });
-        }
-      where
-        complete :
-            (base : List ℕ) (before : Bool) → PairsJoined n x m classes old next work base groups before →
-            (u : ℕ) → u < suc x → (v : ℕ) → v < u → Paired m classes old next work u v → getD groups u 0 ≡ getD groups v 0
-        complete base before so-far =
-            below-suc
-            (λ (u : ℕ). (v : ℕ) → v < u → Paired m classes old next work u v → getD groups u 0 ≡ getD groups v 0) x
-            (λ u low v. so-far .complete u v low) (λ v low pair. absurd (unlisted (pair .first)))
+  -- arc i is compared with its chain
+  pub pairs-more :
+      {i : ℕ} {base groups groups′ : List ℕ} {before joined : Bool} → Comparing n parents old next links work → i < n →
+      PairsJoined n i j parents old next links work base groups before →
+      ChainJoined n j parents old next links work i groups groups′ joined →
+      PairsJoined n (i + 1) j parents old next links work base groups′ (before || joined)
+  pairs-more {i} {base} {groups} {groups′} {before} {joined} comparing inside so-far chain =
+      record {
+        labelled = chain .labelled;
+        coarser = λ v w hv hw same. chain .coarser v w hv hw (so-far .coarser v w hv hw same);
+        sound = λ others given refines.
+            chain .sound others (λ w pair. given i w inside pair) (so-far .sound others given refines);
+        complete = λ v w low pair. complete v (omega arith) w pair;
+        none = both-none before joined base groups groups′ (so-far .none) (chain .none);
+        some = both-some before joined base groups groups′ (so-far .none) (chain .none) (so-far .some) (chain .some);
+      }
+    where
+      source-below : (v : ℕ) → v < n → getD parents v 0 < n
+      source-below v low = comparing .arcs v low .source-below
 
-    -- x is compared with its chain and put there
-    module _ {b head : ℕ} {groups′ : List ℕ} {joined : Bool} (in-links : x < length links) (in-heads : b < length heads)
-        (head-is : head ≡ x + 1) (class-is : b ≡ getD classes x 0)
-        (listed : Listed m classes old next work (getD classes x 0) x)
-        (chain : ChainJoined n m next work links (getD heads b 0) x groups groups′ joined) where
-      in-b : Listed m classes old next work b x
-      in-b = subst (λ (c : ℕ). Listed m classes old next work c x) (sym class-is) listed
+      kept : (v : ℕ) → v < i → (w : ℕ) → Paired j old next links work v w → ParentsJoined parents groups′ v w
+      kept v low w pair =
+          let in-v : v < n = omega arith in
+          let in-w : w < n = omega (arith, comparing .falling v in-v w (pair .0) .0) in
+          chain .coarser (getD parents v 0) (getD parents w 0) (source-below v in-v) (source-below w in-w)
+          (so-far .complete v w low pair)
 
-      -- the states of the chain that m names lead out of as out of x are its pairs
-      chain-pair : (y : ℕ) → y < x → Listed m classes old next work b y → Common next work m x y → Paired m classes old next work x y
-      chain-pair y low in-list common =
-          record {
-            first = listed;
-            second = subst (λ (c : ℕ). Listed m classes old next work c y) class-is in-list;
-            common = common;
-          }
-
-      pair-chain : (v : ℕ) → v < x → Paired m classes old next work x v → getD groups′ x 0 ≡ getD groups′ v 0
-      pair-chain v low pair =
-          chain .together v
-          (listed-on links chained b v low
-          (subst (λ (c : ℕ). Listed m classes old next work c v) (sym class-is) (pair .second))) (pair .common)
-
-      more :
-          (base : List ℕ) (before : Bool) → PairsJoined n x m classes old next work base groups before →
-          PairsJoined n (x + 1) m classes old next work base groups′ (before || joined)
-      more base before so-far =
-          record {
-            labelled = chain .labelled;
-            coarser = λ v w hv hw same. chain .coarser v w hv hw (so-far .coarser v w hv hw same);
-            sound = λ others given refines.
-                chain .sound others
-                (λ y on common.
-                let at = on-listed links chained b y on in
-                given x y inside (at .0) (chain-pair y (at .0) (at .1) common))
-                (so-far .sound others given refines);
-            complete = λ u v low under pair. complete u (omega arith) v under pair;
-            none = both-none before joined base groups groups′ (so-far .none) (chain .none);
-            some = both-some before joined base groups groups′ (so-far .none) (chain .none) (so-far .some) (chain .some);
-          }
-        where
-          complete :
-              (u : ℕ) → u < suc x → (v : ℕ) → v < u → Paired m classes old next work u v → getD groups′ u 0 ≡ getD groups′ v 0
-          complete =
-              below-suc
-              (λ (u : ℕ). (v : ℕ) → v < u → Paired m classes old next work u v → getD groups′ u 0 ≡ getD groups′ v 0) x
-              (λ u low v under pair. chain .coarser u v (omega arith) (omega arith) (so-far .complete u v low under pair))
-              pair-chain
-
-      pub label-joined :
-          LabelSwept n x m classes old next work groups (set links x (getD heads b 0)) (set heads b head) groups′ joined
-      label-joined =
-          record {
-            chained =
-                chained-push x (Listed m classes old next work) links heads b head in-links in-heads head-is in-b
-                (λ c in-c. sym (in-c .class-is) ∙ sym class-is) chained;
-            labelled = chain .labelled;
-            more = more;
-          }
+      complete : (v : ℕ) → v < suc i → (w : ℕ) → Paired j old next links work v w → ParentsJoined parents groups′ v w
+      complete =
+          below-suc (λ (v : ℕ). (w : ℕ) → Paired j old next links work v w → ParentsJoined parents groups′ v w) i kept
+          (chain .together)
 
 -- names in common under a partition are in common under a coarser one
 share-refines :
@@ -158,141 +88,157 @@ share-refines n parents names groups others arrays refines (suc j) v w hv hw s =
       share-refines n parents names groups others arrays refines j x y (s .4) (s .5) (s .9),
     )
 
--- all pairs of labels joined are a sweep, whatever number of last names the classes go by
-module _ {n m : ℕ} {parents names classes groups next work groups′ : List ℕ} {joined : Bool} (arrays : Arrays n parents names)
-    (labelled : Labelled n groups) (linked : Linked n parents names groups next work)
-    (all : PairsJoined n n m classes groups next work groups groups′ joined) where
-  module _ (h : ℕ) (by : SuffixClasses n h parents names classes) (agree : SuffixAgree n h parents names groups) where
-    -- what is joined has the same last h names, and m names in common after them
-    pair-closed :
-        (others : List ℕ) → ContextClosed n h m parents names others → Refines n groups others → (u v : ℕ) → u < n → v < u →
-        Paired m classes groups next work u v → getD others u 0 ≡ getD others v 0
-    pair-closed others context refines u v hu under pair =
-        let hv : v < n = omega arith in
-        let first = pair .first in
-        let second = pair .second in
-        context u v hu hv (by .alike u v hu hv .0 (first .classed, sym (second .class-is)))
-        (share-refines n parents names groups others arrays refines m u v hu hv
-        (common-share labelled linked m u v (first .label) (second .label) (pair .common)))
+-- all pairs of arcs joined are a sweep, whatever number of last names the classes go by
+module _ {n : ℕ} {parents names classes groups next links heads work : List ℕ} (arrays : Arrays n parents names)
+    (labelled : Labelled n groups) (arcs : ArcsLinked n parents names classes groups next links heads work) where
+  -- an arc with others further down its chain is listed
+  paired-listed :
+      (v w : ℕ) → OnChain links (getD links v 0) w → Listed parents names classes groups (getD classes v 0) v
+  paired-listed v w on = go (eq-dec (getD links v 0) 0)
+    where
+      go :
+          (getD links v 0 ≡ 0) ⊎ (getD links v 0 ≡ 0 → ⊥) → Listed parents names classes groups (getD classes v 0) v
+      go (inl none) = absurd (on-none links (getD links v 0) w none on)
+      go (inr some) = arcs .listed v (omega arith)
 
-    label : ℕ → ℕ
-    label v = getD groups v 0
+  arcs-fall : (v : ℕ) → v < n → Falling links (getD links v 0) v
+  arcs-fall v inside w on = chain-falls links (arcs .chained) (getD classes v 0) v inside (paired-listed v w on) w on
 
-    label-below : (v : ℕ) → v < n → label v < n
-    unfolding label
-    label-below v hv = omega (arith, labelled .low v hv)
+  pub arcs-comparing : Sizes n classes next links heads work → Comparing n parents groups next links work
+  arcs-comparing sizes =
+      record {
+        few = arrays .few-states;
+        old-size = labelled .size;
+        links-size = omega (arith, arrays .few-states, sizes .links-size);
+        targets =
+            linked-targets labelled (arcs .linked) (omega (arith, arrays .few-states, sizes .next-size))
+            (omega (arith, sizes .next-size)) (sizes .room);
+        arcs = λ v inside.
+            record {
+              few = arrays .few-states;
+              inside = inside;
+              in-parents = omega (arith, arrays .parents-size);
+              in-old = omega (arith, labelled .size);
+              source-below = parent-below n parents names arrays v inside;
+              group-below = omega (arith, labelled .low v inside, arrays .few-states, sizes .next-size);
+            };
+        falling = arcs-fall;
+      }
 
-    -- a label has the last h names of the members of its group that have so many
-    like : (v w : ℕ) → v < n → SameSuffix parents names h v w → SameSuffix parents names h (label v) v
-    unfolding label
-    like v w hv s = go (agree (getD groups v 0) v (label-below v hv) hv (labelled .own v hv))
-      where
-        go : (getD groups v 0 ≡ v) ⊎ SameSuffix parents names h (getD groups v 0) v → SameSuffix parents names h (getD groups v 0) v
-        go (inl e) = subst (λ (x : ℕ). SameSuffix parents names h x v) (sym e) (suffix-refl n parents names arrays h v w s)
-        go (inr t) = t
+  module _ {j : ℕ} {groups′ : List ℕ} {joined : Bool}
+      (all : PairsJoined n n j parents groups next links work groups groups′ joined) where
+    module _ (h : ℕ) (by : SuffixClasses n (suc h) parents names classes) (agree : SuffixAgree n h parents names groups) where
+      -- what is joined has the same last h names, and the arcs' name and j more in common after them
+      pair-closed :
+          (others : List ℕ) → ContextClosed n h (suc j) parents names others → Refines n groups others → (v w : ℕ) → v < n →
+          Paired j groups next links work v w → ParentsJoined parents others v w
+      pair-closed others context refines v w hv pair =
+          let first = paired-listed v w (pair .0) in
+          let found = on-listed links (arcs .chained) (getD classes v 0) v hv first w (pair .0) in
+          let second = found .1 in
+          let hw : w < n = omega (arith, found .0) in
+          let suffix : SameSuffix parents names (suc h) v w = by .alike v w hv hw .0 (first .classed, sym (second .class-is)) in
+          let own-v = labelled .own v hv in
+          let own-w = labelled .own w hw in
+          let after : Share n parents names groups j v w =
+          share-groups labelled (arcs .linked) j (getD groups v 0) (getD groups w 0) v w own-v own-w
+          (common-share labelled (arcs .linked) j (getD groups v 0) (getD groups w 0) own-v own-w (pair .1)) in
+          let pv = parent-below n parents names arrays v hv in
+          let pw = parent-below n parents names arrays w hw in
+          context (getD parents v 0) (getD parents w 0) pv pw (suffix .3)
+          (share-refines n parents names groups others arrays refines (suc j) (getD parents v 0) (getD parents w 0) pv pw
+          (v, w, first .no-root, second .no-root, hv, hw, suffix .2, refl, refl, after))
 
-    module _ (fork : ForkClosed n parents names groups) where
-      -- the labels of two states that the rule joins are a pair
-      labels-pair :
-          (v w : ℕ) → v < n → w < n → SameSuffix parents names h v w → Share n parents names groups m v w →
-          Paired m classes groups next work (label v) (label w)
-      unfolding label
-      labels-pair v w hv hw s shared =
-          let x = getD groups v 0 in
-          let y = getD groups w 0 in
-          let back = suffix-sym n parents names arrays h v w s in
-          let alike : SameSuffix parents names h x y =
-          suffix-trans n parents names arrays h x v y (like v w hv s)
-          (suffix-trans n parents names arrays h v w y s (suffix-sym n parents names arrays h y w (like w v hw back))) in
-          let class = by .alike x y (label-below v hv) (label-below w hw) .1 alike in
-          let common : Common next work m x y = share-common labelled linked fork m v w shared in
+      -- members of a group have the last h names of one that has so many
+      like :
+          (u v w : ℕ) → u < n → v < n → getD groups u 0 ≡ getD groups v 0 → SameSuffix parents names h v w →
+          SameSuffix parents names h u v
+      like u v w hu hv same s = go (agree u v hu hv same)
+        where
+          go : (u ≡ v) ⊎ SameSuffix parents names h u v → SameSuffix parents names h u v
+          go (inl e) = subst (λ (x : ℕ). SameSuffix parents names h x v) (sym e) (suffix-refl n parents names arrays h v w s)
+          go (inr t) = t
+
+      -- the first arc of the group and the name of arc x
+      first-of : (x : ℕ) → 0 < x → x < n → ArcOf n parents names groups work (getD groups (getD parents x 0) 0) (getD names x 0)
+      first-of x some low =
+          arcs .linked .arc (getD groups (getD parents x 0) 0) (getD names x 0) (arcs .linked .leaves x some low)
+
+      -- arcs that the sweep compared, whichever comes first, or one arc
+      one-source :
+          (p q : ℕ) → p < n → q < n → Listed parents names classes groups (getD classes p 0) p →
+          Listed parents names classes groups (getD classes p 0) q → CommonAfter groups next work j p q →
+          ParentsJoined parents groups′ p q
+      one-source p q hp hq in-p in-q common = go (eq-dec p q) (decided (tells-ltb p q))
+        where
+          go : (p ≡ q) ⊎ (p ≡ q → ⊥) → (p < q) ⊎ (p < q → ⊥) → ParentsJoined parents groups′ p q
+          go (inl e) order = ap (λ (x : ℕ). getD groups′ (getD parents x 0) 0) e
+          go (inr apart) (inl before) =
+              sym
+              (all .complete q p hq (
+                listed-on links (arcs .chained) (getD classes p 0) q hq in-q p before in-p,
+                common-sym next work j (getD groups p 0) (getD groups q 0) common,
+              ))
+          go (inr apart) (inr after) =
+              all .complete p q hp (listed-on links (arcs .chained) (getD classes p 0) p hp in-p q (omega arith) in-q, common)
+
+      module _ (fork : ForkClosed n parents names groups) where
+        -- the first arcs by which two states that the rule joins share their names have one source afterwards
+        sources-one :
+            (v w : ℕ) → v < n → w < n → SameSuffix parents names h v w → (s : Share n parents names groups (suc j) v w) →
+            ParentsJoined parents groups′ (first-of (s .0) (s .2) (s .4) .target) (first-of (s .1) (s .3) (s .5) .target)
+        sources-one v w hv hw s shared =
+            let x = shared .0 in
+            let y = shared .1 in
+            let at-x = first-of x (shared .2) (shared .4) in
+            let at-y = first-of y (shared .3) (shared .5) in
+            let p = at-x .target in
+            let q = at-y .target in
+            let pp = parent-below n parents names arrays p (at-x .below) in
+            let pq = parent-below n parents names arrays q (at-y .below) in
+            let back = suffix-sym n parents names arrays h v w s in
+            let like-p = like (getD parents p 0) v w pp hv (at-x .from-x ∙ shared .7) s in
+            let like-q = like (getD parents q 0) w v pq hw (at-y .from-x ∙ shared .8) back in
+            let sources : SameSuffix parents names h (getD parents p 0) (getD parents q 0) =
+            suffix-trans n parents names arrays h (getD parents p 0) v (getD parents q 0) like-p
+            (suffix-trans n parents names arrays h v w (getD parents q 0) s
+            (suffix-sym n parents names arrays h (getD parents q 0) w like-q)) in
+            let one-name : getD names p 0 ≡ getD names q 0 = at-x .name-is ∙ shared .6 ∙ sym (at-y .name-is) in
+            let class = by .alike p q (at-x .below) (at-y .below) .1 (at-x .no-root, at-y .no-root, one-name, sources) in
+            let to-p : getD groups x 0 ≡ getD groups p 0 =
+            fork x p (shared .2) (at-x .no-root) (shared .4) (at-x .below) (sym (at-x .name-is)) (sym (at-x .from-x)) in
+            let to-q : getD groups y 0 ≡ getD groups q 0 =
+            fork y q (shared .3) (at-y .no-root) (shared .5) (at-y .below) (sym (at-y .name-is)) (sym (at-y .from-x)) in
+            let after : Share n parents names groups j p q =
+            share-groups labelled (arcs .linked) j x y p q to-p to-q (shared .9) in
+            one-source p q (at-x .below) (at-y .below)
+            (record { classed = class .0; class-is = refl; no-root = at-x .no-root; first = at-x .first })
+            (record { classed = class .0; class-is = sym (class .1); no-root = at-y .no-root; first = at-y .first })
+            (share-common labelled (arcs .linked) fork j p q after)
+
+        closed : joined ≡ false → ContextClosed n h (suc j) parents names groups
+        closed none v w hv hw s shared =
+            let at-x = first-of (shared .0) (shared .2) (shared .4) in
+            let at-y = first-of (shared .1) (shared .3) (shared .5) in
+            let one : ParentsJoined parents groups (at-x .target) (at-y .target) =
+            subst (λ (l : List ℕ). ParentsJoined parents l (at-x .target) (at-y .target)) (all .none none)
+            (sources-one v w hv hw s shared) in
+            sym (at-x .from-x ∙ shared .7) ∙ one ∙ at-y .from-x ∙ shared .8
+
+      all-swept : Swept n h (suc j) parents names groups groups′ joined
+      all-swept =
           record {
-            first =
-                record {
-                  classed = class .0;
-                  class-is = refl;
-                  label = labelled .own v hv;
-                  leads = common-first next work m x y common;
-                };
-            second =
-                record {
-                  classed = class .0;
-                  class-is = sym (class .1);
-                  label = labelled .own w hw;
-                  leads = common-first next work m y x (common-sym next work m x y common);
-                };
-            common = common;
+            labelled = all .labelled;
+            coarser = all .coarser;
+            sound = λ others context refines. all .sound others (pair-closed others context refines) refines;
+            none = λ none fork. (all .none none, closed fork none);
+            some = all .some;
           }
 
-      -- so the sweep made them one, whichever comes first
-      labels-one :
-          (v w : ℕ) → v < n → w < n → Paired m classes groups next work (label v) (label w) →
-          Paired m classes groups next work (label w) (label v) → getD groups′ (label v) 0 ≡ getD groups′ (label w) 0
-      labels-one v w hv hw pair back = go (eq-dec (label v) (label w)) (decided (tells-ltb (label v) (label w)))
-        where
-          go :
-              (label v ≡ label w) ⊎ (label v ≡ label w → ⊥) → (label v < label w) ⊎ (label v < label w → ⊥) →
-              getD groups′ (label v) 0 ≡ getD groups′ (label w) 0
-          go (inl e) order = ap (λ (x : ℕ). getD groups′ x 0) e
-          go (inr apart) (inl before) = sym (all .complete (label w) (label v) (label-below w hw) before back)
-          go (inr apart) (inr after) = all .complete (label v) (label w) (label-below v hv) (omega arith) pair
-
-      closed : joined ≡ false → ContextClosed n h m parents names groups
-      unfolding label
-      closed none v w hv hw s shared =
-          let x = getD groups v 0 in
-          let y = getD groups w 0 in
-          let back : SameSuffix parents names h w v = suffix-sym n parents names arrays h v w s in
-          let one : getD groups′ x 0 ≡ getD groups′ y 0 =
-          labels-one v w hv hw (labels-pair v w hv hw s shared)
-          (labels-pair w v hw hv back (share-sym m v w shared)) in
-          sym (labelled .own v hv)
-          ∙ subst (λ (l : List ℕ). getD l x 0 ≡ getD l y 0) (all .none none) one
-          ∙ labelled .own w hw
-        where
-          share-sym : (j v w : ℕ) → Share n parents names groups j v w → Share n parents names groups j w v
-          share-sym zero v w s = tt
-          share-sym (suc j) v w s =
-              (s .1, s .0, s .3, s .2, s .5, s .4, sym (s .6), s .8, s .7, share-sym j (s .0) (s .1) (s .9))
-
-    all-swept : Swept n h m parents names groups groups′ joined
-    all-swept =
+    pub pairs-sweep : {m : ℕ} → suc j ≡ m → SweptBy n m parents names classes groups groups′ joined
+    pairs-sweep {m} m-is =
         record {
-          labelled = all .labelled;
-          coarser = all .coarser;
-          sound = λ others context refines. all .sound others (pair-closed others context refines) refines;
-          none = λ none fork. (all .none none, closed fork none);
-          some = all .some;
+          swept = λ h by agree.
+              subst (λ (i : ℕ). Swept n h i parents names groups groups′ joined) m-is
+              (all-swept h (subst (λ (i : ℕ). SuffixClasses n i parents names classes) (add-one h) by) agree);
         }
-
-  pairs-sweep : SweptBy n m parents names classes groups groups′ joined
-  pairs-sweep = record { swept = all-swept }
-
--- the same, with the groups at first written into another list and read again
-module _ {parents names groups old next work : List ℕ} (arrays : Arrays (length groups) parents names)
-    (labelled : Labelled (length groups) groups) (same : old ≡ groups) (linked : Linked (length old) parents names old next work)
-  where
-    linked-here : Linked (length groups) parents names groups next work
-    linked-here = subst (λ (l : List ℕ). Linked (length l) parents names l next work) same linked
-
-    pub sweep-comparing :
-        {classes : List ℕ} → length classes ≡ length groups → length next ≡ state-limit → work-bytes ≤ length work →
-        Comparing (length old) classes next work
-    sweep-comparing {classes} classes-size next-size room =
-        subst (λ (l : List ℕ). Comparing (length l) classes next work) (sym same)
-        (record {
-          few = arrays .few-states;
-          classes-size = classes-size;
-          next-size = omega (arith, arrays .few-states);
-          targets =
-              linked-targets labelled linked-here (omega (arith, arrays .few-states))
-              (omega arith) room;
-        })
-
-    pub sweep-swept :
-        {m : ℕ} {classes groups′ : List ℕ} {joined : Bool} →
-        PairsJoined (length old) (length old) m classes old next work groups groups′ joined →
-        SweptBy (length groups) m parents names classes groups groups′ joined
-    sweep-swept {m} {classes} {groups′} {joined} all =
-        pairs-sweep arrays labelled linked-here
-        (subst (λ (l : List ℕ). PairsJoined (length l) (length l) m classes l next work groups groups′ joined) same all)

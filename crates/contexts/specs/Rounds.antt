@@ -22,6 +22,7 @@ pub record ForksJoined (n : ℕ) (parents names groups groups′ : List ℕ) : T
 pub record RoundReady (n h m : ℕ) (parents names groups : List ℕ) : Type 0 where
   pub arrays : Arrays n parents names
   pub some-names : 0 < h
-  pub limit : h ≤ setting-limit
+  pub more-names : 0 < m
+  pub limit : h < setting-limit
   pub labelled : Labelled n groups
   pub sound : ContextSound n h m parents names groups

@@ -86,7 +86,7 @@ fn climb_starts(m: usize, parents: &[u16], groups: &mut [u16])
     climb_all(m, parents, &starts[..n], groups);
 }
 
-// Rounds of forks and a sweep by classes of the last h names, until a sweep joins nothing.
+// Rounds of forks and a sweep, until a sweep joins nothing. The sweep takes classes by one name more than h: that of an arc.
 fn close_contexts(
     h: usize,
     m: usize,
@@ -104,7 +104,7 @@ fn close_contexts(
 {
     let n = groups.len();
     let mut classes = [0u16; STATE_LIMIT];
-    suffixes::suffix_classes(h, parents, names, &mut classes[..n]);
+    suffixes::suffix_classes(h + 1, parents, names, &mut classes[..n]);
     let mut joined = true;
     while joined {
         forks::close_forks(parents, names, numbers, groups, work);

@@ -1,5 +1,7 @@
-// The sweep: groups with the same last names out of which m names in succession lead in common are joined. Only labels of groups
-// that m names lead out of at all are compared, each with the earlier ones of its class, which are a chain.
+// The sweep: groups with the same last names out of which m names in succession lead in common are joined. Arcs are compared, the
+// first of each name out of each group, each with the earlier ones of its class, which are a chain. The sources of two arcs of a
+// class have the same last names, and are joined where m - 1 names lead on after both arcs. An arc goes by the state that it leads
+// into.
 use crate::STATE_LIMIT;
 use cells::cell;
 use cells::numbers::narrow16;
@@ -8,36 +10,80 @@ use cells::numbers::wide16;
 ghost use mathlib.Core.Path.{_≡_};
 ghost use mathlib.Core.Bool.{true};
 ghost use mathlib.Core.Logic.{_↔_};
-ghost use Prim.Native.Nat.{ℕ, _+_, _<_, _≤_};
-ghost use lib.ListN.{length, getD};
+ghost use Prim.Native.Nat.{_+_, _<_, _≤_};
+ghost use lib.ListN.{length};
 ghost use Rattle.cells.specs.Cells.{work-bytes};
-ghost use Rattle.model.specs.Limits.{state-limit};
-ghost use Rattle.indexed.specs.Chains.{Chained};
 ghost use Rattle.indexed.specs.Trees.{Arrays};
 ghost use Rattle.indexed.specs.Partitions.{Labelled};
-ghost use Rattle.contexts.specs.Sweeps.{Linked, Targets, Common, Comparing, Listed, Falling};
-ghost use Rattle.contexts.specs.Sweeps.{PairJoined, ChainJoined, PairsJoined, LabelSwept, SweptBy};
+ghost use Rattle.contexts.specs.Sweeps.{Sizes, ArcsLinked, Targets, Common, ArcInside, Comparing};
+ghost use Rattle.contexts.specs.Sweeps.{PairJoined, ChainJoined, PairsJoined, SweptBy};
 
 // The class of a state with too few names.
 const NONE: u16 = 512;
 
-// The set of names that lead out of each group, in `next`, and the groups that they lead to, in the cells.
-fn link_arcs(parents: &[u16], names: &[u8], old: &[u16], next: &mut [u64], work: &mut [u8])
+// One arc more, linked where it is the first of its name out of its group: its name goes into the group's set, the group that it
+// leads to into a cell, and the arc into the chain of its class, if it has one.
+fn link_arc(
+    v: usize,
+    parents: &[u16],
+    names: &[u8],
+    classes: &[u16],
+    old: &[u16],
+    next: &mut [u64],
+    links: &mut [u16],
+    heads: &mut [u16],
+    work: &mut [u8],
+)
     requires arrays { ⌜ Arrays (length (now old)) (now parents) (now names) ⌝ }
     requires labelled { ⌜ Labelled (length (now old)) (now old) ⌝ }
-    requires size { ⌜ length (now old) ≤ length (now next) ⌝ }
-    requires none { ⌜ ((x : ℕ) → getD (now next) x 0 ≡ 0) ⌝ }
-    requires room { ⌜ work-bytes ≤ length (now work) ⌝ }
+    requires no_root { ⌜ 0 < v ⌝ }
+    requires inside { ⌜ v < length (now old) ⌝ }
+    requires sizes { ⌜ Sizes (length (now old)) (now classes) (now next) (now links) (now heads) (now work) ⌝ }
+    requires so_far { ⌜ ArcsLinked v (now parents) (now names) (now classes) (now old) (now next) (now links) (now heads) (now work) ⌝ }
     ensures { λ _.
-        ⌜ Linked (length (now (old .entry))) (now (parents .entry)) (now (names .entry)) (now (old .entry)) (now (next .exit))
-        (now (work .exit)) ⌝ }
+        ⌜ ArcsLinked (v + 1) (now (parents .entry)) (now (names .entry)) (now (classes .entry)) (now (old .entry))
+        (now (next .exit)) (now (links .exit)) (now (heads .exit)) (now (work .exit)) ⌝ }
+{
+    let from = suffixes::class_above(old, parents, v);
+    let name = names[v];
+    let known = next[from];
+    let all = known | (1u64 << name);
+    if all == known {
+        return;
+    }
+    next[from] = all;
+    cells::set_cell(work, from, wide8(name), wide16(old[v]));
+    if NONE <= classes[v] {
+        return;
+    }
+    let class = wide16(classes[v]);
+    let last = heads[class];
+    links[v] = last;
+    heads[class] = narrow16(v + 1);
+}
+
+// The set of names that lead out of each group, in `next`, the groups that they lead to, in the cells, and the chains of arcs.
+fn link_arcs(
+    parents: &[u16],
+    names: &[u8],
+    classes: &[u16],
+    old: &[u16],
+    next: &mut [u64],
+    links: &mut [u16],
+    heads: &mut [u16],
+    work: &mut [u8],
+)
+    requires arrays { ⌜ Arrays (length (now old)) (now parents) (now names) ⌝ }
+    requires labelled { ⌜ Labelled (length (now old)) (now old) ⌝ }
+    requires sizes { ⌜ Sizes (length (now old)) (now classes) (now next) (now links) (now heads) (now work) ⌝ }
+    requires none { ⌜ ArcsLinked 1 (now parents) (now names) (now classes) (now old) (now next) (now links) (now heads) (now work) ⌝ }
+    ensures { λ _.
+        ⌜ ArcsLinked (length (now (old .entry))) (now (parents .entry)) (now (names .entry)) (now (classes .entry))
+        (now (old .entry)) (now (next .exit)) (now (links .exit)) (now (heads .exit)) (now (work .exit)) ⌝ }
 {
     let mut v = 1;
     while v < old.len() {
-        let from = suffixes::class_above(old, parents, v);
-        let name = names[v];
-        next[from] = next[from] | (1u64 << name);
-        cells::set_cell(work, from, wide8(name), wide16(old[v]));
+        link_arc(v, parents, names, classes, old, next, links, heads, work);
         v += 1;
     }
 }
@@ -63,141 +109,116 @@ fn common(j: usize, x: usize, y: usize, next: &[u64], work: &[u8]) -> bool
     false
 }
 
-// Joins x and y where m names in succession lead out of both; true where they were in two groups.
-fn join_pair(m: usize, x: usize, y: usize, next: &[u64], groups: &mut [u16], work: &[u8]) -> bool
+// Joins the sources of arcs v and w where j names in succession lead on after both; true where they were in two groups.
+fn join_pair(
+    j: usize,
+    v: usize,
+    w: usize,
+    parents: &[u16],
+    old: &[u16],
+    next: &[u64],
+    groups: &mut [u16],
+    work: &[u8],
+) -> bool
     requires targets { ⌜ Targets (now next) (now work) ⌝ }
-    requires size { ⌜ length (now groups) ≤ length (now next) ⌝ }
+    requires v_inside { ⌜ ArcInside (length (now groups)) (length (now next)) (now parents) (now old) v ⌝ }
+    requires w_inside { ⌜ ArcInside (length (now groups)) (length (now next)) (now parents) (now old) w ⌝ }
     requires labelled { ⌜ Labelled (length (now groups)) (now groups) ⌝ }
-    requires x_inside { ⌜ x < length (now groups) ⌝ }
-    requires y_inside { ⌜ y < length (now groups) ⌝ }
     ensures { λ r.
-        ⌜ PairJoined (length (now (groups .entry))) m (now (next .entry)) (now (work .entry)) x y (now (groups .entry))
-        (now (groups .exit)) r ⌝ }
+        ⌜ PairJoined (length (now (groups .entry))) j (now (parents .entry)) (now (old .entry)) (now (next .entry))
+        (now (work .entry)) v w (now (groups .entry)) (now (groups .exit)) r ⌝ }
 {
+    let x = wide16(parents[v]);
+    let y = wide16(parents[w]);
     if groups[x] == groups[y] {
         return false;
     }
-    if common(m, x, y, next, work) {
+    if common(j, wide16(old[v]), wide16(old[w]), next, work) {
         return partition::join_states(groups, x, y);
     }
     false
 }
 
-// Joins x with those of a chain that m names in succession lead out of as out of x; true where anything was joined.
+// Joins the source of arc v with those of the arcs further down its chain after which j names in succession lead on as after v;
+// true where anything was joined.
 fn join_chain(
-    m: usize,
-    x: usize,
-    first: usize,
-    links: &[u16],
+    j: usize,
+    v: usize,
+    parents: &[u16],
+    old: &[u16],
     next: &[u64],
+    links: &[u16],
     groups: &mut [u16],
     work: &[u8],
 ) -> bool
-    requires targets { ⌜ Targets (now next) (now work) ⌝ }
-    requires size { ⌜ length (now groups) ≤ length (now next) ⌝ }
-    requires links_size { ⌜ length (now groups) ≤ length (now links) ⌝ }
+    requires comparing { ⌜ Comparing (length (now groups)) (now parents) (now old) (now next) (now links) (now work) ⌝ }
+    requires inside { ⌜ v < length (now groups) ⌝ }
     requires labelled { ⌜ Labelled (length (now groups)) (now groups) ⌝ }
-    requires x_inside { ⌜ x < length (now groups) ⌝ }
-    requires falling { ⌜ Falling (now links) first x ⌝ }
     ensures { λ r.
-        ⌜ ChainJoined (length (now (groups .entry))) m (now (next .entry)) (now (work .entry)) (now (links .entry)) first x
-        (now (groups .entry)) (now (groups .exit)) r ⌝ }
+        ⌜ ChainJoined (length (now (groups .entry))) j (now (parents .entry)) (now (old .entry)) (now (next .entry))
+        (now (links .entry)) (now (work .entry)) v (now (groups .entry)) (now (groups .exit)) r ⌝ }
 {
     let mut joined = false;
-    let mut at = first;
+    let mut at = wide16(links[v]);
     while 0 < at {
-        let y = at - 1;
-        let joins = join_pair(m, x, y, next, groups, work);
+        let w = at - 1;
+        let joins = join_pair(j, v, w, parents, old, next, groups, work);
         joined = joined | joins;
-        at = wide16(links[y]);
+        at = wide16(links[w]);
     }
     joined
 }
 
-// Whether x is a label that has a class, and m names in succession lead out of it.
-fn is_listed(m: usize, x: usize, classes: &[u16], old: &[u16], next: &[u64], work: &[u8]) -> bool
-    requires comparing { ⌜ Comparing (length (now old)) (now classes) (now next) (now work) ⌝ }
-    requires x_inside { ⌜ x < length (now old) ⌝ }
-    ensures { λ r.
-        ⌜ (r ≡ true) ↔ Listed m (now (classes .entry)) (now (old .entry)) (now (next .entry)) (now (work .entry))
-        (getD (now (classes .entry)) x 0) x ⌝ }
-{
-    if wide16(old[x]) != x {
-        return false;
-    }
-    if NONE <= classes[x] {
-        return false;
-    }
-    common(m, x, x, next, work)
-}
-
-// Compares x, where it is one to compare, with its chain, and puts it there; true where anything was joined.
-fn sweep_label(
-    m: usize,
-    x: usize,
-    classes: &[u16],
+// Compares arc v with its chain, where j names in succession lead on after it at all; true where anything was joined.
+fn sweep_arc(
+    j: usize,
+    v: usize,
+    parents: &[u16],
     old: &[u16],
     next: &[u64],
-    links: &mut [u16],
-    heads: &mut [u16],
+    links: &[u16],
     groups: &mut [u16],
     work: &[u8],
 ) -> bool
-    requires comparing { ⌜ Comparing (length (now old)) (now classes) (now next) (now work) ⌝ }
-    requires x_inside { ⌜ x < length (now old) ⌝ }
-    requires sizes { ⌜ (length (now links) ≡ state-limit) × (length (now heads) ≡ state-limit) ⌝ }
-    requires chained { ⌜ Chained x (Listed m (now classes) (now old) (now next) (now work)) (now links) (now heads) ⌝ }
-    requires size { ⌜ length (now groups) ≡ length (now old) ⌝ }
-    requires labelled { ⌜ Labelled (length (now old)) (now groups) ⌝ }
+    requires comparing { ⌜ Comparing (length (now groups)) (now parents) (now old) (now next) (now links) (now work) ⌝ }
+    requires inside { ⌜ v < length (now groups) ⌝ }
+    requires labelled { ⌜ Labelled (length (now groups)) (now groups) ⌝ }
     ensures { λ r.
-        ⌜ LabelSwept (length (now (old .entry))) x m (now (classes .entry)) (now (old .entry)) (now (next .entry))
-        (now (work .entry)) (now (groups .entry)) (now (links .exit)) (now (heads .exit)) (now (groups .exit)) r ⌝ }
+        ⌜ ChainJoined (length (now (groups .entry))) j (now (parents .entry)) (now (old .entry)) (now (next .entry))
+        (now (links .entry)) (now (work .entry)) v (now (groups .entry)) (now (groups .exit)) r ⌝ }
 {
-    if is_listed(m, x, classes, old, next, work) {
-        let class = wide16(classes[x]);
-        let first = heads[class];
-        let joined = join_chain(m, x, wide16(first), links, next, groups, work);
-        links[x] = first;
-        heads[class] = narrow16(x + 1);
-        return joined;
+    if links[v] == 0 {
+        return false;
+    }
+    let group = wide16(old[v]);
+    if common(j, group, group, next, work) {
+        return join_chain(j, v, parents, old, next, links, groups, work);
     }
     false
 }
 
-// Compares all labels; true where anything was joined.
+// Compares all arcs; true where anything was joined.
 fn sweep_pairs(
-    m: usize,
-    classes: &[u16],
+    j: usize,
+    parents: &[u16],
     old: &[u16],
     next: &[u64],
+    links: &[u16],
     groups: &mut [u16],
     work: &[u8],
 ) -> bool
-    requires comparing { ⌜ Comparing (length (now old)) (now classes) (now next) (now work) ⌝ }
-    requires size { ⌜ length (now groups) ≡ length (now old) ⌝ }
-    requires labelled { ⌜ Labelled (length (now old)) (now groups) ⌝ }
+    requires comparing { ⌜ Comparing (length (now groups)) (now parents) (now old) (now next) (now links) (now work) ⌝ }
+    requires labelled { ⌜ Labelled (length (now groups)) (now groups) ⌝ }
     ensures { λ r.
-        ⌜ PairsJoined (length (now (old .entry))) (length (now (old .entry))) m (now (classes .entry)) (now (old .entry))
-        (now (next .entry)) (now (work .entry)) (now (groups .entry)) (now (groups .exit)) r ⌝ }
+        ⌜ PairsJoined (length (now (groups .entry))) (length (now (groups .entry))) j (now (parents .entry)) (now (old .entry))
+        (now (next .entry)) (now (links .entry)) (now (work .entry)) (now (groups .entry)) (now (groups .exit)) r ⌝ }
 {
-    let mut links = [0u16; STATE_LIMIT];
-    let mut heads = [0u16; STATE_LIMIT];
     let mut joined = false;
-    let mut x = 0;
-    while x < old.len() {
-        let joins = sweep_label(
-            m,
-            x,
-            classes,
-            old,
-            next,
-            &mut links,
-            &mut heads,
-            groups,
-            work,
-        );
+    let mut v = 0;
+    while v < old.len() {
+        let joins = sweep_arc(j, v, parents, old, next, links, groups, work);
         joined = joined | joins;
-        x += 1;
+        v += 1;
     }
     joined
 }
@@ -215,6 +236,7 @@ pub fn sweep(
     requires classes_size { ⌜ length (now classes) ≡ length (now groups) ⌝ }
     requires labelled { ⌜ Labelled (length (now groups)) (now groups) ⌝ }
     requires room { ⌜ work-bytes ≤ length (now work) ⌝ }
+    requires some { ⌜ 0 < m ⌝ }
     ensures { λ r.
         ⌜ SweptBy (length (now (groups .entry))) m (now (parents .entry)) (now (names .entry)) (now (classes .entry))
         (now (groups .entry)) (now (groups .exit)) r ⌝ }
@@ -223,6 +245,17 @@ pub fn sweep(
     let mut old = [0u16; STATE_LIMIT];
     suffixes::copy(groups, &mut old[..n]);
     let mut next = [0u64; STATE_LIMIT];
-    link_arcs(parents, names, &old[..n], &mut next, work);
-    sweep_pairs(m, classes, &old[..n], &next, groups, work)
+    let mut links = [0u16; STATE_LIMIT];
+    let mut heads = [0u16; STATE_LIMIT];
+    link_arcs(
+        parents,
+        names,
+        classes,
+        &old[..n],
+        &mut next,
+        &mut links,
+        &mut heads,
+        work,
+    );
+    sweep_pairs(m - 1, parents, &old[..n], &next, &links, groups, work)
 }

@@ -2,7 +2,7 @@
 use mathlib.Core.Path.{_≡_, refl, sym, ap, _∙_, subst, subst₂}
 use mathlib.Core.Bool.{Bool}
 use mathlib.Core.List.{List}
-use Prim.Native.Nat.{ℕ, _<_}
+use Prim.Native.Nat.{ℕ, _+_, _<_}
 use native.Mathlib.Omega.{arith}
 use lib.ListN.{length, replicate}
 use Rattle.model.specs.Lists.{numbersFrom}
@@ -31,11 +31,11 @@ entry c = c .before .before .before .before .before .before .before .before .bef
 -- the classes, by the number of states at the start
 classes-here :
     (c : tie.After-suffix-classes Inv-loop μ-loop) → let at = c .before .before .before .before .before .before .before in
-    SuffixClasses (length (at .args .groups .now)) (at .args .h) (at .args .parents .now) (at .args .names .now)
+    SuffixClasses (length (at .args .groups .now)) (at .args .h + 1) (at .args .parents .now) (at .args .names .now)
     (c .suffix-classes .last .1 .1 .1 .0)
 classes-here c =
     let at = c .before .before .before .before .before .before .before in
-    classes-front (length (at .args .groups .now)) (at .args .h) (replicate 512 0) (at .args .parents .now) (at .args .names .now)
+    classes-front (length (at .args .groups .now)) (at .args .h + 1) (replicate 512 0) (at .args .parents .now) (at .args .names .now)
     (c .suffix-classes .last .1 .1 .1 .0) (at .pre .0 .arrays .few-states) (c .suffix-classes .ensures)
 
 -- what the forks promise, by the number of states at the start
@@ -73,6 +73,9 @@ swept-here c =
     (front-again n front front _ refl (by .size)) (c .sweep .ensures)
     .swept (at .args .h) by agree
 
+add-suffix-classes : tie.Need-add-suffix-classes Inv-loop μ-loop
+add-suffix-classes c = omega (arith, c .before .before .before .before .before .pre .0 .limit)
+
 array-borrow-prefix-classes : tie.Need-array-borrow-prefix-classes Inv-loop μ-loop
 array-borrow-prefix-classes c = c .before .before .before .before .before .pre .0 .arrays .few-states
 
@@ -83,7 +86,7 @@ slice-aggregate-suffix-classes c =
 suffix-classes-requires : tie.Need-suffix-classes-requires Inv-loop μ-loop
 suffix-classes-requires c κs =
     let at = c .before .before .before .before .before .before in
-    (arrays-front _ _ _ _ (at .pre .0 .arrays .few-states) (at .pre .0 .arrays), at .pre .0 .limit)
+    (arrays-front _ _ _ _ (at .pre .0 .arrays .few-states) (at .pre .0 .arrays), omega (arith, at .pre .0 .limit))
 
 loop-holds : tie.Need-loop-holds Inv-loop μ-loop
 loop-holds c =
@@ -137,7 +140,7 @@ sweep-requires c κs =
         ap length (front-again _ front front _ refl by-size) ∙ by-size ∙ size,
         (
           subst (λ (k : ℕ). Labelled k forked) size (done .labelled),
-          omega (arith, forks .close-forks .kept .1 .1 .1 .1 .0, here .loop .inv .0, at .pre .1 .1),
+          (omega (arith, forks .close-forks .kept .1 .1 .1 .1 .0, here .loop .inv .0, at .pre .1 .1), at .pre .0 .more-names),
         ),
       ),
     )
@@ -185,6 +188,7 @@ close-contexts-spec =
     (tie.spec
     Inv-loop
     μ-loop
+    add-suffix-classes
     array-borrow-prefix-classes
     slice-aggregate-suffix-classes
     suffix-classes-requires

@@ -1,58 +1,143 @@
 -- `pairs::join_pair` meets its contract. Assumes nothing.
-use mathlib.Core.Path.{sym, _∙_}
+use mathlib.Core.Path.{_≡_, sym, _∙_, subst₂}
 use mathlib.Core.Bool.{true≢false}
+use Prim.Native.Nat.{ℕ}
 use native.Mathlib.Omega.{arith}
+use lib.ListN.{length, getD}
 use borrow.Author.Needs.{needs}
+use Rattle.partition.specs.Joins.{JoinedTwo}
+use Rattle.contexts.specs.Sweeps.{Common}
 use Rattle.contexts.proofs.ChainLaws.{pair-left, pair-joined}
 use Rattle.contexts.proofs.pairs.join_pair.Statement.{statement}
 use Rattle.contexts.proofs.pairs.join_pair.Tie as tie
 
+mul-wide16 : tie.Need-mul-wide16
+mul-wide16 c = search needs
+
+shared-slice-read-wide16 : tie.Need-shared-slice-read-wide16
+shared-slice-read-wide16 c = search needs
+
+wide16-requires : tie.Need-wide16-requires
+wide16-requires c κs = tt
+
+mul-wide16-2 : tie.Need-mul-wide16-2
+mul-wide16-2 c = search needs
+
+shared-slice-read-wide16-2 : tie.Need-shared-slice-read-wide16-2
+shared-slice-read-wide16-2 c = search needs
+
+wide16-requires-2 : tie.Need-wide16-requires-2
+wide16-requires-2 c κs = tt
+
 mul-if1 : tie.Need-mul-if1
-mul-if1 c = search needs
+mul-if1 c =
+    let start = c .before .before .before .before .before .before .before .before .before in
+    omega (arith, c .before .before .wide16 .ensures, start .pre .1 .0 .source-below, start .pre .1 .0 .few)
 
 slice-read-if1 : tie.Need-slice-read-if1
-slice-read-if1 c = search needs
+slice-read-if1 c = omega (arith, c .before .before .before .wide16 .ensures, c .before .before .before .before .before .before .before .before .before .before .pre .1 .0 .source-below)
 
 mul-if1-2 : tie.Need-mul-if1-2
-mul-if1-2 c = search needs
+mul-if1-2 c =
+    let start = c .before .before .before .before .before .before .before .before .before .before in
+    omega (arith, c .before .wide162 .ensures, start .pre .1 .1 .0 .source-below, start .pre .1 .1 .0 .few)
 
 slice-read-if1-2 : tie.Need-slice-read-if1-2
-slice-read-if1-2 c = search needs
+slice-read-if1-2 c = omega (arith, c .before .before .wide162 .ensures, c .before .before .before .before .before .before .before .before .before .before .before .pre .1 .1 .0 .source-below)
 
 returns : tie.Need-returns
-returns c = pair-left (c .before .before .before .before .before .before .pre .1 .1 .0) (λ common. c .if1 .taken)
+returns c =
+    let start = c .before .before .before .before .before .before .before .before .before .before .before .before in
+    pair-left (start .pre .1 .1 .1)
+    (λ common.
+    subst₂ (λ (x y : ℕ). getD (start .args .groups .now) x 0 ≡ getD (start .args .groups .now) y 0) (c .before .before .before .before .before .wide16 .ensures)
+    (c .before .before .before .wide162 .ensures) (c .if1 .taken))
+
+mul-wide16-3 : tie.Need-mul-wide16-3
+mul-wide16-3 c = search needs
+
+shared-slice-read-wide16-3 : tie.Need-shared-slice-read-wide16-3
+shared-slice-read-wide16-3 c = search needs
+
+wide16-requires-3 : tie.Need-wide16-requires-3
+wide16-requires-3 c κs = tt
+
+mul-wide16-4 : tie.Need-mul-wide16-4
+mul-wide16-4 c = search needs
+
+shared-slice-read-wide16-4 : tie.Need-shared-slice-read-wide16-4
+shared-slice-read-wide16-4 c = search needs
+
+wide16-requires-4 : tie.Need-wide16-requires-4
+wide16-requires-4 c κs = tt
 
 common-requires : tie.Need-common-requires
 common-requires c κs =
-    let start = c .before .before .before .before .before .before in
-    let size = start .pre .1 .0 in
-    (start .pre .0, (omega (arith, start .pre .1 .1 .1 .0), omega (arith, start .pre .1 .1 .1 .1)))
+    let start = c .before .before .before .before .before .before .before .before .before .before .before .before .before .before .before .before in (
+      start .pre .0,
+      (
+        omega (arith, c .before .before .wide163 .ensures, start .pre .1 .0 .group-below),
+        omega (arith, c .wide164 .ensures, start .pre .1 .1 .0 .group-below),
+      ),
+    )
 
 join-states-requires : tie.Need-join-states-requires
-join-states-requires c κs = search needs
+join-states-requires c κs =
+    let start = c .before .before .before .before .before .before .before .before .before .before .before .before .before .before .before .before .before .before .before in (
+      start .pre .1 .1 .1,
+      (
+        omega (arith, c .before .before .before .before .before .before .before .before .before .before .before .before .wide16 .ensures, start .pre .1 .0 .source-below),
+        omega (arith, c .before .before .before .before .before .before .before .before .before .before .wide162 .ensures, start .pre .1 .1 .0 .source-below),
+      ),
+    )
 
 same-length : tie.Need-same-length
 same-length c = search needs
 
 returns-2 : tie.Need-returns-2
 returns-2 c =
-    let found = c .before .before .before .before in
-    pair-joined (found .before .common .ensures .0 (found .if2 .taken)) (c .before .before .join-states .ensures)
+    let start = c .before .before .before .before .before .before .before .before .before .before .before .before .before .before .before .before .before .before .before .before .before .before in
+    let join = c .before .before .join-states in
+    pair-joined
+    (subst₂ (λ (x y : ℕ). Common (start .args .next .now) (start .args .work .now) (start .args .j) x y) (c .before .before .before .before .before .before .before .before .wide163 .ensures)
+    (c .before .before .before .before .before .before .wide164 .ensures) (c .before .before .before .before .before .common .ensures .0 (c .before .before .before .before .if2 .taken)))
+    (subst₂ (λ (x y : ℕ). JoinedTwo (length (start .args .groups .now)) x y (start .args .groups .now) (join .last .0) (join .result))
+    (c .before .before .before .before .before .before .before .before .before .before .before .before .before .before .before .wide16 .ensures) (c .before .before .before .before .before .before .before .before .before .before .before .before .before .wide162 .ensures) (join .ensures))
 
 returns-3 : tie.Need-returns-3
 returns-3 c =
-    pair-left (c .before .before .before .before .before .before .before .before .pre .1 .1 .0)
-    (λ common. absurd (true≢false (sym (c .before .common .ensures .1 common) ∙ c .if2 .left)))
+    let start = c .before .before .before .before .before .before .before .before .before .before .before .before .before .before .before .before .before .before in
+    pair-left (start .pre .1 .1 .1)
+    (λ common.
+    absurd
+    (true≢false
+    (sym
+    (c .before .common .ensures .1
+    (subst₂ (λ (x y : ℕ). Common (start .args .next .now) (start .args .work .now) (start .args .j) x y)
+    (sym (c .before .before .before .before .wide163 .ensures)) (sym (c .before .before .wide164 .ensures)) common))
+    ∙ c .if2 .left)))
 
 pub join-pair-spec : {M : Type 1} → statement M
 join-pair-spec =
     tie.close
     (tie.spec
+    mul-wide16
+    shared-slice-read-wide16
+    wide16-requires
+    mul-wide16-2
+    shared-slice-read-wide16-2
+    wide16-requires-2
     mul-if1
     slice-read-if1
     mul-if1-2
     slice-read-if1-2
     returns
+    mul-wide16-3
+    shared-slice-read-wide16-3
+    wide16-requires-3
+    mul-wide16-4
+    shared-slice-read-wide16-4
+    wide16-requires-4
     common-requires
     join-states-requires
     same-length

@@ -1,0 +1,268 @@
+-- `pairs::link_arc` meets its contract. Assumes nothing.
+use mathlib.Core.Path.{_≡_, refl, sym, ap, _∙_, subst}
+use Prim.Native.Nat.{ℕ, suc, _+_, _*_, _%_, _^_, _<_, _≤_}
+use native.Mathlib.Nat.{one-mul}
+use native.Mathlib.Omega.{arith}
+use lib.Bits.{bitOr}
+use lib.Dec.{lit<}
+use lib.ListN.{length, getD, set}
+use lib.Pow.{shl-exact}
+use borrow.Author.Needs.{needs}
+use Rattle.cells.specs.Cells.{withCell}
+use Rattle.indexed.proofs.Bits.{bit}
+use Rattle.indexed.proofs.Suffixes.{parent-below}
+use Rattle.contexts.specs.Sweeps.{Linked}
+use Rattle.contexts.proofs.LinkLaws.{name-known, name-new, first-arc, linked-more, arcs-known, arcs-short, arcs-listed}
+use Rattle.contexts.proofs.pairs.link_arc.Statement.{statement}
+use Rattle.contexts.proofs.pairs.link_arc.Tie as tie
+
+-- the function's entry, from where the group that the arc leaves is read
+abbrev entry : tie.After-class-above → tie.Start
+entry c = c .before .before .before .before .before .before .before .before .before
+
+parent-low : (start : tie.Start) → getD (start .args .parents .now) (start .args .v) 0 < length (start .args .old .now)
+parent-low start =
+    parent-below (length (start .args .old .now)) (start .args .parents .now) (start .args .names .now) (start .pre .0)
+    (start .args .v) (start .pre .1 .1 .1 .0)
+
+-- the group that the arc leaves is a state
+from-low : (c : tie.After-class-above) → c .class-above .result < length (entry c .args .old .now)
+from-low c =
+    let start = entry c in
+    let parent = getD (start .args .parents .now) (start .args .v) 0 in
+    omega (arith, c .class-above .ensures, parent-low start, start .pre .1 .0 .low parent (parent-low start))
+
+name-low : (start : tie.Start) → getD (start .args .names .now) (start .args .v) 0 < 64
+name-low start = start .pre .0 .name-below (start .args .v) (start .pre .1 .1 .0) (start .pre .1 .1 .1 .0)
+
+mask-is :
+    (start : tie.Start) → let name = getD (start .args .names .now) (start .args .v) 0 in
+    (1 * 2 ^ name) % 2 ^ 64 ≡ 2 ^ name
+mask-is start =
+    let name = getD (start .args .names .now) (start .args .v) 0 in
+    let fits : 1 + name ≤ 64 = omega (arith, name-low start) in
+    shl-exact 1 name 64 (lit< tt) fits ∙ one-mul (2 ^ name)
+
+-- no arc of this name leaves the group yet
+new-name :
+    (c : tie.Else1) → let start = entry (c .before .before .before) in
+    bit (getD (start .args .names .now) (start .args .v) 0)
+    (getD (start .args .next .now) (getD (start .args .old .now) (getD (start .args .parents .now) (start .args .v) 0) 0) 0) ≡ 1 → ⊥
+new-name c known =
+    let above = c .before .before .before in
+    let start = entry above in
+    let next = start .args .next .now in
+    let name = getD (start .args .names .now) (start .args .v) 0 in
+    let from = above .class-above .result in
+    name-new (getD next from 0) name
+    (λ same. c .if1 .left (subst (λ (k : ℕ). bitOr (getD next from 0) k ≡ getD next from 0) (sym (mask-is start)) same))
+    (subst (λ (x : ℕ). bit name (getD next x 0) ≡ 1) (sym (above .class-above .ensures)) known)
+
+class-above-requires : tie.Need-class-above-requires
+class-above-requires c κs =
+    let start = c .before .before .before .before .before .before .before .before in
+    (omega (arith, start .pre .0 .parents-size, start .pre .1 .1 .1 .0), parent-low start)
+
+shared-slice-read-name : tie.Need-shared-slice-read-name
+shared-slice-read-name c = search needs
+
+mul-known : tie.Need-mul-known
+mul-known c = omega (arith, from-low (c .before), entry (c .before) .pre .0 .few-states)
+
+slice-read-known : tie.Need-slice-read-known
+slice-read-known c =
+    let start = entry (c .before .before) in
+    omega (arith, from-low (c .before .before), start .pre .0 .few-states, start .pre .1 .1 .1 .1 .0 .next-size)
+
+cast-all : tie.Need-cast-all
+cast-all c = omega (arith, name-low (entry (c .before .before)))
+
+shl-all : tie.Need-shl-all
+shl-all c = name-low (entry (c .before .before))
+
+returns : tie.Need-returns
+returns c =
+    let above = c .before .before .before in
+    let start = entry above in
+    let next = start .args .next .now in
+    let name = getD (start .args .names .now) (start .args .v) 0 in
+    let from = above .class-above .result in
+    let same : bitOr (getD next from 0) (2 ^ name) ≡ getD next from 0 =
+    subst (λ (k : ℕ). bitOr (getD next from 0) k ≡ getD next from 0) (mask-is start) (c .if1 .taken) in
+    arcs-known (start .pre .1 .1 .1 .1 .1)
+    (subst (λ (x : ℕ). bit name (getD next x 0) ≡ 1) (above .class-above .ensures) (name-known (getD next from 0) name same))
+
+mul-next : tie.Need-mul-next
+mul-next c = omega (arith, from-low (c .before .before .before), entry (c .before .before .before) .pre .0 .few-states)
+
+slice-write-next : tie.Need-slice-write-next
+slice-write-next c =
+    let start = entry (c .before .before .before) in
+    omega (arith, from-low (c .before .before .before), start .pre .0 .few-states, start .pre .1 .1 .1 .1 .0 .next-size)
+
+wide8-requires : tie.Need-wide8-requires
+wide8-requires c κs = search needs
+
+mul-wide16 : tie.Need-mul-wide16
+mul-wide16 c = search needs
+
+shared-slice-read-wide16 : tie.Need-shared-slice-read-wide16
+shared-slice-read-wide16 c = search needs
+
+wide16-requires : tie.Need-wide16-requires
+wide16-requires c κs = search needs
+
+set-cell-requires : tie.Need-set-cell-requires
+set-cell-requires c κs =
+    let above = c .before .before .before .before .before .before .before in
+    let start = entry above in
+    let few = start .pre .0 .few-states in
+    let inside = start .pre .1 .1 .1 .0 in (
+      omega (arith, from-low above, few),
+      (
+        omega (arith, c .before .before .wide8 .ensures, name-low start),
+        (
+          omega (arith, c .wide16 .ensures, start .pre .1 .0 .low (start .args .v) inside, inside, few),
+          start .pre .1 .1 .1 .1 .0 .room,
+        ),
+      ),
+    )
+
+-- the sets and the cells with the arc
+linked-here :
+    (c : tie.After-set-cell) → let above = c .before .before .before .before .before .before .before .before in
+    let start = entry above in
+    let next = start .args .next .now in
+    let name = getD (start .args .names .now) (start .args .v) 0 in
+    let from = above .class-above .result in
+    Linked (suc (start .args .v)) (start .args .parents .now) (start .args .names .now) (start .args .old .now)
+    (set next from (bitOr (getD next from 0) ((1 * 2 ^ name) % 2 ^ 64))) (c .set-cell .last .0)
+linked-here c =
+    let above = c .before .before .before .before .before .before .before .before in
+    let start = entry above in
+    let next = start .args .next .now in
+    let name = getD (start .args .names .now) (start .args .v) 0 in
+    let from = above .class-above .result in
+    let wide = c .before .wide16 in
+    let few = start .pre .0 .few-states in
+    let sizes = start .pre .1 .1 .1 .1 .0 in
+    linked-more (start .pre .0) (start .pre .1 .1 .0) (start .pre .1 .1 .1 .0) (start .pre .1 .1 .1 .1 .1 .linked) from name (wide .result)
+    (above .class-above .ensures) refl (wide .ensures) (omega (arith, from-low above, few, sizes .next-size))
+    (omega (arith, from-low above, few)) (sizes .room)
+    (ap (λ (k : ℕ). set next from (bitOr (getD next from 0) k)) (mask-is start))
+    (c .set-cell .ensures ∙ ap (λ (a : ℕ). withCell (start .args .work .now) from a (wide .result)) (c .before .before .before .wide8 .ensures))
+    (new-name (c .before .before .before .before .before))
+
+mul-if2 : tie.Need-mul-if2
+mul-if2 c = search needs
+
+shared-slice-read-if2 : tie.Need-shared-slice-read-if2
+shared-slice-read-if2 c = search needs
+
+same-length : tie.Need-same-length
+same-length c = search needs
+
+same-length-2 : tie.Need-same-length-2
+same-length-2 c = search needs
+
+returns-2 : tie.Need-returns-2
+returns-2 c =
+    let start = entry (c .before .before .before .before .before .before .before .before .before .before .before .before) in
+    arcs-short (start .pre .1 .1 .1 .1 .1) (linked-here (c .before .before .before .before)) (omega (arith, c .if2 .taken))
+
+mul-wide16-2 : tie.Need-mul-wide16-2
+mul-wide16-2 c = search needs
+
+shared-slice-read-wide16-2 : tie.Need-shared-slice-read-wide16-2
+shared-slice-read-wide16-2 c = search needs
+
+wide16-requires-2 : tie.Need-wide16-requires-2
+wide16-requires-2 c κs = search needs
+
+mul-last : tie.Need-mul-last
+mul-last c = search needs
+
+slice-read-last : tie.Need-slice-read-last
+slice-read-last c = search needs
+
+mul-links : tie.Need-mul-links
+mul-links c = search needs
+
+slice-write-links : tie.Need-slice-write-links
+slice-write-links c = search needs
+
+add-narrow16 : tie.Need-add-narrow16
+add-narrow16 c = search needs
+
+narrow16-requires : tie.Need-narrow16-requires
+narrow16-requires c κs = search needs
+
+mul-heads : tie.Need-mul-heads
+mul-heads c = search needs
+
+slice-write-heads : tie.Need-slice-write-heads
+slice-write-heads c = search needs
+
+same-length-3 : tie.Need-same-length-3
+same-length-3 c = search needs
+
+same-length-4 : tie.Need-same-length-4
+same-length-4 c = search needs
+
+same-length-5 : tie.Need-same-length-5
+same-length-5 c = search needs
+
+same-length-6 : tie.Need-same-length-6
+same-length-6 c = search needs
+
+returns-3 : tie.Need-returns-3
+returns-3 c =
+    let start = entry (c .before .before .before .before .before .before .before .before .before .before .before .before .before .before .before .before) in
+    let class = c .before .before .wide162 in
+    let few = start .pre .0 .few-states in
+    let sizes = start .pre .1 .1 .1 .1 .0 in
+    arcs-listed (start .pre .1 .1 .1 .1 .1) (linked-here (c .before .before .before .before .before .before .before .before)) (class .result) (c .narrow16 .result)
+    (omega (arith, start .pre .1 .1 .1 .0, few, sizes .links-size))
+    (omega (arith, class .ensures, c .before .before .before .before .if2 .left, sizes .heads-size)) (c .narrow16 .ensures) (class .ensures)
+    (omega (arith, class .ensures, c .before .before .before .before .if2 .left)) (start .pre .1 .1 .0)
+    (first-arc (start .pre .1 .1 .1 .1 .1 .linked) (new-name (c .before .before .before .before .before .before .before .before .before .before .before .before .before)))
+
+pub link-arc-spec : {M : Type 1} → statement M
+link-arc-spec =
+    tie.close
+    (tie.spec
+    class-above-requires
+    shared-slice-read-name
+    mul-known
+    slice-read-known
+    cast-all
+    shl-all
+    returns
+    mul-next
+    slice-write-next
+    wide8-requires
+    mul-wide16
+    shared-slice-read-wide16
+    wide16-requires
+    set-cell-requires
+    mul-if2
+    shared-slice-read-if2
+    same-length
+    same-length-2
+    returns-2
+    mul-wide16-2
+    shared-slice-read-wide16-2
+    wide16-requires-2
+    mul-last
+    slice-read-last
+    mul-links
+    slice-write-links
+    add-narrow16
+    narrow16-requires
+    mul-heads
+    slice-write-heads
+    same-length-3
+    same-length-4
+    same-length-5
+    same-length-6
+    returns-3)
