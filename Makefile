@@ -81,13 +81,13 @@ images: python listing
 test-book: python
 	@scripts/test-book
 
-test-outside: lib
+test-outside: lib listing
 	@scripts/test-outside
 
 test-c: lib
 	@scripts/test-c
 
-fuzz: seconds lib
+fuzz: seconds lib listing
 	@scripts/test-outside --seconds "$(SECONDS)"
 
 bench: lib

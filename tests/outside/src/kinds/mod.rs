@@ -2,6 +2,7 @@
 
 mod books;
 mod languages;
+mod listings;
 mod sizes;
 mod tables;
 mod walks;
@@ -39,6 +40,7 @@ pub const KINDS: &[Kind] = &[
     kind("working areas of 0 to 100,000 bytes", 15, sizes::working_areas),
     kind("inputs of 65,535 and 65,536 bytes", 3, sizes::longest_inputs),
     kind("limits of names, rows, states and trees, met and passed", 5, sizes::limits),
+    kind("books, damaged books and any bytes, listed by the listing program", 5, listings::books),
     kind("books with the same names, class and set of rows: the same bytes", 30, languages::same_rows),
     kind("pairs of books: rows admitted, equal tables admit the same", 150, languages::pairs),
     kind("books with rows added that their table admits: the same rows admitted", 150, languages::grown),
