@@ -1,6 +1,6 @@
 # Targets: see `make help`. The toolchain is the Rattle kit; its command is rt.
 .DEFAULT_GOAL := help
-.PHONY: help run test check lib listing example book text picture images test-book test-outside test-c fuzz bench bench-search fmt
+.PHONY: help run test check lib listing example book text picture images test-book test-outside test-c seeded-fault fuzz bench bench-search fmt
 
 help:
 	@echo "make run           lists a shipped book of forty days: the model that the library infers from it"
@@ -19,6 +19,7 @@ help:
 	@echo "make test-book     tests of the book scripts, the texts and the drawings"
 	@echo "make test-outside  compares the library with an independent implementation on generated inputs"
 	@echo "make test-c        the header and the library from C, with sanitizers and under valgrind"
+	@echo "make seeded-fault  faults put into copies of the library, which test-outside must find"
 	@echo "make fuzz SECONDS=600   the comparison of test-outside with new inputs, as long as asked"
 	@echo "make bench         what calls cost, as multiples of one memset and beside a second implementation"
 	@echo "make bench-search SECONDS=300   looks for books that cost more"
@@ -86,6 +87,9 @@ test-outside: lib listing
 
 test-c: lib
 	@scripts/test-c
+
+seeded-fault: lib listing
+	@scripts/seeded-fault
 
 fuzz: seconds lib listing
 	@scripts/test-outside --seconds "$(SECONDS)"
