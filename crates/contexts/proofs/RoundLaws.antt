@@ -1,7 +1,7 @@
 -- Laws of rounds: the states' own numbers, passes along the arcs until none joins, and rounds of forks and a sweep until a sweep
 -- joins nothing. Assumes nothing.
-use mathlib.Core.Path.{_≡_, refl, sym, ap, _∙_, subst}
-use mathlib.Core.Bool.{Bool, true, false, cond, true≢false}
+use mathlib.Core.Path.{_≡_, sym, ap, _∙_, subst}
+use mathlib.Core.Bool.{Bool, true, false, true≢false}
 use mathlib.Core.List.{List}
 use Prim.Native.Nat.{ℕ, _+_, _<_, _≤_}
 use native.Mathlib.Omega.{arith}
@@ -14,6 +14,7 @@ use Rattle.indexed.specs.Passes.{Passed, Swept, SuffixClasses, BySuffix, Contex
 use Rattle.indexed.proofs.Keys.{number-at, numbers-length, forks-keys, keys-forks}
 use Rattle.indexed.proofs.Suffixes.{parent-below}
 use Rattle.indexed.proofs.Contexts.{joined-suffix-agree}
+use Rattle.indexed.proofs.Rounds.{due, due-less, sum-fewer}
 use Rattle.partition.specs.Steps.{Ready}
 use Rattle.indexed.proofs.Fills.{front-length}
 use Rattle.contexts.specs.Climbs.{ClimbedBelow}
@@ -24,27 +25,6 @@ use Rattle.contexts.proofs.ClimbLaws.{climbs-sound}
 pub own-front :
     (n : ℕ) (list out : List ℕ) → n ≤ length list → out ≡ numbersFrom (length (take n list)) 0 → out ≡ numbersFrom n 0
 own-front n list out fits own = own ∙ ap (λ (m : ℕ). numbersFrom m 0) (front-length n list fits)
-
--- what falls with each round
-abbrev pub due : List ℕ → Bool → ℕ
-due groups joined = sum groups + cond joined 1 0
-
--- a step that joins lowers the sum, one that does not leaves the partition as it was
-pub due-less :
-    (groups groups′ : List ℕ) (joined : Bool) → (joined ≡ false → groups′ ≡ groups) → (joined ≡ true → sum groups′ < sum groups) →
-    due groups′ joined < due groups true
-due-less groups groups′ true none some = omega (arith, some refl)
-due-less groups groups′ false none some =
-    let same : sum groups′ ≡ sum groups = ap sum (none refl) in
-    omega arith
-
-pub sum-fewer :
-    (groups groups′ : List ℕ) (joined : Bool) → (joined ≡ false → groups′ ≡ groups) → (joined ≡ true → sum groups′ < sum groups) →
-    sum groups′ ≤ sum groups
-sum-fewer groups groups′ true none some = omega (arith, some refl)
-sum-fewer groups groups′ false none some =
-    let same : sum groups′ ≡ sum groups = ap sum (none refl) in
-    omega arith
 
 -- passes so far: joined says whether another is due
 pub record ForksTo (n : ℕ) (parents names groups₀ groups : List ℕ) (joined : Bool) : Type 0 where

@@ -1,8 +1,8 @@
 -- Laws of rounds: a pass as a joining, joinings one after the other, and joinings until one joins nothing. Assumes nothing.
 use mathlib.Core.Path.{_≡_, refl, sym, ap, _∙_, subst, subst₂}
-use mathlib.Core.Bool.{Bool, true, false, cond, _||_}
+use mathlib.Core.Bool.{Bool, true, false, _||_}
 use mathlib.Core.List.{List}
-use Prim.Native.Nat.{ℕ, _+_, _<_}
+use Prim.Native.Nat.{ℕ, _<_}
 use native.Mathlib.Omega.{arith}
 use lib.ListN.{length, getD}
 use Rattle.model.specs.Lists.{numbersFrom}
@@ -141,10 +141,6 @@ pub record RoundsTo (Closed : List ℕ → Type 0) (n : ℕ) (groups₀ groups :
   pub sound : (others : List ℕ) → Closed others → Refines n groups₀ others → Refines n groups others
   pub closed : joined ≡ false → Closed groups
 
--- what falls with each round
-abbrev pub due : List ℕ → Bool → ℕ
-due groups joined = sum groups + cond joined 1 0
-
 module _ (Closed : List ℕ → Type 0) (n : ℕ) (groups₀ : List ℕ) where
   pub rounds-none : Labelled n groups₀ → RoundsTo Closed n groups₀ groups₀ true
   rounds-none labelled =
@@ -165,13 +161,6 @@ module _ (Closed : List ℕ → Type 0) (n : ℕ) (groups₀ : List ℕ) where
         sound = λ others closed refines. joining .sound others closed (so-far .sound others closed refines);
         closed = λ e. subst Closed (sym (joining .none e .0)) (joining .none e .1);
       }
-
-  pub due-less :
-      (groups groups′ : List ℕ) (joined : Bool) → Joining Closed n groups groups′ joined → due groups′ joined < due groups true
-  due-less groups groups′ true joining = omega (arith, joining .some refl)
-  due-less groups groups′ false joining =
-      let same : sum groups′ ≡ sum groups = ap sum (joining .none refl .0) in
-      omega arith
 
   pub rounds-all :
       (groups : List ℕ) (joined : Bool) → joined ≡ false → RoundsTo Closed n groups₀ groups joined →

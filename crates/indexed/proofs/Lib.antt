@@ -16,3 +16,4 @@ pub mod ArcKeys
 pub mod Functions
 pub mod Closing
 pub mod Chains
+pub mod Rounds

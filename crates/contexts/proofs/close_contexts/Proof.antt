@@ -12,7 +12,8 @@ use Rattle.indexed.specs.Passes.{SuffixClasses, Swept}
 use Rattle.indexed.proofs.Fills.{front-length, front-again, front-fits}
 use Rattle.contexts.specs.Rounds.{ForksJoined}
 use Rattle.contexts.specs.Sweeps.{SweptBy}
-use Rattle.contexts.proofs.RoundLaws.{RoundsTo, due, arrays-front, classes-front, rounds-none, forked-agree, rounds-more}
+use Rattle.indexed.proofs.Rounds.{due}
+use Rattle.contexts.proofs.RoundLaws.{RoundsTo, arrays-front, classes-front, rounds-none, forked-agree, rounds-more}
 use Rattle.contexts.proofs.RoundLaws.{rounds-less, rounds-all}
 use Rattle.contexts.proofs.close_contexts.Statement.{statement}
 use Rattle.contexts.proofs.close_contexts.Tie as tie

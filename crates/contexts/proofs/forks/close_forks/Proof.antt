@@ -6,7 +6,8 @@ use native.Mathlib.Omega.{arith}
 use lib.ListN.{length}
 use Rattle.model.specs.Lists.{numbersFrom}
 use Rattle.indexed.specs.Passes.{Passed}
-use Rattle.contexts.proofs.RoundLaws.{ForksTo, due, due-less, forks-ready, forks-none, forks-more, forks-all, pass-of}
+use Rattle.indexed.proofs.Rounds.{due, due-less}
+use Rattle.contexts.proofs.RoundLaws.{ForksTo, forks-ready, forks-none, forks-more, forks-all, pass-of}
 use Rattle.contexts.proofs.forks.close_forks.Statement.{statement}
 use Rattle.contexts.proofs.forks.close_forks.Tie as tie
 

@@ -5,7 +5,8 @@ use Prim.Native.Nat.{_<_}
 use native.Mathlib.Omega.{arith}
 use lib.ListN.{length}
 use Rattle.functions.specs.Rounds.{RoundClosed, Joining}
-use Rattle.functions.proofs.RoundLaws.{RoundsTo, due, due-less, ready-again, round-of, rounds-none, rounds-more, rounds-all}
+use Rattle.indexed.proofs.Rounds.{due, due-less}
+use Rattle.functions.proofs.RoundLaws.{RoundsTo, ready-again, round-of, rounds-none, rounds-more, rounds-all}
 use Rattle.functions.proofs.rounds.close.Statement.{statement}
 use Rattle.functions.proofs.rounds.close.Tie as tie
 
@@ -53,13 +54,10 @@ loop-less : tie.Need-loop-less Inv-loop μ-loop
 loop-less c =
     let joins = c .before .before .before .before in
     let here = joins .before .before .before .before in
-    let at = here .before .before .before .before .before .before .before .before in
     subst (λ (b : Bool). due (joins .round .last .1 .1 .1 .1 .1 .0) (joins .round .result) < due (here .loop .groups) b)
     (sym (joins .before .before .before .loop-test .taken))
-    (due-less (RoundClosed (length (at .args .groups .now)) (at .args .parents .now) (at .args .names .now) (at .args .numbers .now)
-    (at .args .keys .now) (at .args .more .now)) (length (at .args .groups .now)) (at .args .groups .now) (here .loop .groups)
-    (joins .round .last .1 .1 .1 .1 .1 .0)
-    (joins .round .result) (round-here joins))
+    (due-less (here .loop .groups) (joins .round .last .1 .1 .1 .1 .1 .0) (joins .round .result) (λ e. round-here joins .none e .0)
+    (round-here joins .some))
 
 loop-again : tie.Need-loop-again Inv-loop μ-loop
 loop-again c =
