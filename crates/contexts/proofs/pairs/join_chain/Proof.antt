@@ -87,7 +87,9 @@ wide16-requires-2 : tie.Need-wide16-requires-2 Inv-loop μ-loop
 wide16-requires-2 c κs = tt
 
 loop-less : tie.Need-loop-less Inv-loop μ-loop
-loop-less c = omega (arith, come (c .before .before .before .before .before .before) .1, c .wide162 .ensures, c .before .before .before .before .before .before .loop-test .taken)
+loop-less c =
+    let turn = c .before .before .before .before .before .before in
+    omega (arith, come turn .1, c .wide162 .ensures, turn .loop-test .taken)
 
 loop-again : tie.Need-loop-again Inv-loop μ-loop
 loop-again c =

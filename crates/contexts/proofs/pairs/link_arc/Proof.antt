@@ -150,7 +150,8 @@ linked-here c =
     (above .class-above .ensures) refl (wide .ensures) (omega (arith, from-low above, few, sizes .next-size))
     (omega (arith, from-low above, few)) (sizes .room)
     (ap (λ (k : ℕ). set next from (bitOr (getD next from 0) k)) (mask-is start))
-    (c .set-cell .ensures ∙ ap (λ (a : ℕ). withCell (start .args .work .now) from a (wide .result)) (c .before .before .before .wide8 .ensures))
+    (c .set-cell .ensures
+    ∙ ap (λ (a : ℕ). withCell (start .args .work .now) from a (wide .result)) (c .before .before .before .wide8 .ensures))
     (new-name (c .before .before .before .before .before))
 
 mul-if2 : tie.Need-mul-if2
@@ -217,15 +218,16 @@ same-length-6 c = search needs
 
 returns-3 : tie.Need-returns-3
 returns-3 c =
-    let start = entry (c .before .before .before .before .before .before .before .before .before .before .before .before .before .before .before .before) in
+    let put = c .before .before .before .before .before .before .before .before in
+    let start = entry (put .before .before .before .before .before .before .before .before) in
     let class = c .before .before .wide162 in
     let few = start .pre .0 .few-states in
     let sizes = start .pre .1 .1 .1 .1 .0 in
-    arcs-listed (start .pre .1 .1 .1 .1 .1) (linked-here (c .before .before .before .before .before .before .before .before)) (class .result) (c .narrow16 .result)
+    arcs-listed (start .pre .1 .1 .1 .1 .1) (linked-here put) (class .result) (c .narrow16 .result)
     (omega (arith, start .pre .1 .1 .1 .0, few, sizes .links-size))
     (omega (arith, class .ensures, c .before .before .before .before .if2 .left, sizes .heads-size)) (c .narrow16 .ensures) (class .ensures)
     (omega (arith, class .ensures, c .before .before .before .before .if2 .left)) (start .pre .1 .1 .0)
-    (first-arc (start .pre .1 .1 .1 .1 .1 .linked) (new-name (c .before .before .before .before .before .before .before .before .before .before .before .before .before)))
+    (first-arc (start .pre .1 .1 .1 .1 .1 .linked) (new-name (put .before .before .before .before .before)))
 
 pub link-arc-spec : {M : Type 1} → statement M
 link-arc-spec =

@@ -75,19 +75,22 @@ link-arcs-requires c κs =
 arcs-here :
     (c : tie.After-link-arcs) → let start = entry (c .before .before .before .before .before .before .before) in
     let groups = start .args .groups .now in
+    let made = c .link-arcs .last .1 .1 .1 .1 in
     ArcsLinked (length groups) (start .args .parents .now) (start .args .names .now) (start .args .classes .now) groups
-    (c .link-arcs .last .1 .1 .1 .1 .0) (c .link-arcs .last .1 .1 .1 .1 .1 .0) (c .link-arcs .last .1 .1 .1 .1 .1 .1 .0) (c .link-arcs .last .1 .1 .1 .1 .1 .1 .1 .0)
+    (made .0) (made .1 .0) (made .1 .1 .0) (made .1 .1 .1 .0)
 arcs-here c =
     let copied = c .before .before .before .before .before .before .before in
     let start = entry copied in
     let groups = start .args .groups .now in
     let same = front-again (length groups) groups (copied .copy .last .1 .0) _ (copied .copy .ensures) refl in
+    let made = c .link-arcs .last .1 .1 .1 .1 in
     subst (λ (l : List ℕ). ArcsLinked (length l) (start .args .parents .now) (start .args .names .now) (start .args .classes .now) l
-    (c .link-arcs .last .1 .1 .1 .1 .0) (c .link-arcs .last .1 .1 .1 .1 .1 .0) (c .link-arcs .last .1 .1 .1 .1 .1 .1 .0) (c .link-arcs .last .1 .1 .1 .1 .1 .1 .1 .0)) same
-    (c .link-arcs .ensures)
+    (made .0) (made .1 .0) (made .1 .1 .0) (made .1 .1 .1 .0)) same (c .link-arcs .ensures)
 
 sub-sweep-pairs : tie.Need-sub-sweep-pairs
-sub-sweep-pairs c = omega (arith, entry (c .before .before .before .before .before .before .before .before .before .before .before .before) .pre .1 .1 .1 .1)
+sub-sweep-pairs c =
+    let copied = c .before .before .before .before .before .before .before .before .before .before .before .before in
+    omega (arith, entry copied .pre .1 .1 .1 .1)
 
 array-share-prefix-old-2 : tie.Need-array-share-prefix-old-2
 array-share-prefix-old-2 c =
@@ -114,9 +117,9 @@ sweep-pairs-requires c κs =
     let start = entry copied in
     let groups = start .args .groups .now in
     let same = front-again (length groups) groups (copied .copy .last .1 .0) _ (copied .copy .ensures) refl in
-    let links = linked .link-arcs in (
-      subst (λ (l : List ℕ). Comparing (length groups) (start .args .parents .now) l (links .last .1 .1 .1 .1 .0) (links .last .1 .1 .1 .1 .1 .0)
-          (links .last .1 .1 .1 .1 .1 .1 .1 .0)) (sym same)
+    let links = linked .link-arcs in
+    let made = links .last .1 .1 .1 .1 in (
+      subst (λ (l : List ℕ). Comparing (length groups) (start .args .parents .now) l (made .0) (made .1 .0) (made .1 .1 .1 .0)) (sym same)
           (arcs-comparing (start .pre .0) (start .pre .1 .1 .0) (arcs-here linked)
           (record {
             classes-size = start .pre .1 .0;
@@ -141,13 +144,14 @@ returns c =
     let start = entry copied in
     let groups = start .args .groups .now in
     let same = front-again (length groups) groups (copied .copy .last .1 .0) _ (copied .copy .ensures) refl in
-    let links = linked .link-arcs in
+    let made = linked .link-arcs .last .1 .1 .1 .1 in
     let pairs = c .before .before .sweep-pairs in
     let j = start .args .m - 1 in
     let m-is : suc j ≡ start .args .m = omega (arith, start .pre .1 .1 .1 .1) in
     pairs-sweep (start .pre .0) (start .pre .1 .1 .0) (arcs-here linked)
-    (subst (λ (l : List ℕ). PairsJoined (length groups) (length groups) j (start .args .parents .now) l (links .last .1 .1 .1 .1 .0)
-    (links .last .1 .1 .1 .1 .1 .0) (links .last .1 .1 .1 .1 .1 .1 .1 .0) groups (pairs .last .1 .1 .1 .1 .1 .0) (pairs .result)) same (pairs .ensures)) m-is
+    (subst (λ (l : List ℕ). PairsJoined (length groups) (length groups) j (start .args .parents .now) l (made .0) (made .1 .0)
+    (made .1 .1 .1 .0) groups (pairs .last .1 .1 .1 .1 .1 .0) (pairs .result)) same (pairs .ensures))
+    m-is
 
 pub sweep-spec : {M : Type 1} → statement M
 sweep-spec =

@@ -56,8 +56,8 @@ loop-again c =
     let inside : loop .v < length (start .args .groups .now) = omega (arith, turn .loop-test .taken, start .pre .0 .old-size) in
     let chain =
     subst (λ (k : ℕ). ChainJoined k (start .args .j) (start .args .parents .now) (start .args .old .now) (start .args .next .now)
-    (start .args .links .now) (start .args .work .now) (loop .v) (loop .groups) (arc .last .1 .1 .1 .1 .1 .1 .0) (arc .result)) (loop .inv .1)
-    (arc .ensures) in (
+    (start .args .links .now) (start .args .work .now) (loop .v) (loop .groups) (arc .last .1 .1 .1 .1 .1 .1 .0) (arc .result))
+    (loop .inv .1) (arc .ensures) in (
       omega (arith, turn .loop-test .taken),
       arc .kept .1 .1 .1 .1 .1 .1 .0 ∙ loop .inv .1,
       pairs-more (start .pre .0) inside (loop .inv .2) chain,
