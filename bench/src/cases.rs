@@ -40,10 +40,8 @@ impl Gathered {
 
     /// Adds the row if its states fit.
     fn add(&mut self, row: &[u8]) {
-        let new: Vec<Vec<u8>> = (1..=row.len())
-            .map(|end| row[..end].to_vec())
-            .filter(|beginning| !self.beginnings.contains(beginning))
-            .collect();
+        let new: Vec<Vec<u8>> =
+            (1..=row.len()).map(|end| row[..end].to_vec()).filter(|beginning| !self.beginnings.contains(beginning)).collect();
         if self.beginnings.len() + new.len() <= self.limit {
             self.beginnings.extend(new);
             self.rows.push(row.to_vec());

@@ -125,8 +125,7 @@ fn show_cases(timed: &[Case], bars: &mut Bars) {
     for case in timed {
         let [library, maps, arrays] = case.times.in_memsets();
         let ratio = library / maps;
-        let [tree, states] =
-            case.sizes.map_or([String::new(), String::new()], |sizes| sizes.map(|size| size.to_string()));
+        let [tree, states] = case.sizes.map_or([String::new(), String::new()], |sizes| sizes.map(|size| size.to_string()));
         let (name, class, memset) = (case.name, &case.class, case.times.memset());
         println!("{name:26}{class:10}{tree:>6}{states:>8}{library:10.1}{maps:9.1}{ratio:8.2}{arrays:9.1}{memset:8.0}");
         let of = format!("{name} {class}");
