@@ -1,3 +1,4 @@
--- What a join of two groups and one state of a pass promise. Assumes nothing.
+-- What a join of two groups, one state of a pass, and a forest promise. Assumes nothing.
 pub mod Joins
 pub mod Steps
+pub mod Forests

@@ -1,5 +1,7 @@
 // Partitions of states by number: each state by itself, two groups made one, and a pass that joins along arcs with keys. A
 // partition is a slice that gives each state the number of its group, the lowest label of it.
+pub mod forest;
+
 use cells::numbers;
 ghost use mathlib.Core.Path.{_≡_};
 ghost use mathlib.Core.Bool.{cond, true};

@@ -1,0 +1,51 @@
+// A partition as a forest: each state has a state above it, lower than itself, or is a root, and a group goes by its root.
+use cells::numbers::narrow16;
+use cells::numbers::wide16;
+ghost use mathlib.Core.Path.{_≡_};
+ghost use Prim.Native.Nat.{_<_, _≤_};
+ghost use lib.ListN.{length, getD};
+ghost use Rattle.model.specs.Limits.{state-limit};
+ghost use Rattle.partition.specs.Forests.{Forest, rootsOf, FoundRoot, United};
+
+// The root of a state. Every other state on the way is put below the second above it, so that later ways are shorter.
+pub fn find(above: &mut [u16], v: usize) -> usize
+    requires forest { ⌜ Forest (length (now above)) (now above) ⌝ }
+    requires inside { ⌜ v < length (now above) ⌝ }
+    ensures { λ r. ⌜ FoundRoot (length (now (above .entry))) (now (above .entry)) (now (above .exit)) v r ⌝ }
+{
+    let mut at = v;
+    let mut up = wide16(above[at]);
+    while up != at {
+        let next = above[up];
+        above[at] = next;
+        at = wide16(next);
+        up = wide16(above[at]);
+    }
+    at
+}
+
+// Puts root y below root x.
+pub fn unite(above: &mut [u16], x: usize, y: usize)
+    requires forest { ⌜ Forest (length (now above)) (now above) ⌝ }
+    requires few { ⌜ length (now above) ≤ state-limit ⌝ }
+    requires inside { ⌜ y < length (now above) ⌝ }
+    requires lower { ⌜ x < y ⌝ }
+    requires x_root { ⌜ getD (now above) x 0 ≡ x ⌝ }
+    requires y_root { ⌜ getD (now above) y 0 ≡ y ⌝ }
+    ensures { λ _. ⌜ United (length (now (above .entry))) x y (now (above .entry)) (now (above .exit)) ⌝ }
+{
+    above[y] = narrow16(x);
+}
+
+// Puts every state right below its root: the partition.
+pub fn flatten(above: &mut [u16])
+    requires forest { ⌜ Forest (length (now above)) (now above) ⌝ }
+    ensures { λ _. ⌜ now (above .exit) ≡ rootsOf (now (above .entry)) ⌝ }
+{
+    let mut v = 0;
+    while v < above.len() {
+        let up = wide16(above[v]);
+        above[v] = above[up];
+        v += 1;
+    }
+}
