@@ -2,7 +2,7 @@
 -- roots stay; a root put below another; a way to the root made shorter step by step; all states put right below their roots.
 -- Assumes nothing.
 use mathlib.Core.Path.{_≡_, refl, sym, ap, _∙_, subst}
-use mathlib.Core.Logic.{_⊎_, ⊎-elim}
+use mathlib.Core.Logic.{⊎-elim}
 use mathlib.Core.Bool.{cond}
 use mathlib.Core.List.{List}
 use Prim.Native.Nat.{ℕ, zero, suc, _+_, _<_, _≤_}
@@ -169,7 +169,7 @@ module _ (n : ℕ) (above : List ℕ) (forest : Forest n above) (at value : ℕ)
       (λ v apart h. sym (root-up n above forest v h)))
       (set-cases (λ (v a : ℕ). v < n → a ≡ v → getD above v 0 ≡ v) (λ h e. absurd (omega arith)) (λ v apart h e. e))
 
--- the way up from v has come to `at`, and `up` is above that; states on the way have been put higher, each below its own root
+-- the way up from v has come to `at`, and `up` is above that; states on the way have been put higher, and every root is as it was
 pub record Finding (n : ℕ) (above₀ above : List ℕ) (v at up : ℕ) : Type 0 where
   pub forest : Forest n above
   pub kept : rootsOf above ≡ rootsOf above₀
@@ -182,57 +182,58 @@ pub finding-start :
 finding-start n above₀ v up forest inside is =
     record { forest = forest; kept = refl; inside = inside; up-is = is; same-root = refl }
 
-module _ (n : ℕ) (above₀ : List ℕ) (forest₀ : Forest n above₀) (v : ℕ) (inside₀ : v < n) where
-  module _ (above : List ℕ) (at up : ℕ) (finding : Finding n above₀ above v at up) where
-    -- no step leads out of the forest
-    pub up-inside : up < n
-    up-inside = omega (arith, finding .up-is, finding .inside, finding .forest .low at (finding .inside))
+module _ (n : ℕ) (above₀ above : List ℕ) (v at up : ℕ) (finding : Finding n above₀ above v at up) where
+  -- no step leads out of the forest
+  pub up-inside : up < n
+  up-inside = omega (arith, finding .up-is, finding .inside, finding .forest .low at (finding .inside))
 
-    module _ (next : ℕ) (apart : up ≡ at → ⊥) (next-is : next ≡ getD above up 0) where
-      pub next-lower : next < at
-      next-lower =
-          let up-low : getD above at 0 ≤ at = finding .forest .low at (finding .inside) in
-          let next-low : getD above up 0 ≤ up = finding .forest .low up up-inside in
-          omega (arith, finding .up-is)
+  -- every root is as it was
+  was : Forest n above₀ → (w : ℕ) → w < n → rootOf above w ≡ rootOf above₀ w
+  was forest₀ = root-kept n above₀ above forest₀ (finding .forest) (finding .kept)
 
-      next-root : rootOf above next ≡ rootOf above at
-      next-root =
-          ap (rootOf above) next-is ∙ sym (root-up n above (finding .forest) up up-inside) ∙ ap (rootOf above) (finding .up-is)
-          ∙ sym (root-up n above (finding .forest) at (finding .inside))
+  module _ (next : ℕ) (apart : up ≡ at → ⊥) (next-is : next ≡ getD above up 0) where
+    pub next-lower : next < at
+    next-lower =
+        let up-low : getD above at 0 ≤ at = finding .forest .low at (finding .inside) in
+        let next-low : getD above up 0 ≤ up = finding .forest .low up up-inside in
+        omega (arith, finding .up-is)
 
-      -- the state is put below the second above it, and that is next
-      pub finding-next :
-          (at′ up′ : ℕ) → at′ ≡ next → up′ ≡ getD (set above at next) at′ 0 → Finding n above₀ (set above at next) v at′ up′
-      finding-next at′ up′ at-is up-is =
-          record {
-            forest = set-forest n above (finding .forest) at next (finding .inside) (omega (arith, next-lower));
-            kept = shorter-roots n above (finding .forest) at next (finding .inside) next-lower next-root ∙ finding .kept;
-            inside = omega (arith, next-lower, finding .inside);
-            up-is = up-is;
-            same-root = ap (rootOf above₀) at-is ∙ same;
-          }
-        where
-          was : (w : ℕ) → w < n → rootOf above w ≡ rootOf above₀ w
-          was = root-kept n above₀ above forest₀ (finding .forest) (finding .kept)
+    next-root : rootOf above next ≡ rootOf above at
+    next-root =
+        ap (rootOf above) next-is ∙ sym (root-up n above (finding .forest) up up-inside) ∙ ap (rootOf above) (finding .up-is)
+        ∙ sym (root-up n above (finding .forest) at (finding .inside))
 
-          same : rootOf above₀ next ≡ rootOf above₀ v
-          same =
-              sym (was next (omega (arith, next-lower, finding .inside))) ∙ next-root ∙ was at (finding .inside) ∙ finding .same-root
-
-    -- a state above itself is the root
-    pub finding-end : up ≡ at → FoundRoot n above₀ above v at
-    finding-end here =
-        record { forest = finding .forest; kept = finding .kept; is-root = is-root; own = own; inside = finding .inside }
+    -- the state is put below the second above it, and the way goes on from that one
+    pub finding-next :
+        (at′ up′ : ℕ) → Forest n above₀ → at′ ≡ next → up′ ≡ getD (set above at next) at′ 0 →
+        Finding n above₀ (set above at next) v at′ up′
+    finding-next at′ up′ forest₀ at-is up-is =
+        record {
+          forest = set-forest n above (finding .forest) at next (finding .inside) (omega (arith, next-lower));
+          kept = shorter-roots n above (finding .forest) at next (finding .inside) next-lower next-root ∙ finding .kept;
+          inside = omega (arith, next-inside);
+          up-is = up-is;
+          same-root = ap (rootOf above₀) at-is ∙ same;
+        }
       where
-        own : getD above at 0 ≡ at
-        own = sym (finding .up-is) ∙ here
+        next-inside : next < n
+        next-inside = omega (arith, next-lower, finding .inside)
 
-        is-root : at ≡ getD (rootsOf above₀) v 0
-        is-root =
-            sym (root-own above at own)
-            ∙ root-kept n above₀ above forest₀ (finding .forest) (finding .kept) at (finding .inside)
-            ∙ finding .same-root
-            ∙ sym (roots-at n above₀ forest₀ v inside₀)
+        same : rootOf above₀ next ≡ rootOf above₀ v
+        same = sym (was forest₀ next next-inside) ∙ next-root ∙ was forest₀ at (finding .inside) ∙ finding .same-root
+
+  -- a state above itself is the root
+  pub finding-end : Forest n above₀ → v < n → up ≡ at → FoundRoot n above₀ above v at
+  finding-end forest₀ inside here =
+      record { forest = finding .forest; kept = finding .kept; is-root = is-root; own = own; inside = finding .inside }
+    where
+      own : getD above at 0 ≡ at
+      own = sym (finding .up-is) ∙ here
+
+      is-root : at ≡ getD (rootsOf above₀) v 0
+      is-root =
+          sym (root-own above at own) ∙ was forest₀ at (finding .inside) ∙ finding .same-root
+          ∙ sym (roots-at n above₀ forest₀ v inside)
 
 -- root y put below root x
 pub put-below :

@@ -1,4 +1,4 @@
--- `forest::find` meets its contract. The invariant of its loop: the way up from v has come to `at`, and all roots are as they were.
+-- `forest::find` meets its contract. The invariant of its loop: the way up from v has come to `at`, and every root is as it was.
 -- Assumes nothing.
 use mathlib.Core.Path.{refl}
 use Prim.Native.Nat.{_<_}
@@ -24,8 +24,8 @@ up-in : (c : tie.In-loop Inv-loop μ-loop) → c .before .loop .up < length (sta
 up-in c =
     let here = c .before .loop in
     let at = start c in
-    up-inside (length (at .args .above .now)) (at .args .above .now) (at .pre .0) (at .args .v) (at .pre .1) (here .above) (here .at)
-    (here .up) (here .inv)
+    up-inside (length (at .args .above .now)) (at .args .above .now) (here .above) (at .args .v) (here .at) (here .up)
+    (here .inv)
 
 -- the second above is lower
 next-below :
@@ -35,8 +35,8 @@ next-below c =
     let going = c .before .before in
     let here = going .before .loop in
     let at = start going in
-    next-lower (length (at .args .above .now)) (at .args .above .now) (at .pre .0) (at .args .v) (at .pre .1) (here .above) (here .at)
-    (here .up) (here .inv) (getD (here .above) (here .up) 0) (going .loop-test .taken) refl
+    next-lower (length (at .args .above .now)) (at .args .above .now) (here .above) (at .args .v) (here .at) (here .up)
+    (here .inv) (getD (here .above) (here .up) 0) (going .loop-test .taken) refl
 
 mul-wide16 : tie.Need-mul-wide16 Inv-loop μ-loop
 mul-wide16 c = omega arith
@@ -50,8 +50,8 @@ wide16-requires c κs = search needs
 loop-holds : tie.Need-loop-holds Inv-loop μ-loop
 loop-holds c =
     let at = c .before .before .before in
-    finding-start (length (at .args .above .now)) (at .args .above .now) (at .args .v) (c .wide16 .result) (at .pre .0) (at .pre .1)
-    (c .wide16 .ensures)
+    finding-start (length (at .args .above .now)) (at .args .above .now) (at .args .v) (c .wide16 .result)
+    (at .pre .0) (at .pre .1) (c .wide16 .ensures)
 
 mul-next : tie.Need-mul-next Inv-loop μ-loop
 mul-next c = omega (arith, up-in c)
@@ -90,9 +90,9 @@ loop-again c =
     let going = next .before .before in
     let here = going .before .loop in
     let at = start going in
-    finding-next (length (at .args .above .now)) (at .args .above .now) (at .pre .0) (at .args .v) (at .pre .1) (here .above) (here .at)
-    (here .up) (here .inv) (getD (here .above) (here .up) 0) (going .loop-test .taken) refl (next .wide162 .result)
-    (c .wide163 .result) (next .wide162 .ensures) (c .wide163 .ensures)
+    finding-next (length (at .args .above .now)) (at .args .above .now) (here .above) (at .args .v) (here .at) (here .up)
+    (here .inv) (getD (here .above) (here .up) 0) (going .loop-test .taken) refl
+    (next .wide162 .result) (c .wide163 .result) (at .pre .0) (next .wide162 .ensures) (c .wide163 .ensures)
 
 same-length : tie.Need-same-length Inv-loop μ-loop
 same-length c = c .before .loop .inv .forest .size
@@ -101,8 +101,8 @@ returns : tie.Need-returns Inv-loop μ-loop
 returns c =
     let here = c .before .loop in
     let at = c .before .before .before .before .before in
-    finding-end (length (at .args .above .now)) (at .args .above .now) (at .pre .0) (at .args .v) (at .pre .1) (here .above) (here .at)
-    (here .up) (here .inv) (c .loop-test .left)
+    finding-end (length (at .args .above .now)) (at .args .above .now) (here .above) (at .args .v) (here .at) (here .up)
+    (here .inv) (at .pre .0) (at .pre .1) (c .loop-test .left)
 
 pub find-spec : {M : Type 1} → statement M
 find-spec =

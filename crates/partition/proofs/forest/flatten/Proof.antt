@@ -1,5 +1,5 @@
--- `forest::flatten` meets its contract. The invariant of its loop: the states below v stand right below their roots, the others as
--- they stood. Assumes nothing.
+-- `forest::flatten` meets its contract. The invariant of its loop: the first v states stand right below their roots, the others
+-- as they stood. Assumes nothing.
 use mathlib.Core.Path.{refl}
 use Prim.Native.Nat.{_-_, _<_, _≤_}
 use native.Mathlib.Omega.{arith}
@@ -20,8 +20,8 @@ up-low : (c : tie.After-wide16 Inv-loop μ-loop) → c .wide16 .result ≤ c .be
 up-low c =
     let here = c .before .before .before in
     let at = here .before .before in
-    flattening-inside (at .args .above .now) (at .pre) (here .loop .v) (here .loop .above) (here .loop .inv .1) (c .wide16 .result)
-    (omega (arith, here .loop .inv .1 .filled .size)) (c .wide16 .ensures)
+    flattening-inside (at .args .above .now) (at .pre) (here .loop .v) (here .loop .above) (here .loop .inv .1)
+    (c .wide16 .result) (omega (arith, here .loop .inv .1 .filled .size)) (c .wide16 .ensures)
 
 loop-holds : tie.Need-loop-holds Inv-loop μ-loop
 loop-holds c = (omega arith, flattening-none _)
