@@ -2,3 +2,4 @@
 pub mod Climbs
 pub mod Rounds
 pub mod Sweeps
+pub mod Distances
