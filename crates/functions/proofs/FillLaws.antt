@@ -53,12 +53,3 @@ pub parent-inside :
     (n : ℕ) (parents names : List ℕ) (v parent : ℕ) → Arrays n parents names → v < n → parent ≡ getD parents v 0 → parent < n
 parent-inside n parents names v parent arrays inside is =
     subst (λ (x : ℕ). x < n) (sym is) (parent-below n parents names arrays v inside)
-
--- a local array of 512 elements cut to n: its length, and what it holds where nothing was written
-pub cut : (n x : ℕ) → n ≤ 512 → n ≡ length (take n (replicate 512 x))
-cut n x h = sym (length-take-le n (replicate 512 x) (subst (λ (m : ℕ). n ≤ m) (sym (length-replicate 512 x)) h))
-
-pub cut-at : (n x v : ℕ) → n ≤ 512 → v < n → getD (take n (replicate 512 x)) v 0 ≡ x
-cut-at n x v h inside =
-    let below : v < 512 = omega arith in
-    getD-take n (replicate 512 x) v 0 inside ∙ getD-replicate 512 v x 0 below
