@@ -1,5 +1,5 @@
--- The rule of f from rounds: joined until closed, from the partition by ends on, is joined by the rule of f. One law over what it is
--- to be closed against the arcs, then last names and seen sets. Assumes nothing.
+-- The rule of f from rounds: joined until closed, from the partition by ends on, is joined by the rule of f. One law over what it
+-- is to be closed against the arcs, then last names and seen sets. Assumes nothing.
 use mathlib.Core.Path.{_≡_, sym, ap, subst}
 use mathlib.Core.Logic.{_⊎_, inl, inr}
 use mathlib.Core.Bool.{true, false}

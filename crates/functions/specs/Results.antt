@@ -1,5 +1,5 @@
--- What the joinings by the rule of f need and promise: some list of values of f, and the partition joined by it until none applies.
--- Assumes nothing.
+-- What the joinings by the rule of f need and promise: some list of values of f, and the partition joined by it until none
+-- applies. Assumes nothing.
 use mathlib.Core.Path.{_≡_}
 use mathlib.Core.List.{List}
 use Prim.Native.Nat.{ℕ, _≤_}

@@ -1,5 +1,5 @@
-// Partitions joined by the rule of f: last names and seen sets. Both start from accepting states with one value of f, and then join
-// along forks and against the arcs until no pass joins.
+// Partitions joined by the rule of f: last names and seen sets. Both start from accepting states with one value of f, and then
+// join along forks and against the arcs until no pass joins.
 pub mod keys;
 pub mod rounds;
 pub mod seen;
@@ -11,7 +11,7 @@ ghost use Rattle.model.specs.Limits.{name-limit, setting-limit};
 ghost use Rattle.functions.specs.Results.{JoinReady, JoinedByLast, JoinedBySeen};
 
 // No partition has more states.
-pub const STATE_LIMIT: usize = 512;
+const STATE_LIMIT: usize = 512;
 
 // Joins by the last j names, with room lent for their codes, the keys and the states' own numbers; `none` has no keys.
 fn join_last_in(

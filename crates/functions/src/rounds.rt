@@ -54,7 +54,8 @@ fn close(
     }
 }
 
-// The partition by ends, accepting states with one value of f joined, and then rounds until one joins nothing. The states' own numbers are written into the room lent.
+// The partition by ends, in which accepting states with one value of f are joined, and then rounds until one joins nothing. The
+// states' own numbers are written into the room lent.
 pub fn finish(
     parents: &[u16],
     names: &[u8],

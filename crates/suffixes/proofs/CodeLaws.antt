@@ -1,5 +1,5 @@
--- Laws of codes: how large they are; one name more, cut to i names; and states with the same code have the same last i names where
--- they have so many, and are one state otherwise. Assumes nothing.
+-- Laws of codes: how large they are; one name more, cut to i names; and states with the same code have the same last i names
+-- where they have so many, and are one state otherwise. Assumes nothing.
 use mathlib.Core.Path.{_≡_, refl, sym, ap, ap₂, _∙_, subst}
 use mathlib.Core.Logic.{_↔_}
 use mathlib.Core.List.{List}

@@ -58,7 +58,13 @@ fn link(links: &mut [u16; 512], heads: &mut [u16; 512], b: usize, v: usize, firs
 }
 
 // The group of state v, by the lists of the states before it, into which it is put where it is the first with its value.
-fn end_label(accepts: &[u8], values: &[u64], links: &mut [u16; 512], heads: &mut [u16; 512], v: usize) -> usize
+fn end_label(
+    accepts: &[u8],
+    values: &[u64],
+    links: &mut [u16; 512],
+    heads: &mut [u16; 512],
+    v: usize,
+) -> usize
     requires few { ⌜ length (now values) ≤ state-limit ⌝ }
     requires accepts_size { ⌜ length (now accepts) ≡ length (now values) ⌝ }
     requires inside { ⌜ v < length (now values) ⌝ }

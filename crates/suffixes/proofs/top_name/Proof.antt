@@ -1,5 +1,4 @@
 -- `suffixes::top_name` meets its contract: seven bits are left, and where they are not 0, a name plus one. Assumes nothing.
-use mathlib.Core.Path.{refl}
 use Prim.Native.Nat.{_-_, _*_, _/_, _^_}
 use native.Mathlib.Omega.{arith}
 use Rattle.suffixes.proofs.AboveLaws.{top-small, top-none, top-some}

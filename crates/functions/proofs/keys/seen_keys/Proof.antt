@@ -5,7 +5,7 @@ use Prim.Native.Nat.{ℕ, _-_, _<_, _≤_}
 use native.Mathlib.Omega.{arith}
 use lib.ListN.{length, set, length-set}
 use Rattle.indexed.specs.Trees.{Arrays}
-use Rattle.indexed.specs.Passes.{SeenSets, KeysWhere}
+use Rattle.indexed.specs.Passes.{SeenSets}
 use Rattle.indexed.proofs.Fills.{Filled, filled-more}
 use Rattle.functions.specs.Parts.{KeyAt}
 use Rattle.functions.proofs.FillLaws.{keys-root, keys-all}
