@@ -43,6 +43,7 @@ top-small j x h =
     let sum-is : 7 * suc j ≡ 7 + 7 * j = omega arith in
     shr-lt 7 (7 * j) (subst (λ (k : ℕ). x < 2 ^ k) sum-is h)
 
+-- a code begins with no name, and with a name
 pub top-none : (top : ℕ) → top ≡ 0 → TopName top name-limit
 top-none top e = record { none = λ z. refl; some = λ d. absurd (d e) }
 
@@ -50,11 +51,13 @@ pub top-some : (top name : ℕ) → (top ≡ 0 → ⊥) → name + 1 ≡ top →
 top-some top name d is = record { none = λ e. absurd (d e); some = λ z. is }
 
 module _ (n : ℕ) (parents names : List ℕ) (arrays : Arrays n parents names) where
+  -- the root goes on from itself
   up-root : (i : ℕ) → up parents i 0 ≡ 0
   unfolding up
   up-root zero = refl
   up-root (suc i) = ap (up parents i) (arrays .root-parent) ∙ up-root i
 
+  -- the first digit of a code of j + 1 names is that of the j-th ancestor
   code-top : (j v : ℕ) → v < n → Digit names (up parents j v) (code parents names (suc j) v / 2 ^ (7 * j))
   unfolding code up
   code-top zero zero h = record { root = λ e. whole 0; name = λ p. absurd (omega arith) }
@@ -95,6 +98,7 @@ pub record AboveTo (n j : ℕ) (parents names : List ℕ) (v : ℕ) (values keys
   pub size : length keys ≡ n
   pub done : (w : ℕ) → w < v → getD keys w 0 ≡ getD names (up parents j w) 0
 
+-- the root
 pub above-root :
     (n j : ℕ) (parents names values keys : List ℕ) → Arrays n parents names → length values ≡ n → length keys ≡ n →
     AboveTo n j parents names 1 (set values 0 0) (set keys 0 64)
@@ -139,6 +143,7 @@ above-more n j parents names v values keys parent x key y inside is value top cu
           (digit-name n parents names arrays (up parents j v) (x / 2 ^ (7 * j)) key digit top);
     }
 
+-- all states
 pub above-all :
     (n j : ℕ) (parents names : List ℕ) (v : ℕ) (values keys : List ℕ) → n ≤ v → AboveTo n j parents names v values keys →
     NamesAbove n j parents names keys
