@@ -17,7 +17,7 @@ use Rattle.model.proofs.NameSets.{ones-one, trailing-shifted}
 use Rattle.model.proofs.Tests.{eq-dec}
 use Rattle.indexed.specs.Passes.{SeenSets}
 use Rattle.indexed.proofs.Bits.{bit, bit-zero, bit-of-set, bit-of-both, bits-told, set-again}
-use Rattle.functions.specs.Parts.{Added, KeyAt}
+use Rattle.functions.specs.Parts.{Added, AddedAt, KeyAt}
 
 -- 0 has no bit, a power of 2 has one
 no-bit : (a : ℕ) → bit a 0 ≡ 1 → ⊥
@@ -54,11 +54,11 @@ grown name before after is = go (eq-dec (bit name before) 1)
 
 -- the sets at the two ends of an arc
 pub arc-grown :
-    (n : ℕ) (parents names seen : List ℕ) (v parent : ℕ) → SeenSets n parents names seen → (v ≡ 0 → ⊥) → v < n →
+    (n : ℕ) (parents names seen : List ℕ) (v parent : ℕ) → SeenSets n parents names seen → 0 < v → v < n →
     parent ≡ getD parents v 0 → Grown (getD names v 0) (getD seen parent 0) (getD seen v 0)
 arc-grown n parents names seen v parent sets not-root inside is =
     grown (getD names v 0) (getD seen parent 0) (getD seen v 0)
-    (sets .arc-seen v (omega arith) inside ∙ ap (λ (p : ℕ). bitOr (getD seen p 0) (2 ^ getD names v 0)) (sym is))
+    (sets .arc-seen v not-root inside ∙ ap (λ (p : ℕ). bitOr (getD seen p 0) (2 ^ getD names v 0)) (sym is))
 
 -- the key by what is added: where nothing is, and where the name is
 key-none-added :
@@ -113,14 +113,24 @@ same-added before after not-less = go (eqb after before) refl
         eq-eqb (after - before) 0 (omega arith)
     go false e = ne-eqb (after - before) 0 (λ z. eqb-false after before e (omega arith))
 
-pub key-arc :
-    (enlarge : Bool) (parents names seen : List ℕ) (v parent x : ℕ) → (v ≡ 0 → ⊥) → parent ≡ getD parents v 0 →
-    getD seen parent 0 ≤ getD seen v 0 →
-    x ≡ cond (Bool·beq (eqb (getD seen v 0 - getD seen parent 0) 0) enlarge) name-limit (getD names v 0) →
-    KeyAt enlarge parents names seen v x
-key-arc enlarge parents names seen v parent x not-root is not-less e =
+-- what an arc adds to the seen set, from the sets at its two ends
+pub added-at :
+    (parents names seen : List ℕ) (v parent : ℕ) → parent ≡ getD parents v 0 →
+    Grown (getD names v 0) (getD seen parent 0) (getD seen v 0) →
+    AddedAt parents names seen v (getD seen v 0 - getD seen parent 0)
+added-at parents names seen v parent is grows =
     record {
-      root = λ q. absurd (not-root q);
-      arc = λ h. e ∙ ap (λ (b : Bool). cond (Bool·beq b enlarge) name-limit (getD names v 0))
-          (same-added (getD seen parent 0) (getD seen v 0) not-less ∙ ap (λ (p : ℕ). eqb (getD seen v 0) (getD seen p 0)) is);
+      name = grows .added;
+      none = same-added (getD seen parent 0) (getD seen v 0) (grows .not-less)
+          ∙ ap (λ (p : ℕ). eqb (getD seen v 0) (getD seen p 0)) is;
+    }
+
+-- the key of an arc, by what it adds
+pub key-arc :
+    (enlarge : Bool) (parents names seen : List ℕ) (v added x : ℕ) → 0 < v → AddedAt parents names seen v added →
+    x ≡ cond (Bool·beq (eqb added 0) enlarge) name-limit (getD names v 0) → KeyAt enlarge parents names seen v x
+key-arc enlarge parents names seen v added x some at e =
+    record {
+      root = λ q. absurd (omega arith);
+      arc = λ h. e ∙ ap (λ (b : Bool). cond (Bool·beq b enlarge) name-limit (getD names v 0)) (at .none);
     }

@@ -2,6 +2,5 @@
 pub mod FillLaws
 pub mod SeenLaws
 pub mod KeyLaws
-pub mod EndLaws
 pub mod RoundLaws
 pub mod FLaws

@@ -170,10 +170,10 @@ module _ (Closed : List ℕ → Type 0) (n : ℕ) (groups₀ : List ℕ) where
 
 -- the rounds are ready after the parts before them
 pub finish-ready :
-    (n : ℕ) (parents names accepts classes keys more numbers ends : List ℕ) →
-    FinishReady n parents names accepts classes keys more → numbers ≡ numbersFrom n 0 → Labelled n ends →
+    (n : ℕ) (parents names accepts values keys more numbers ends : List ℕ) →
+    FinishReady n parents names accepts values keys more → numbers ≡ numbersFrom n 0 → Labelled n ends →
     RoundReady (length ends) parents names numbers keys more ends
-finish-ready n parents names accepts classes keys more numbers ends ready own labelled =
+finish-ready n parents names accepts values keys more numbers ends ready own labelled =
     subst (λ (m : ℕ). RoundReady m parents names numbers keys more ends) (sym (labelled .size))
     (record {
       few = ready .arrays .few-states;
@@ -187,11 +187,11 @@ finish-ready n parents names accepts classes keys more numbers ends ready own la
     })
 
 pub finished :
-    (n : ℕ) (parents names accepts classes keys more numbers ends groups : List ℕ) → numbers ≡ numbersFrom n 0 →
-    ByEnds n accepts classes ends →
+    (n : ℕ) (parents names accepts values keys more numbers ends groups : List ℕ) → numbers ≡ numbersFrom n 0 →
+    ByEnds n accepts values ends →
     JoinedUntil (RoundClosed (length ends) parents names numbers keys more) (length ends) ends groups →
-    Finished n parents names accepts classes keys more groups
-finished n parents names accepts classes keys more numbers ends groups own by until =
+    Finished n parents names accepts values keys more groups
+finished n parents names accepts values keys more numbers ends groups own by until =
     record {
       ends = ends;
       by-ends = by;

@@ -21,9 +21,7 @@ with-bit seen name small =
     let fits : 2 ^ name < 2 ^ 64 = pow-lt small in
     ap (bitOr seen) (ap (λ (x : ℕ). x % 2 ^ 64) single ∙ mod-eq-of-lt fits)
 
-pub seen-root : (parents names seen : List ℕ) (v : ℕ) → v ≡ 0 → SeenAt parents names seen v 0
-seen-root parents names seen v e = record { root = λ q. refl; arc = λ h. absurd (omega arith) }
-
+-- the set of one state from that of the state before it
 pub seen-arc :
     (parents names seen : List ℕ) (v parent x : ℕ) → (v ≡ 0 → ⊥) → parent ≡ getD parents v 0 →
     x ≡ bitOr (getD seen parent 0) (2 ^ getD names v 0) → SeenAt parents names seen v x

@@ -1,12 +1,12 @@
--- What the joinings by the rule of f need and promise: some list of classes of f, and the partition joined by it until none applies.
--- Assumes nothing.
+-- What the joinings by the rule of f need and promise: some list of values of f, and the partition joined by it until none
+-- applies. Assumes nothing.
 use mathlib.Core.Path.{_≡_}
 use mathlib.Core.List.{List}
 use Prim.Native.Nat.{ℕ, _≤_}
 use lib.ListN.{length}
 use Rattle.cells.specs.Cells.{work-bytes}
 use Rattle.indexed.specs.Trees.{Arrays}
-use Rattle.indexed.specs.Passes.{BySuffix, SeenSets, ByValue, FJoined}
+use Rattle.indexed.specs.Passes.{SuffixAlike, SeenSets, FJoined}
 
 -- the tree's arrays, an array of accepting states, and a working area large enough
 pub record JoinReady (n : ℕ) (parents names accepts work : List ℕ) : Type 0 where
@@ -16,14 +16,12 @@ pub record JoinReady (n : ℕ) (parents names accepts work : List ℕ) : Type 0 
 
 -- f is the last j names
 pub record JoinedByLast (n j : ℕ) (parents names accepts groups : List ℕ) : Type 0 where
-  pub classes : List ℕ
-  pub by-suffix : BySuffix n j parents names classes
-  pub joined : FJoined n parents names accepts classes groups
+  pub codes : List ℕ
+  pub by-codes : SuffixAlike n j parents names codes
+  pub joined : FJoined n parents names accepts codes groups
 
 -- f is the set of names seen
 pub record JoinedBySeen (n : ℕ) (parents names accepts groups : List ℕ) : Type 0 where
   pub seen : List ℕ
-  pub classes : List ℕ
   pub sets : SeenSets n parents names seen
-  pub by-seen : ByValue n seen classes
-  pub joined : FJoined n parents names accepts classes groups
+  pub joined : FJoined n parents names accepts seen groups

@@ -42,16 +42,16 @@ pub record JoinedUntil (Closed : List ℕ → Type 0) (n : ℕ) (groups groups�
   pub sound : (others : List ℕ) → Closed others → Refines n groups others → Refines n groups′ others
   pub closed : Closed groups′
 
--- the tree's arrays, classes with labels, and two sets of keys
-pub record FinishReady (n : ℕ) (parents names accepts classes keys more : List ℕ) : Type 0 where
+-- the tree's arrays, a value for each state, and two sets of keys
+pub record FinishReady (n : ℕ) (parents names accepts values keys more : List ℕ) : Type 0 where
   pub arrays : Arrays n parents names
   pub accepts-size : length accepts ≡ n
-  pub classes-labelled : Labelled n classes
+  pub values-size : length values ≡ n
   pub keys-size : length keys ≡ n
   pub more-size : length more ≡ n
 
 -- from the partition by ends on joined until closed, with the states' own numbers
-pub record Finished (n : ℕ) (parents names accepts classes keys more groups : List ℕ) : Type 0 where
+pub record Finished (n : ℕ) (parents names accepts values keys more groups : List ℕ) : Type 0 where
   pub ends : List ℕ
-  pub by-ends : ByEnds n accepts classes ends
+  pub by-ends : ByEnds n accepts values ends
   pub until : JoinedUntil (RoundClosed n parents names (numbersFrom n 0) keys more) n ends groups

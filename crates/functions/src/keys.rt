@@ -1,46 +1,17 @@
-// Keys of arcs for passes against them: names further up, and names by whether the seen set grows.
+// Keys of arcs for passes against them: names by whether the seen set grows.
 use cells::numbers;
 ghost use mathlib.Core.Path.{_≡_};
-ghost use mathlib.Core.Bool.{cond, Bool·beq};
+ghost use mathlib.Core.Bool.{true, false, cond, Bool·beq};
 ghost use Prim.Native.Nat.{_<_};
 ghost use lib.Dec.{eqb};
 ghost use lib.ListN.{length};
 ghost use Rattle.model.specs.Limits.{name-limit};
 ghost use Rattle.indexed.specs.Trees.{Arrays};
-ghost use Rattle.indexed.specs.Passes.{NamesAbove, SeenSets, KeysWhere};
-ghost use Rattle.functions.specs.Parts.{Ancestor, Added, KeyAt};
+ghost use Rattle.indexed.specs.Passes.{SeenSets, KeysWhere};
+ghost use Rattle.functions.specs.Parts.{Added, AddedAt};
 
 // A key of this or more is none.
 const NAME_LIMIT: u8 = 64;
-
-// The j-th ancestor of a state.
-fn ancestor(j: usize, parents: &[u16], names: &[u8], v: usize) -> usize
-    requires arrays { ⌜ Arrays (length (now parents)) (now parents) (now names) ⌝ }
-    requires inside { ⌜ v < length (now parents) ⌝ }
-    ensures { λ r. ⌜ Ancestor (length (now (parents .entry))) j (now (parents .entry)) v r ⌝ }
-{
-    let mut at = v;
-    let mut left = j;
-    while 0 < left {
-        at = numbers::wide16(parents[at]);
-        left -= 1;
-    }
-    at
-}
-
-// For each state the name of its j-th ancestor, the name before its last j.
-pub fn names_above(j: usize, parents: &[u16], names: &[u8], keys: &mut [u8])
-    requires arrays { ⌜ Arrays (length (now keys)) (now parents) (now names) ⌝ }
-    ensures { λ _.
-        ⌜ NamesAbove (length (now (keys .entry))) j (now (parents .entry)) (now (names .entry)) (now (keys .exit)) ⌝ }
-{
-    let mut v = 0;
-    while v < keys.len() {
-        let above = ancestor(j, parents, names, v);
-        keys[v] = names[above];
-        v += 1;
-    }
-}
 
 // The key of an arc by what it adds to the seen set, its name or nothing. Of the arcs that enlarge the set it is the lowest name
 // added, and 64, no key, where none is; of the others it is the name where none is added.
@@ -59,32 +30,43 @@ fn key_where(enlarge: bool, added: u64, name: u8) -> u8
     }
 }
 
-// The key of the arc to state v; none at the root.
-fn key_at(enlarge: bool, parents: &[u16], names: &[u8], seen: &[u64], v: usize) -> u8
+// What the arc to state v adds to the seen set before it.
+fn added_at(parents: &[u16], names: &[u8], seen: &[u64], v: usize) -> u64
     requires arrays { ⌜ Arrays (length (now seen)) (now parents) (now names) ⌝ }
     requires sets { ⌜ SeenSets (length (now seen)) (now parents) (now names) (now seen) ⌝ }
+    requires not_root { ⌜ 0 < v ⌝ }
     requires inside { ⌜ v < length (now seen) ⌝ }
-    ensures { λ r. ⌜ KeyAt enlarge (now (parents .entry)) (now (names .entry)) (now (seen .entry)) v r ⌝ }
+    ensures { λ r. ⌜ AddedAt (now (parents .entry)) (now (names .entry)) (now (seen .entry)) v r ⌝ }
 {
-    if v == 0 {
-        return NAME_LIMIT;
-    }
     let parent = numbers::wide16(parents[v]);
-    let added = seen[v] - seen[parent];
-    key_where(enlarge, added, names[v])
+    seen[v] - seen[parent]
 }
 
-// The names of the arcs that do enlarge the seen set, or of those that do not; no key at the others.
-pub fn keys_where(enlarge: bool, parents: &[u16], names: &[u8], seen: &[u64], keys: &mut [u8])
-    requires arrays { ⌜ Arrays (length (now keys)) (now parents) (now names) ⌝ }
-    requires sets { ⌜ SeenSets (length (now keys)) (now parents) (now names) (now seen) ⌝ }
-    ensures { λ _.
-        ⌜ KeysWhere (length (now (keys .entry))) enlarge (now (parents .entry)) (now (names .entry)) (now (seen .entry))
-        (now (keys .exit)) ⌝ }
+// The names of the arcs that enlarge the seen set, and those of the arcs that do not; no key at the others and at the root.
+pub fn seen_keys(
+    parents: &[u16],
+    names: &[u8],
+    seen: &[u64],
+    enlarging: &mut [u8],
+    others: &mut [u8],
+)
+    requires arrays { ⌜ Arrays (length (now enlarging)) (now parents) (now names) ⌝ }
+    requires sets { ⌜ SeenSets (length (now enlarging)) (now parents) (now names) (now seen) ⌝ }
+    requires others_size { ⌜ length (now others) ≡ length (now enlarging) ⌝ }
+    ensures enlarging { λ _.
+        ⌜ KeysWhere (length (now (enlarging .entry))) true (now (parents .entry)) (now (names .entry)) (now (seen .entry))
+        (now (enlarging .exit)) ⌝ }
+    ensures others { λ _.
+        ⌜ KeysWhere (length (now (enlarging .entry))) false (now (parents .entry)) (now (names .entry)) (now (seen .entry))
+        (now (others .exit)) ⌝ }
 {
-    let mut v = 0;
-    while v < keys.len() {
-        keys[v] = key_at(enlarge, parents, names, seen, v);
+    enlarging[0] = NAME_LIMIT;
+    others[0] = NAME_LIMIT;
+    let mut v = 1;
+    while v < enlarging.len() {
+        let added = added_at(parents, names, seen, v);
+        enlarging[v] = key_where(true, added, names[v]);
+        others[v] = key_where(false, added, names[v]);
         v += 1;
     }
 }

@@ -1,6 +1,5 @@
-// Partitions joined by the rule of f: last names and seen sets. Both start from accepting states of one class, and then join
-// along forks and against the arcs until no pass joins.
-pub mod ends;
+// Partitions joined by the rule of f: last names and seen sets. Both start from accepting states with one value of f, and then
+// join along forks and against the arcs until no pass joins.
 pub mod keys;
 pub mod rounds;
 pub mod seen;
@@ -12,16 +11,16 @@ ghost use Rattle.model.specs.Limits.{name-limit, setting-limit};
 ghost use Rattle.functions.specs.Results.{JoinReady, JoinedByLast, JoinedBySeen};
 
 // No partition has more states.
-pub const STATE_LIMIT: usize = 512;
+const STATE_LIMIT: usize = 512;
 
-// Joins by the last j names, with room lent for the classes, the keys and the states' own numbers; `none` has no keys.
+// Joins by the last j names, with room lent for their codes, the keys and the states' own numbers; `none` has no keys.
 fn join_last_in(
     j: usize,
     parents: &[u16],
     names: &[u8],
     accepts: &[u8],
     none: &[u8],
-    classes: &mut [u16],
+    codes: &mut [u64],
     keys: &mut [u8],
     numbers: &mut [u16],
     groups: &mut [u16],
@@ -31,20 +30,19 @@ fn join_last_in(
     requires ready { ⌜ JoinReady (length (now groups)) (now parents) (now names) (now accepts) (now work) ⌝ }
     requires none_size { ⌜ length (now none) ≡ length (now groups) ⌝ }
     requires no_keys { ⌜ ((v : ℕ) → v < length (now groups) → getD (now none) v 0 ≡ name-limit) ⌝ }
-    requires classes_size { ⌜ length (now classes) ≡ length (now groups) ⌝ }
+    requires codes_size { ⌜ length (now codes) ≡ length (now groups) ⌝ }
     requires keys_size { ⌜ length (now keys) ≡ length (now groups) ⌝ }
     requires numbers_size { ⌜ length (now numbers) ≡ length (now groups) ⌝ }
     ensures { λ _.
         ⌜ JoinedByLast (length (now (groups .entry))) j (now (parents .entry)) (now (names .entry)) (now (accepts .entry))
         (now (groups .exit)) ⌝ }
 {
-    suffixes::by_suffix(j, parents, names, classes);
-    keys::names_above(j, parents, names, keys);
+    suffixes::codes_and_names_above(j, parents, names, codes, keys);
     rounds::finish(
         parents,
         names,
         accepts,
-        classes,
+        codes,
         keys,
         none,
         numbers,
@@ -70,7 +68,7 @@ pub fn join_by_last(
 {
     let n = groups.len();
     let none = [64u8; STATE_LIMIT];
-    let mut classes = [0u16; STATE_LIMIT];
+    let mut codes = [0u64; STATE_LIMIT];
     let mut keys = [0u8; STATE_LIMIT];
     let mut numbers = [0u16; STATE_LIMIT];
     join_last_in(
@@ -79,7 +77,7 @@ pub fn join_by_last(
         names,
         accepts,
         &none[..n],
-        &mut classes[..n],
+        &mut codes[..n],
         &mut keys[..n],
         &mut numbers[..n],
         groups,
@@ -87,13 +85,12 @@ pub fn join_by_last(
     );
 }
 
-// Joins by the set of names seen, with room lent for the sets, the classes, two sets of keys and the states' own numbers.
+// Joins by the set of names seen, with room lent for the sets, two sets of keys and the states' own numbers.
 fn join_seen_in(
     parents: &[u16],
     names: &[u8],
     accepts: &[u8],
     sets: &mut [u64],
-    classes: &mut [u16],
     enlarging: &mut [u8],
     others: &mut [u8],
     numbers: &mut [u16],
@@ -102,7 +99,6 @@ fn join_seen_in(
 )
     requires ready { ⌜ JoinReady (length (now groups)) (now parents) (now names) (now accepts) (now work) ⌝ }
     requires sets_size { ⌜ length (now sets) ≡ length (now groups) ⌝ }
-    requires classes_size { ⌜ length (now classes) ≡ length (now groups) ⌝ }
     requires enlarging_size { ⌜ length (now enlarging) ≡ length (now groups) ⌝ }
     requires others_size { ⌜ length (now others) ≡ length (now groups) ⌝ }
     requires numbers_size { ⌜ length (now numbers) ≡ length (now groups) ⌝ }
@@ -111,14 +107,12 @@ fn join_seen_in(
         (now (groups .exit)) ⌝ }
 {
     seen::seen_sets(parents, names, sets);
-    values::classes_of(sets, classes);
-    keys::keys_where(true, parents, names, sets, enlarging);
-    keys::keys_where(false, parents, names, sets, others);
+    keys::seen_keys(parents, names, sets, enlarging, others);
     rounds::finish(
         parents,
         names,
         accepts,
-        classes,
+        sets,
         enlarging,
         others,
         numbers,
@@ -142,7 +136,6 @@ pub fn join_by_seen(
 {
     let n = groups.len();
     let mut sets = [0u64; STATE_LIMIT];
-    let mut classes = [0u16; STATE_LIMIT];
     let mut enlarging = [0u8; STATE_LIMIT];
     let mut others = [0u8; STATE_LIMIT];
     let mut numbers = [0u16; STATE_LIMIT];
@@ -151,7 +144,6 @@ pub fn join_by_seen(
         names,
         accepts,
         &mut sets[..n],
-        &mut classes[..n],
         &mut enlarging[..n],
         &mut others[..n],
         &mut numbers[..n],

@@ -1,5 +1,4 @@
 // Rounds of passes, forks first and then against the arcs, until none joins.
-use crate::ends;
 ghost use mathlib.Core.Path.{_≡_};
 ghost use Prim.Native.Nat.{_≤_};
 ghost use lib.ListN.{length};
@@ -55,26 +54,27 @@ fn close(
     }
 }
 
-// The partition by ends, and then rounds until one joins nothing. The states' own numbers are written into the room lent.
+// The partition by ends, in which accepting states with one value of f are joined, and then rounds until one joins nothing. The
+// states' own numbers are written into the room lent.
 pub fn finish(
     parents: &[u16],
     names: &[u8],
     accepts: &[u8],
-    classes: &[u16],
+    values: &[u64],
     keys: &[u8],
     more: &[u8],
     numbers: &mut [u16],
     groups: &mut [u16],
     work: &mut [u8],
 )
-    requires ready { ⌜ FinishReady (length (now groups)) (now parents) (now names) (now accepts) (now classes) (now keys) (now more) ⌝ }
+    requires ready { ⌜ FinishReady (length (now groups)) (now parents) (now names) (now accepts) (now values) (now keys) (now more) ⌝ }
     requires numbers_size { ⌜ length (now numbers) ≡ length (now groups) ⌝ }
     requires room { ⌜ work-bytes ≤ length (now work) ⌝ }
     ensures { λ _.
         ⌜ Finished (length (now (groups .entry))) (now (parents .entry)) (now (names .entry)) (now (accepts .entry))
-        (now (classes .entry)) (now (keys .entry)) (now (more .entry)) (now (groups .exit)) ⌝ }
+        (now (values .entry)) (now (keys .entry)) (now (more .entry)) (now (groups .exit)) ⌝ }
 {
     partition::own(numbers);
-    ends::by_ends(accepts, classes, groups);
+    values::by_ends(accepts, values, groups);
     close(parents, names, numbers, keys, more, groups, work);
 }

@@ -12,7 +12,7 @@ use lib.ListN.{length, getD}
 use Rattle.model.proofs.Tests.{tells-or, tells-eqb}
 use Rattle.indexed.specs.Trees.{Arrays, SameSuffix}
 use Rattle.indexed.specs.Partitions.{Refines, Labelled, ForkClosed, ContextClosed, SuffixAgree}
-use Rattle.indexed.specs.Passes.{BySuffix, ContextJoined}
+use Rattle.indexed.specs.Passes.{SuffixAlike, BySuffix, ContextJoined}
 use Rattle.indexed.proofs.Labels.{Equivalence, labels, labels-alike}
 use Rattle.indexed.proofs.Suffixes.{sameSuffix, tells-suffix, parent-below, suffix-refl, suffix-cast}
 pub use Rattle.indexed.proofs.Suffixes.{suffix-sym, suffix-trans, suffix-fewer, suffix-up}
@@ -67,8 +67,8 @@ module _ (n : ℕ) (parents names : List ℕ) (arrays : Arrays n parents names) 
       alike (getD parents v 0) (getD parents w 0) pv-below pw-below .0 one in
       alike v w hv hw .1 (alike-fewer h v w (alike-fork h v w pv pw hv hw same-name above))
 
-  pub suffix-forks : (h : ℕ) (groups : List ℕ) → BySuffix n h parents names groups → ForkClosed n parents names groups
-  suffix-forks h groups by = alike-forks h groups (by .alike)
+  pub suffix-forks : (h : ℕ) (values : List ℕ) → SuffixAlike n h parents names values → ForkClosed n parents names values
+  suffix-forks h values by = alike-forks h values (by .alike)
 
   -- what is joined by the rule has the same last h names
   pub joined-suffix-agree :
@@ -93,7 +93,7 @@ module _ (n : ℕ) (parents names : List ℕ) (arrays : Arrays n parents names) 
       record {
         labelled = by .labelled;
         sound = λ m e others fork context v w hv hw one. inside m e others context v w hv hw (by .alike v w hv hw .0 one);
-        fork-closed = suffix-forks h groups by;
+        fork-closed = alike-forks h groups (by .alike);
         context-closed = λ m e v w hv hw s shared. by .alike v w hv hw .1 (inr s);
       }
     where

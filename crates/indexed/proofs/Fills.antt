@@ -1,13 +1,13 @@
 -- Laws of a list filled from the front: what holds of each element before the place just written, and of that one, holds of each
--- before the next place; what was not reached yet is as it came. Then of a front of a list, written and read again.
--- Assumes nothing.
+-- before the next place; what was not reached yet is as it came. Then of a front of a list, written and read again, and of a
+-- local array cut to the number of states. Assumes nothing.
 use mathlib.Core.Path.{_≡_, refl, sym, ap, _∙_, subst}
 use mathlib.Core.Logic.{⊎-elim}
 use mathlib.Core.List.{List, _++_}
 use Prim.Native.Nat.{ℕ, _+_, _<_, _≤_}
 use native.Mathlib.Omega.{arith}
-use lib.ListN.{length, getD, set, take, length-append, length-set}
-use lib.Seq.{getD-set-same, getD-set-other, length-take-le, take-at}
+use lib.ListN.{length, getD, set, take, replicate, length-append, length-set, length-replicate, getD-replicate}
+use lib.Seq.{getD-set-same, getD-set-other, getD-take, length-take-le, take-at}
 use Rattle.model.proofs.Tests.{eq-dec}
 
 module _ (P : ℕ → ℕ → Type 0) (list : List ℕ) (at value : ℕ) where
@@ -53,3 +53,12 @@ pub front-fits : (n : ℕ) (list front rest : List ℕ) → front ≡ list → l
 front-fits n list front rest e size =
     let same : length front ≡ length list = ap length e in
     simp length-append (omega arith)
+
+-- a local array of 512 elements cut to n: its length, and what it holds where nothing was written
+pub cut : (n x : ℕ) → n ≤ 512 → n ≡ length (take n (replicate 512 x))
+cut n x h = sym (length-take-le n (replicate 512 x) (subst (λ (m : ℕ). n ≤ m) (sym (length-replicate 512 x)) h))
+
+pub cut-at : (n x v : ℕ) → n ≤ 512 → v < n → getD (take n (replicate 512 x)) v 0 ≡ x
+cut-at n x v h inside =
+    let below : v < 512 = omega arith in
+    getD-take n (replicate 512 x) v 0 inside ∙ getD-replicate 512 v x 0 below

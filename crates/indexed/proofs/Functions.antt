@@ -1,5 +1,5 @@
--- Passes of the rule of f, by number: its classes are closed under forks, and for passes against the arcs the key of an arc is
--- the name before the last j, for the seen set the name, apart for arcs that enlarge the set. That the classes are f's is of
+-- Passes of the rule of f, by number: its values are closed under forks, and for passes against the arcs the key of an arc is
+-- the name before the last j, for the seen set the name, apart for arcs that enlarge the set. That the values are f's is of
 -- Values, and is passed on here. Assumes nothing.
 use mathlib.Core.Path.{_≡_, refl, sym, ap, ap₂, _∙_, subst}
 use mathlib.Core.Logic.{_⊎_, inl, inr}
@@ -13,28 +13,23 @@ use Rattle.model.specs.Limits.{name-limit}
 use Rattle.model.specs.Lists.{numbersFrom}
 use Rattle.indexed.specs.Trees.{Arrays, SameSuffix, up}
 use Rattle.indexed.specs.Partitions.{Refines, KeyClosed, ForkClosed, BackClosed}
-use Rattle.indexed.specs.Passes.{BySuffix, NamesAbove, SeenSets, ByValue, KeysWhere}
+use Rattle.indexed.specs.Passes.{SuffixAlike, NamesAbove, SeenSets, KeysWhere}
 use Rattle.indexed.proofs.Keys.{number-at, named-not-root}
 use Rattle.indexed.proofs.Suffixes.{parent-below, up-below, suffix-cast, suffix-up, suffix-more}
 use Rattle.indexed.proofs.Contexts.{suffix-forks}
 use Rattle.indexed.proofs.ArcKeys.{seen-forward, seen-before, key-is, keyed}
 pub use Rattle.indexed.proofs.Values.{last-classes, seen-classes}
 
--- the classes of f are closed under forks themselves: f of a word with one name more depends on f of the word
+-- the values of f are closed under forks themselves: f of a word with one name more depends on f of the word
 pub last-forks :
-    (n j : ℕ) (parents names classes : List ℕ) → Arrays n parents names → BySuffix n j parents names classes →
-    ForkClosed n parents names classes
-last-forks n j parents names classes arrays by = suffix-forks n parents names arrays j classes by
+    (n j : ℕ) (parents names values : List ℕ) → Arrays n parents names → SuffixAlike n j parents names values →
+    ForkClosed n parents names values
+last-forks n j parents names values arrays by = suffix-forks n parents names arrays j values by
 
 pub seen-forks :
-    (n : ℕ) (parents names seen classes : List ℕ) → Arrays n parents names → SeenSets n parents names seen →
-    ByValue n seen classes → ForkClosed n parents names classes
-seen-forks n parents names seen classes arrays sets by v w pv pw hv hw same-name one =
-    let pv-below : getD parents v 0 < n = parent-below n parents names arrays v hv in
-    let pw-below : getD parents w 0 < n = parent-below n parents names arrays w hw in
-    by .alike v w hv hw .1
-    (seen-forward n parents names seen sets v w pv pw hv hw same-name
-    (by .alike (getD parents v 0) (getD parents w 0) pv-below pw-below .0 one))
+    (n : ℕ) (parents names seen : List ℕ) → SeenSets n parents names seen → ForkClosed n parents names seen
+seen-forks n parents names seen sets v w pv pw hv hw same-name one =
+    seen-forward n parents names seen sets v w pv pw hv hw same-name one
 
 -- closed against the arcs with keys is closed under the rule, where members of a group agree in f, and the other way round
 module _ (n : ℕ) (parents names : List ℕ) (arrays : Arrays n parents names) where
@@ -57,12 +52,12 @@ module _ (n : ℕ) (parents names : List ℕ) (arrays : Arrays n parents names) 
 
   -- last j names
   pub last-back :
-      (j : ℕ) (classes keys groups : List ℕ) → BySuffix n j parents names classes → NamesAbove n j parents names keys →
-      Refines n groups classes → KeyClosed n (numbersFrom n 0) parents keys groups → BackClosed n parents names classes groups
-  last-back j classes keys groups by above agree closed v w pv pw hv hw same-name same-class one =
+      (j : ℕ) (values keys groups : List ℕ) → SuffixAlike n j parents names values → NamesAbove n j parents names keys →
+      Refines n groups values → KeyClosed n (numbersFrom n 0) parents keys groups → BackClosed n parents names values groups
+  last-back j values keys groups by above agree closed v w pv pw hv hw same-name same-value one =
       let pv-below : getD parents v 0 < n = parent-below n parents names arrays v hv in
       let pw-below : getD parents w 0 < n = parent-below n parents names arrays w hw in
-      go (by .alike (getD parents v 0) (getD parents w 0) pv-below pw-below .0 same-class)
+      go (by .alike (getD parents v 0) (getD parents w 0) pv-below pw-below .0 same-value)
     where
       go :
           (getD parents v 0 ≡ getD parents w 0) ⊎ SameSuffix parents names j (getD parents v 0) (getD parents w 0) →
@@ -80,9 +75,9 @@ module _ (n : ℕ) (parents names : List ℕ) (arrays : Arrays n parents names) 
           step-back keys groups closed v w hv hw below (above .above v hv ∙ top .2 ∙ sym (above .above w hw)) one
 
   pub last-keys :
-      (j : ℕ) (classes keys groups : List ℕ) → BySuffix n j parents names classes → NamesAbove n j parents names keys →
-      Refines n groups classes → BackClosed n parents names classes groups → KeyClosed n (numbersFrom n 0) parents keys groups
-  last-keys j classes keys groups by above agree closed v w hv hw below keys-same numbers-one =
+      (j : ℕ) (values keys groups : List ℕ) → SuffixAlike n j parents names values → NamesAbove n j parents names keys →
+      Refines n groups values → BackClosed n parents names values groups → KeyClosed n (numbersFrom n 0) parents keys groups
+  last-keys j values keys groups by above agree closed v w hv hw below keys-same numbers-one =
       let one : getD groups v 0 ≡ getD groups w 0 = from-numbers groups v w hv hw numbers-one in
       go one (by .alike v w hv hw .0 (agree v w hv hw one))
     where
@@ -104,18 +99,13 @@ module _ (n : ℕ) (parents names : List ℕ) (arrays : Arrays n parents names) 
 
   -- seen sets: two sets of keys
   pub seen-back :
-      (seen classes enlarging others groups : List ℕ) → SeenSets n parents names seen → ByValue n seen classes →
-      KeysWhere n true parents names seen enlarging → KeysWhere n false parents names seen others → Refines n groups classes →
+      (seen enlarging others groups : List ℕ) → SeenSets n parents names seen →
+      KeysWhere n true parents names seen enlarging → KeysWhere n false parents names seen others →
       KeyClosed n (numbersFrom n 0) parents enlarging groups → KeyClosed n (numbersFrom n 0) parents others groups →
-      BackClosed n parents names classes groups
-  seen-back seen classes enlarging others groups sets by keys keys′ agree closed closed′ v w pv pw hv hw same-name class-one one =
+      BackClosed n parents names seen groups
+  seen-back seen enlarging others groups sets keys keys′ closed closed′ v w pv pw hv hw same-name parents-same one =
       go (eqb (getD seen v 0) (getD seen (getD parents v 0) 0)) refl
     where
-      parents-same : getD seen (getD parents v 0) 0 ≡ getD seen (getD parents w 0) 0
-      parents-same =
-          by .alike (getD parents v 0) (getD parents w 0) (parent-below n parents names arrays v hv)
-          (parent-below n parents names arrays w hw) .0 class-one
-
       -- the arc to w enlarges the set where that to v does
       test-same :
           eqb (getD seen w 0) (getD seen (getD parents w 0) 0) ≡ eqb (getD seen v 0) (getD seen (getD parents v 0) 0)
@@ -140,16 +130,14 @@ module _ (n : ℕ) (parents names : List ℕ) (arrays : Arrays n parents names) 
       go false e = by-keys false true enlarging keys closed e refl
 
   pub seen-keys :
-      (enlarge : Bool) (seen classes keys groups : List ℕ) → SeenSets n parents names seen → ByValue n seen classes →
-      KeysWhere n enlarge parents names seen keys → Refines n groups classes → BackClosed n parents names classes groups →
+      (enlarge : Bool) (seen keys groups : List ℕ) → SeenSets n parents names seen →
+      KeysWhere n enlarge parents names seen keys → Refines n groups seen → BackClosed n parents names seen groups →
       KeyClosed n (numbersFrom n 0) parents keys groups
-  seen-keys enlarge seen classes keys groups sets by keys-where agree closed v w hv hw below keys-same numbers-one =
+  seen-keys enlarge seen keys groups sets keys-where agree closed v w hv hw below keys-same numbers-one =
       let one : getD groups v 0 ≡ getD groups w 0 = from-numbers groups v w hv hw numbers-one in
       let at-v = keyed n enlarge parents names seen keys keys-where v hv below in
       let at-w = keyed n enlarge parents names seen keys keys-where w hw (omega arith) in
       let same-name : getD names v 0 ≡ getD names w 0 = sym (at-v .named) ∙ keys-same ∙ at-w .named in
-      let sets-same : getD seen v 0 ≡ getD seen w 0 = by .alike v w hv hw .0 (agree v w hv hw one) in
+      let sets-same : getD seen v 0 ≡ getD seen w 0 = agree v w hv hw one in
       closed v w (at-v .not-root) (at-w .not-root) hv hw same-name
-      (by .alike (getD parents v 0) (getD parents w 0) (parent-below n parents names arrays v hv)
-      (parent-below n parents names arrays w hw) .1
-      (seen-before n enlarge parents names seen keys sets v w hv hw at-v at-w same-name sets-same)) one
+      (seen-before n enlarge parents names seen keys sets v w hv hw at-v at-w same-name sets-same) one

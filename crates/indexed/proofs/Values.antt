@@ -1,5 +1,5 @@
--- The classes of f by number: those of the last j names, and those of the seen sets kept as numbers, whose bits are the names
--- on the way to a state. Assumes nothing.
+-- The classes of f by number: values that tell the last j names, and the seen sets kept as numbers, whose bits are the names on
+-- the way to a state. Assumes nothing.
 use mathlib.Core.Path.{_≡_, refl, sym, ap, _∙_, subst}
 use mathlib.Core.Logic.{_⊎_, inl, inr, ⊎-elim, _↔_}
 use mathlib.Core.Bool.{Bool, true, false}
@@ -16,7 +16,7 @@ use Rattle.model.specs.Fields.{Class}
 use Rattle.model.specs.Classes.{Word, fOf, seenSet, lastNames}
 use Rattle.model.specs.Joinings.{treeOf}
 use Rattle.indexed.specs.Trees.{wordAt, TreeArrays, SameSuffix}
-use Rattle.indexed.specs.Passes.{BySuffix, SeenSets, ByValue}
+use Rattle.indexed.specs.Passes.{SuffixAlike, SeenSets}
 use Rattle.indexed.proofs.Words.{root-word, wordAt-one, suffix-words}
 use Rattle.indexed.proofs.Joined.{ClassesOfF}
 use Rattle.indexed.proofs.Bits.{bit, bit-zero, bit-of-set, bits-told}
@@ -55,12 +55,12 @@ f-seen : (c : Class) (u : Word) → eqb (c .kind) 1 ≡ true → fOf c u ≡ see
 unfolding fOf
 f-seen c u kind = rw kind
 
--- last j names: the classes of f are those of the last j names
+-- last j names: states have one value of f where they have one such value
 pub last-classes :
-    (c : Class) (rows : List Word) (parents names classes : List ℕ) → TreeArrays rows parents names →
-    eqb (c .kind) 1 ≡ false → BySuffix (length (treeOf rows)) (c .first) parents names classes → ClassesOfF c rows classes
-last-classes c rows parents names classes tree kind by =
-    record { told = λ v w hv hw. (λ e. same-f v w hv hw (by .alike v w hv hw .0 e), λ e. same-class v w hv hw e) }
+    (c : Class) (rows : List Word) (parents names values : List ℕ) → TreeArrays rows parents names →
+    eqb (c .kind) 1 ≡ false → SuffixAlike (length (treeOf rows)) (c .first) parents names values → ClassesOfF c rows values
+last-classes c rows parents names values tree kind by =
+    record { told = λ v w hv hw. (λ e. same-f v w hv hw (by .alike v w hv hw .0 e), λ e. same-value v w hv hw e) }
   where
     same-f :
         (v w : ℕ) → v < length (treeOf rows) → w < length (treeOf rows) →
@@ -70,10 +70,10 @@ last-classes c rows parents names classes tree kind by =
         f-last c (wordAt rows v) kind ∙ suffix-words rows parents names tree (c .first) v w hv hw .0 s .2
         ∙ sym (f-last c (wordAt rows w) kind)
 
-    same-class :
+    same-value :
         (v w : ℕ) → v < length (treeOf rows) → w < length (treeOf rows) → fOf c (wordAt rows v) ≡ fOf c (wordAt rows w) →
-        getD classes v 0 ≡ getD classes w 0
-    same-class v w hv hw e =
+        getD values v 0 ≡ getD values w 0
+    same-value v w hv hw e =
         let last-same : lastNames (c .first) (wordAt rows v) ≡ lastNames (c .first) (wordAt rows w) =
         sym (f-last c (wordAt rows v) kind) ∙ e ∙ f-last c (wordAt rows w) kind in
         by .alike v w hv hw .1
@@ -124,14 +124,10 @@ seen-bits rows parents names seen tree sets (suc k) (suc v) a low h =
 
 -- seen set: the classes of f are those of the sets as numbers
 pub seen-classes :
-    (c : Class) (rows : List Word) (parents names seen classes : List ℕ) → TreeArrays rows parents names →
-    eqb (c .kind) 1 ≡ true → SeenSets (length (treeOf rows)) parents names seen → ByValue (length (treeOf rows)) seen classes →
-    ClassesOfF c rows classes
-seen-classes c rows parents names seen classes tree kind sets by =
-    record {
-      told = λ v w hv hw.
-          (λ e. same-f v w hv hw (by .alike v w hv hw .0 e), λ e. by .alike v w hv hw .1 (same-set v w hv hw e));
-    }
+    (c : Class) (rows : List Word) (parents names seen : List ℕ) → TreeArrays rows parents names →
+    eqb (c .kind) 1 ≡ true → SeenSets (length (treeOf rows)) parents names seen → ClassesOfF c rows seen
+seen-classes c rows parents names seen tree kind sets =
+    record { told = λ v w hv hw. (same-f v w hv hw, same-set v w hv hw) }
   where
     bits : (v a : ℕ) → v < length (treeOf rows) → (bit a (getD seen v 0) ≡ 1) ↔ In a (wordAt rows v)
     bits v a h = seen-bits rows parents names seen tree sets (suc v) v a (omega arith) h

@@ -46,6 +46,12 @@ pub record SuffixClasses (n i : ℕ) (parents names classes : List ℕ) : Type 0
       (v w : ℕ) → v < n → w < n →
       ((getD classes v 0 < state-limit) × (getD classes v 0 ≡ getD classes w 0)) ↔ SameSuffix parents names i v w
 
+-- values by which a state is known as itself where it has fewer than k names, and by its last k names otherwise
+pub record SuffixAlike (n k : ℕ) (parents names values : List ℕ) : Type 0 where
+  pub alike :
+      (v w : ℕ) → v < n → w < n →
+      (getD values v 0 ≡ getD values w 0) ↔ ((v ≡ w) ⊎ SameSuffix parents names k v w)
+
 -- the partition by last k names, states with fewer each by itself
 pub record BySuffix (n k : ℕ) (parents names groups : List ℕ) : Type 0 where
   pub labelled : Labelled n groups

@@ -84,9 +84,8 @@ module _ (kind first second n : ℕ) (rows : List Word) (parents names accepts g
   by-seen e joined =
       let at : JoinedBySeen (length (treeOf rows)) parents names accepts groups =
       subst (λ (m : ℕ). JoinedBySeen m parents names accepts groups) all-states joined in
-      by-f (λ z. omega arith) (at .classes)
-      (seen-classes (class-of kind first second) rows parents names (at .seen) (at .classes) (tree .tree) (eq-eqb kind 1 e)
-      (at .sets) (at .by-seen))
+      by-f (λ z. omega arith) (at .seen)
+      (seen-classes (class-of kind first second) rows parents names (at .seen) (tree .tree) (eq-eqb kind 1 e) (at .sets))
       (at .joined)
 
   pub by-last :
@@ -95,7 +94,7 @@ module _ (kind first second n : ℕ) (rows : List Word) (parents names accepts g
   by-last not-context not-seen joined =
       let at : JoinedByLast (length (treeOf rows)) first parents names accepts groups =
       subst (λ (m : ℕ). JoinedByLast m first parents names accepts groups) all-states joined in
-      by-f not-context (at .classes)
-      (last-classes (class-of kind first second) rows parents names (at .classes) (tree .tree) (ne-eqb kind 1 not-seen)
-      (at .by-suffix))
+      by-f not-context (at .codes)
+      (last-classes (class-of kind first second) rows parents names (at .codes) (tree .tree) (ne-eqb kind 1 not-seen)
+      (at .by-codes))
       (at .joined)

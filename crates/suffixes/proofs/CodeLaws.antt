@@ -1,5 +1,5 @@
--- Laws of codes: how large they are; one name more, cut to i names; and states with the same code and i names or more have the
--- same last i names. Assumes nothing.
+-- Laws of codes: how large they are; one name more, cut to i names; and states with the same code have the same last i names
+-- where they have so many, and are one state otherwise. Assumes nothing.
 use mathlib.Core.Path.{_≡_, refl, sym, ap, ap₂, _∙_, subst}
 use mathlib.Core.Logic.{_↔_}
 use mathlib.Core.List.{List}
@@ -63,19 +63,19 @@ least-some (suc i) some h =
     ap (λ (k : ℕ). (1 * 2 ^ (7 * k)) % 2 ^ 64) fewer ∙ shifted i (omega arith)
 
 -- one name at the end, by bits
-pub named :
-    (c name mask : ℕ) → c < 2 ^ 56 → name < name-limit → (i : ℕ) → mask ≡ 2 ^ (7 * i) - 1 →
-    bitAnd (bitOr ((c * 128) % 2 ^ 64) (name + 1)) mask ≡ (c * 128 + (name + 1)) % 2 ^ (7 * i)
-named c name mask small named-by i ones =
+pub named : (c name : ℕ) → c < 2 ^ 56 → name < name-limit → bitOr ((c * 128) % 2 ^ 64) (name + 1) ≡ c * 128 + (name + 1)
+named c name small named-by =
     let room : 56 + 7 ≤ 64 = omega arith in
     let whole : (c * 2 ^ 7) % 2 ^ 64 ≡ c * 2 ^ 7 = shl-exact 56 7 64 small room in
     let few : name + 1 < 2 ^ 7 = omega arith in
-    ap₂ (λ (x m : ℕ). bitAnd (bitOr x (name + 1)) m) whole ones
-    ∙ ap (λ (x : ℕ). bitAnd x (2 ^ (7 * i) - 1)) (or-shifted c 7 (name + 1) few)
-    ∙ and-mask (c * 128 + (name + 1)) (7 * i)
+    ap (λ (x : ℕ). bitOr x (name + 1)) whole ∙ or-shifted c 7 (name + 1) few
+
+-- cut to i names by a mask
+pub masked : (x y mask i : ℕ) → x ≡ y → mask ≡ 2 ^ (7 * i) - 1 → bitAnd x mask ≡ y % 2 ^ (7 * i)
+masked x y mask i is ones = ap₂ bitAnd is ones ∙ and-mask y (7 * i)
 
 module _ (n : ℕ) (parents names : List ℕ) (arrays : Arrays n parents names) where
-  name-small : (v : ℕ) → suc v < n → getD names (suc v) 0 + 1 < 128
+  pub name-small : (v : ℕ) → suc v < n → getD names (suc v) 0 + 1 < 128
   name-small v h = omega (arith, arrays .name-below (suc v) (omega arith) h)
 
   code-root : (i : ℕ) → code parents names i 0 ≡ 0
@@ -115,7 +115,7 @@ module _ (n : ℕ) (parents names : List ℕ) (arrays : Arrays n parents names) 
   none-enough i = pow-pos (7 * i)
 
   -- a code fits into the bits of its names
-  code-small : (i v : ℕ) → v < n → code parents names i v < 2 ^ (7 * i)
+  pub code-small : (i v : ℕ) → v < n → code parents names i v < 2 ^ (7 * i)
   code-small i zero h = rw (code-root i) (pow-pos (7 * i))
   code-small i (suc v) h =
       subst (λ (x : ℕ). x < 2 ^ (7 * i)) (code-more i v h)
@@ -177,6 +177,33 @@ module _ (n : ℕ) (parents names : List ℕ) (arrays : Arrays n parents names) 
       ((least i ≤ code parents names i v) × (code parents names i v ≡ code parents names i w)) ↔ SameSuffix parents names i v w
   unfolding Alike
   code-alike i v w hv hw = (code-suffix i v w hv hw, suffix-code i v w hv hw)
+
+  -- one code of fewer than i names: one state
+  pub code-one :
+      (i v w : ℕ) → v < n → w < n → code parents names i v < least i → code parents names i v ≡ code parents names i w → v ≡ w
+  unfolding code
+  code-one zero v w hv hw short e = absurd (omega (arith, no-short))
+    where
+      no-short : least 0 ≡ 0
+      no-short = sym (least-none 0 refl)
+  code-one (suc i) zero zero hv hw short e = refl
+  code-one (suc i) zero (suc w) hv hw short e = absurd (omega arith)
+  code-one (suc i) (suc v) zero hv hw short e = absurd (omega arith)
+  code-one (suc i) (suc v) (suc w) hv hw short e =
+      let small-v = name-small v hv in
+      let small-w = name-small w hw in
+      let above : code parents names i (getD parents (suc v) 0) ≡ code parents names i (getD parents (suc w) 0) =
+      omega (arith, small-v, small-w) in
+      let last : getD names (suc v) 0 ≡ getD names (suc w) 0 = omega (arith, small-v, small-w) in
+      let pos : 0 < getD names (suc v) 0 + 1 = omega arith in
+      let enough : least i ≤ code parents names i (getD parents (suc v) 0) → ⊥ = λ h. omega (
+        arith,
+        least-more i (code parents names i (getD parents (suc v) 0)) (getD names (suc v) 0 + 1) pos small-v .0 h,
+      ) in
+      let parent =
+      code-one i (getD parents (suc v) 0) (getD parents (suc w) 0) (parent-below n parents names arrays (suc v) hv)
+      (parent-below n parents names arrays (suc w) hw) (omega (arith, enough)) above in
+      arrays .one-child (suc v) (suc w) (omega arith) (omega arith) hv hw parent last
 
 -- the root
 pub coded-root :

@@ -1,3 +1,4 @@
 -- Why codes give the classes by last names. Assumes nothing.
 pub mod CodeLaws
+pub mod AboveLaws
 pub mod ClassLaws

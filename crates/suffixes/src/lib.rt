@@ -1,19 +1,22 @@
 // Classes of the states of a prefix tree by their last names, and the partition by them. A state's class is the first state with
 // the same last names. The last names of each state are one number, its code, seven bits a name; states are compared by their
-// codes.
+// codes. For passes against the arcs the name before the last ones is a state's key.
 use cells::numbers::narrow16;
 use cells::numbers::wide16;
 ghost use mathlib.Core.Path.{_≡_};
-ghost use Prim.Native.Nat.{ℕ, _+_, _-_, _*_, _%_, _^_, _<_, _≤_};
+ghost use Prim.Native.Nat.{ℕ, suc, _+_, _-_, _*_, _/_, _%_, _^_, _<_, _≤_};
 ghost use lib.ListN.{length, getD};
 ghost use Rattle.model.specs.Limits.{name-limit, setting-limit};
 ghost use Rattle.indexed.specs.Trees.{Arrays};
-ghost use Rattle.indexed.specs.Passes.{SuffixClasses, BySuffix};
-ghost use Rattle.suffixes.specs.Codes.{least, Coded};
+ghost use Rattle.indexed.specs.Passes.{SuffixClasses, BySuffix, NamesAbove};
+ghost use Rattle.suffixes.specs.Codes.{least, Coded, TopName};
 ghost use Rattle.suffixes.specs.Classes.{above, Judged, Dropped, Kept, Grouped};
 
 // The class of a state with too few names: as many states as a tree may have.
 const NONE: u16 = 512;
+
+// The name above a state with too few names: as many as there may be.
+const NO_NAME: u8 = 64;
 
 // The class of the state before the last name of v.
 pub fn class_above(old: &[u16], parents: &[u16], v: usize) -> usize
@@ -56,13 +59,22 @@ fn least_code(i: usize) -> u64
     1u64 << (7 * (i - 1))
 }
 
+// A code with one name more at its end.
+fn longer(code: u64, name: u8) -> u64
+    requires { ⌜ code < 2 ^ 56 ⌝ }
+    requires { ⌜ name < name-limit ⌝ }
+    ensures { λ r. ⌜ r ≡ code * 128 + (name + 1) ⌝ }
+{
+    (code << 7) | (name as u64 + 1)
+}
+
 // A code with one name more at its end, cut to the bits of the mask.
 fn with_name(code: u64, name: u8, mask: u64) -> u64
     requires { ⌜ code < 2 ^ 56 ⌝ }
     requires { ⌜ name < name-limit ⌝ }
     ensures { λ r. ⌜ ((i : ℕ) → mask ≡ 2 ^ (7 * i) - 1 → r ≡ (code * 128 + (name + 1)) % 2 ^ (7 * i)) ⌝ }
 {
-    ((code << 7) | (name as u64 + 1)) & mask
+    longer(code, name) & mask
 }
 
 // The code of each state by its last i names, from that of the state before it.
@@ -77,6 +89,49 @@ fn codes(i: usize, parents: &[u16], names: &[u8], values: &mut [u64])
     while v < values.len() {
         let parent = wide16(parents[v]);
         values[v] = with_name(values[parent], names[v], mask);
+        v += 1;
+    }
+}
+
+// The first name of a code of j + 1 names; no name where there are fewer.
+fn top_name(j: usize, code: u64) -> u8
+    requires { ⌜ j ≤ setting-limit ⌝ }
+    requires { ⌜ code < 2 ^ (7 * suc j) ⌝ }
+    ensures { λ r. ⌜ TopName (code / 2 ^ (7 * j)) r ⌝ }
+{
+    let top = code >> (7 * j);
+    if top == 0 {
+        return NO_NAME;
+    }
+    (top - 1) as u8
+}
+
+// The code of each state by its last j names, and the name before these, no name where there is none: both from the code of the
+// state before it, with one name more, of which the j + 1-st is cut off.
+pub fn codes_and_names_above(
+    j: usize,
+    parents: &[u16],
+    names: &[u8],
+    values: &mut [u64],
+    keys: &mut [u8],
+)
+    requires arrays { ⌜ Arrays (length (now values)) (now parents) (now names) ⌝ }
+    requires few { ⌜ j ≤ setting-limit ⌝ }
+    requires keys_size { ⌜ length (now keys) ≡ length (now values) ⌝ }
+    ensures coded { λ _.
+        ⌜ Coded (length (now (values .entry))) j (now (parents .entry)) (now (names .entry)) (now (values .exit)) ⌝ }
+    ensures above { λ _.
+        ⌜ NamesAbove (length (now (values .entry))) j (now (parents .entry)) (now (names .entry)) (now (keys .exit)) ⌝ }
+{
+    let mask = mask_of(j);
+    values[0] = 0;
+    keys[0] = NO_NAME;
+    let mut v = 1;
+    while v < values.len() {
+        let parent = wide16(parents[v]);
+        let code = longer(values[parent], names[v]);
+        keys[v] = top_name(j, code);
+        values[v] = code & mask;
         v += 1;
     }
 }

@@ -1,2 +1,3 @@
--- Why lists of first states give the classes by value. Assumes nothing.
+-- Why the search by buckets finds the first accepting state with a value. Assumes nothing.
 pub mod BucketLaws
+pub mod EndLaws

@@ -1,2 +1,2 @@
--- What the search for the first state with a value promises. Assumes nothing.
+-- What the search for the first accepting state with a value promises. Assumes nothing.
 pub mod Buckets

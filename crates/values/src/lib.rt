@@ -1,14 +1,14 @@
-// Classes of states by a value that each of them has, a set or a code of names: a state's class is the first state with the same
-// value. The first states of values are kept in 512 lists, each value in the list of its bucket, so that a state is compared with
-// few others.
+// Groups of states by a value that each of them has, a set or a code of names: accepting states with one value are joined, each
+// by the first of them, and every other state is by itself; where all accept, these are the classes of equal values. The first
+// accepting states of values are kept in 512 lists, each value in the list of its bucket, so that a state is compared with few
+// others.
 use cells::numbers;
 ghost use mathlib.Core.Path.{_≡_};
-ghost use Prim.Native.Nat.{_<_, _≤_};
+ghost use Prim.Native.Nat.{_+_, _<_, _≤_};
 ghost use lib.ListN.{length, getD};
 ghost use Rattle.model.specs.Limits.{state-limit};
-ghost use Rattle.indexed.specs.Chains.{Chained};
-ghost use Rattle.indexed.specs.Passes.{ByValue};
-ghost use Rattle.values.specs.Buckets.{bucketOf, Listed, Linked, FirstAlike};
+ghost use Rattle.indexed.specs.Passes.{ByEnds, ByValue};
+ghost use Rattle.values.specs.Buckets.{bucketOf, Buckets, SomeBuckets, Linked, FirstAlike, EndLabel};
 
 // The bucket of a value: nine bits from the middle of the two halves' products with large odd numbers, so that values which differ
 // in few bits fall apart. A product of two numbers of 32 bits fits; its highest bits would be 0 for small values.
@@ -21,14 +21,15 @@ fn bucket(value: u64) -> usize
     (((low ^ high) >> 23) & 511) as usize
 }
 
-// The first state with the value of state v, sought in the list of the value's bucket, where the first state of each value is.
+// The first accepting state with the value of state v, which accepts, sought in the list of the value's bucket, where the first
+// of each value is. It asks of no state whether it accepts: whichever states are in the lists, those are the accepting ones.
 fn first_alike(values: &[u64], links: &[u16; 512], heads: &[u16; 512], b: usize, v: usize) -> usize
     requires few { ⌜ length (now values) ≤ state-limit ⌝ }
     requires inside { ⌜ v < length (now values) ⌝ }
     requires list { ⌜ b ≡ bucketOf (getD (now values) v 0) ⌝ }
     requires below { ⌜ b < state-limit ⌝ }
-    requires chained { ⌜ Chained v (Listed (now values)) (now links) (now heads) ⌝ }
-    ensures { λ r. ⌜ FirstAlike (now (values .entry)) v r ⌝ }
+    requires lists { ⌜ SomeBuckets (now values) v (now links) (now heads) ⌝ }
+    ensures { λ r. ⌜ FirstAlike (now (values .entry)) v (now (links .entry)) (now (heads .entry)) r ⌝ }
 {
     let value = values[v];
     let mut at = numbers::wide16(heads[b]);
@@ -56,20 +57,55 @@ fn link(links: &mut [u16; 512], heads: &mut [u16; 512], b: usize, v: usize, firs
     heads[b] = numbers::narrow16(v + 1);
 }
 
+// The group of state v, by the lists of the states before it, into which it is put where it is the first with its value.
+fn end_label(
+    accepts: &[u8],
+    values: &[u64],
+    links: &mut [u16; 512],
+    heads: &mut [u16; 512],
+    v: usize,
+) -> usize
+    requires few { ⌜ length (now values) ≤ state-limit ⌝ }
+    requires accepts_size { ⌜ length (now accepts) ≡ length (now values) ⌝ }
+    requires inside { ⌜ v < length (now values) ⌝ }
+    requires so_far { ⌜ Buckets (now accepts) (now values) v (now links) (now heads) ⌝ }
+    ensures label { λ r. ⌜ EndLabel (now (accepts .entry)) (now (values .entry)) v r ⌝ }
+    ensures with_it { λ _.
+        ⌜ Buckets (now (accepts .entry)) (now (values .entry)) (v + 1) (now (links .exit)) (now (heads .exit)) ⌝ }
+{
+    if accepts[v] != 1 {
+        return v;
+    }
+    let b = bucket(values[v]);
+    let first = first_alike(values, links, heads, b, v);
+    link(links, heads, b, v, first);
+    first
+}
+
+// Joins the accepting states of each value, and no others.
+pub fn by_ends(accepts: &[u8], values: &[u64], groups: &mut [u16])
+    requires few { ⌜ length (now groups) ≤ state-limit ⌝ }
+    requires accepts_size { ⌜ length (now accepts) ≡ length (now groups) ⌝ }
+    requires values_size { ⌜ length (now values) ≡ length (now groups) ⌝ }
+    ensures { λ _. ⌜ ByEnds (length (now (groups .entry))) (now (accepts .entry)) (now (values .entry)) (now (groups .exit)) ⌝ }
+{
+    let mut links = [0u16; 512];
+    let mut heads = [0u16; 512];
+    let mut v = 0;
+    while v < groups.len() {
+        let label = end_label(accepts, values, &mut links, &mut heads, v);
+        groups[v] = numbers::narrow16(label);
+        v += 1;
+    }
+}
+
 // Each state's class: the first state with the same value.
 pub fn classes_of(values: &[u64], classes: &mut [u16])
     requires few { ⌜ length (now classes) ≤ state-limit ⌝ }
     requires values_size { ⌜ length (now values) ≡ length (now classes) ⌝ }
     ensures { λ _. ⌜ ByValue (length (now (classes .entry))) (now (values .entry)) (now (classes .exit)) ⌝ }
 {
-    let mut links = [0u16; 512];
-    let mut heads = [0u16; 512];
-    let mut v = 0;
-    while v < classes.len() {
-        let b = bucket(values[v]);
-        let first = first_alike(values, &links, &heads, b, v);
-        classes[v] = numbers::narrow16(first);
-        link(&mut links, &mut heads, b, v, first);
-        v += 1;
-    }
+    let n = classes.len();
+    let all = [1u8; 512];
+    by_ends(&all[..n], values, classes);
 }

@@ -2,7 +2,7 @@
 use mathlib.Core.Path.{_≡_, sym}
 use Prim.Native.Nat.{ℕ}
 use lib.ListN.{length, take, replicate}
-use Rattle.functions.proofs.FillLaws.{cut, cut-at}
+use Rattle.indexed.proofs.Fills.{cut, cut-at}
 use borrow.Author.Needs.{needs}
 use Rattle.functions.proofs.join_by_last.Statement.{statement}
 use Rattle.functions.proofs.join_by_last.Tie as tie
@@ -19,8 +19,8 @@ array-share-prefix-none c = search needs
 slice-aggregate-join-last-in : tie.Need-slice-aggregate-join-last-in
 slice-aggregate-join-last-in c = cut-here (c .before .before .before .before .before .before) 64
 
-array-borrow-prefix-classes : tie.Need-array-borrow-prefix-classes
-array-borrow-prefix-classes c = search needs
+array-borrow-prefix-codes : tie.Need-array-borrow-prefix-codes
+array-borrow-prefix-codes c = search needs
 
 slice-aggregate-join-last-in-2 : tie.Need-slice-aggregate-join-last-in-2
 slice-aggregate-join-last-in-2 c = cut-here (c .before .before .before .before .before .before .before) 0
@@ -62,7 +62,7 @@ join-by-last-spec =
     (tie.spec
     array-share-prefix-none
     slice-aggregate-join-last-in
-    array-borrow-prefix-classes
+    array-borrow-prefix-codes
     slice-aggregate-join-last-in-2
     array-borrow-prefix-keys
     slice-aggregate-join-last-in-3

@@ -2,7 +2,7 @@
 use mathlib.Core.Path.{_≡_, sym}
 use Prim.Native.Nat.{ℕ}
 use lib.ListN.{length, take, replicate}
-use Rattle.functions.proofs.FillLaws.{cut}
+use Rattle.indexed.proofs.Fills.{cut}
 use borrow.Author.Needs.{needs}
 use Rattle.functions.proofs.join_by_seen.Statement.{statement}
 use Rattle.functions.proofs.join_by_seen.Tie as tie
@@ -19,36 +19,30 @@ array-borrow-prefix-sets c = search needs
 slice-aggregate-join-seen-in : tie.Need-slice-aggregate-join-seen-in
 slice-aggregate-join-seen-in c = cut-here (c .before .before .before .before .before .before) 0
 
-array-borrow-prefix-classes : tie.Need-array-borrow-prefix-classes
-array-borrow-prefix-classes c = search needs
+array-borrow-prefix-enlarging : tie.Need-array-borrow-prefix-enlarging
+array-borrow-prefix-enlarging c = search needs
 
 slice-aggregate-join-seen-in-2 : tie.Need-slice-aggregate-join-seen-in-2
 slice-aggregate-join-seen-in-2 c = cut-here (c .before .before .before .before .before .before .before) 0
 
-array-borrow-prefix-enlarging : tie.Need-array-borrow-prefix-enlarging
-array-borrow-prefix-enlarging c = search needs
+array-borrow-prefix-others : tie.Need-array-borrow-prefix-others
+array-borrow-prefix-others c = search needs
 
 slice-aggregate-join-seen-in-3 : tie.Need-slice-aggregate-join-seen-in-3
 slice-aggregate-join-seen-in-3 c = cut-here (c .before .before .before .before .before .before .before .before) 0
 
-array-borrow-prefix-others : tie.Need-array-borrow-prefix-others
-array-borrow-prefix-others c = search needs
+array-borrow-prefix-numbers : tie.Need-array-borrow-prefix-numbers
+array-borrow-prefix-numbers c = search needs
 
 slice-aggregate-join-seen-in-4 : tie.Need-slice-aggregate-join-seen-in-4
 slice-aggregate-join-seen-in-4 c = cut-here (c .before .before .before .before .before .before .before .before .before) 0
 
-array-borrow-prefix-numbers : tie.Need-array-borrow-prefix-numbers
-array-borrow-prefix-numbers c = search needs
-
-slice-aggregate-join-seen-in-5 : tie.Need-slice-aggregate-join-seen-in-5
-slice-aggregate-join-seen-in-5 c = cut-here (c .before .before .before .before .before .before .before .before .before .before) 0
-
 join-seen-in-requires : tie.Need-join-seen-in-requires
 join-seen-in-requires c κs =
-    let at = c .before .before .before .before .before .before .before .before .before .before .before .before in
+    let at = c .before .before .before .before .before .before .before .before .before .before .before in
     let n = length (at .args .groups .now) in
     let zeros = sym (cut n 0 (at .pre .arrays .few-states)) in
-    (at .pre, (zeros, (zeros, (zeros, (zeros, zeros)))))
+    (at .pre, (zeros, (zeros, (zeros, zeros))))
 
 same-length : tie.Need-same-length
 same-length c = search needs
@@ -65,14 +59,12 @@ join-by-seen-spec =
     (tie.spec
     array-borrow-prefix-sets
     slice-aggregate-join-seen-in
-    array-borrow-prefix-classes
-    slice-aggregate-join-seen-in-2
     array-borrow-prefix-enlarging
-    slice-aggregate-join-seen-in-3
+    slice-aggregate-join-seen-in-2
     array-borrow-prefix-others
-    slice-aggregate-join-seen-in-4
+    slice-aggregate-join-seen-in-3
     array-borrow-prefix-numbers
-    slice-aggregate-join-seen-in-5
+    slice-aggregate-join-seen-in-4
     join-seen-in-requires
     same-length
     same-length-2

@@ -1,14 +1,17 @@
 -- `suffixes::with_name` meets its contract. Assumes nothing.
-use Rattle.suffixes.proofs.CodeLaws.{named}
+use Prim.Native.Nat.{_+_, _*_}
+use Rattle.suffixes.proofs.CodeLaws.{masked}
 use borrow.Author.Needs.{needs}
 use Rattle.suffixes.proofs.with_name.Statement.{statement}
 use Rattle.suffixes.proofs.with_name.Tie as tie
 
-add-result : tie.Need-add-result
-add-result c = search needs
+longer-requires : tie.Need-longer-requires
+longer-requires c κs = search needs
 
 returns : tie.Need-returns
-returns c = named (c .args .code) (c .args .name) (c .args .mask) (c .pre .0) (c .pre .1)
+returns c =
+    let args = c .before .args in
+    λ i ones. masked (c .longer .result) (args .code * 128 + (args .name + 1)) (args .mask) i (c .longer .ensures) ones
 
 pub with-name-spec : {M : Type 1} → statement M
-with-name-spec = tie.close (tie.spec add-result returns)
+with-name-spec = tie.close (tie.spec longer-requires returns)

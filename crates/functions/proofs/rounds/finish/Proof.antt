@@ -30,7 +30,7 @@ close-requires c κs =
     let own = ends .before .before .before .before in
     let at = from-own own in (
       finish-ready (length (at .args .groups .now)) (at .args .parents .now) (at .args .names .now) (at .args .accepts .now)
-          (at .args .classes .now) (at .args .keys .now) (at .args .more .now) (own .own .last .0) (ends .by-ends .last .1 .1 .0)
+          (at .args .values .now) (at .args .keys .now) (at .args .more .now) (own .own .last .0) (ends .by-ends .last .1 .1 .0)
           (at .pre .0)
           (own-here own) (ends .by-ends .ensures .labelled),
       at .pre .1 .1,
@@ -52,7 +52,7 @@ returns c =
     let own = ends .before .before .before .before in
     let at = from-own own in
     finished (length (at .args .groups .now)) (at .args .parents .now) (at .args .names .now) (at .args .accepts .now)
-    (at .args .classes .now) (at .args .keys .now) (at .args .more .now) (own .own .last .0) (ends .by-ends .last .1 .1 .0)
+    (at .args .values .now) (at .args .keys .now) (at .args .more .now) (own .own .last .0) (ends .by-ends .last .1 .1 .0)
     (closes .close .last .1 .1 .1 .1 .1 .0) (own-here own) (ends .by-ends .ensures) (closes .close .ensures)
 
 pub finish-spec : {M : Type 1} → statement M

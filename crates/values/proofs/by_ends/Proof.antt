@@ -1,50 +1,43 @@
--- `by_ends` meets its contract. The invariant of its loop: the first v groups are right, and so are the first accepting
--- states of the classes among the first v states. Assumes nothing.
+-- `values::by_ends` meets its contract. The invariant of its loop: the first v groups are right, and the lists are those of the
+-- first v states. Assumes nothing.
 use mathlib.Core.Path.{sym, _∙_, subst}
-use Prim.Native.Nat.{ℕ, _-_, _≤_}
+use Prim.Native.Nat.{_-_, _≤_}
 use native.Mathlib.Omega.{arith}
 use lib.ListN.{length}
-use Rattle.functions.specs.Parts.{Firsts, EndLabel}
-use Rattle.indexed.specs.Partitions.{Labelled}
 use Rattle.indexed.proofs.Fills.{Filled, filled-none, filled-more}
-use Rattle.functions.proofs.EndLaws.{by-ends-all, label-low, firsts-none}
-use Rattle.functions.proofs.ends.by_ends.Statement.{statement}
-use Rattle.functions.proofs.ends.by_ends.Tie as tie
+use Rattle.values.specs.Buckets.{Buckets, EndLabel}
+use Rattle.values.proofs.BucketLaws.{buckets-none}
+use Rattle.values.proofs.EndLaws.{by-ends-all, label-low}
+use Rattle.values.proofs.by_ends.Statement.{statement}
+use Rattle.values.proofs.by_ends.Tie as tie
 
 abbrev Inv-loop : tie.InvT-loop
-Inv-loop accepts classes groups₀ firsts₀ v₀ groups firsts v =
-    (v ≤ length groups₀) × Filled (EndLabel accepts classes) v groups₀ groups × Firsts accepts classes v firsts
+Inv-loop accepts values groups₀ links₀ heads₀ v₀ groups links heads v =
+    (v ≤ length groups₀) × Filled (EndLabel accepts values) v groups₀ groups × Buckets accepts values v links heads
 
 abbrev μ-loop : tie.MeasureT-loop
-μ-loop accepts classes groups₀ firsts₀ v₀ groups firsts v = length groups₀ - v
+μ-loop accepts values groups₀ links₀ heads₀ v₀ groups links heads v = length groups₀ - v
 
 loop-holds : tie.Need-loop-holds Inv-loop μ-loop
 loop-holds c =
     let at = c .before .before .before in
-    (omega arith, filled-none _ _, firsts-none (at .args .accepts .now) (at .args .classes .now))
+    (omega arith, filled-none _ _, buckets-none (at .args .accepts .now) (at .args .values .now))
 
 end-label-requires : tie.Need-end-label-requires Inv-loop μ-loop
 end-label-requires c κs =
-    let here = c .before .before in
-    let at = here .before .before .before .before in
-    let size = at .pre .1 .1 .size in (
-      omega (arith, at .pre .0),
-      (
-        at .pre .1 .0 ∙ sym size,
-        (
-          subst (λ (m : ℕ). Labelled m (at .args .classes .now)) (sym size) (at .pre .1 .1),
-          (omega arith, here .loop .inv .2),
-        ),
-      ),
+    let here = c .before .before .before in
+    let at = here .before .before .before .before in (
+      omega (arith, at .pre .0, at .pre .1 .1),
+      (at .pre .1 .0 ∙ sym (at .pre .1 .1), (omega (arith, at .pre .1 .1), here .loop .inv .2)),
     )
 
 narrow16-requires : tie.Need-narrow16-requires Inv-loop μ-loop
 narrow16-requires c κs =
-    let here = c .before .before .before in
+    let here = c .before .before .before .before in
     let at = here .before .before .before .before in
     omega (
       arith,
-      label-low (at .args .accepts .now) (at .args .classes .now) (here .loop .v) (c .end-label .result)
+      label-low (at .args .accepts .now) (at .args .values .now) (here .loop .v) (c .end-label .result)
           (c .end-label .ensures .0),
       at .pre .0,
     )
@@ -64,12 +57,12 @@ loop-less c = omega arith
 loop-again : tie.Need-loop-again Inv-loop μ-loop
 loop-again c =
     let labels = c .before in
-    let here = labels .before .before .before in
+    let here = labels .before .before .before .before in
     let at = here .before .before .before .before in (
       omega arith,
-      filled-more (EndLabel (at .args .accepts .now) (at .args .classes .now)) (here .loop .v) (c .narrow16 .result)
+      filled-more (EndLabel (at .args .accepts .now) (at .args .values .now)) (here .loop .v) (c .narrow16 .result)
           (at .args .groups .now) (here .loop .groups) (omega arith)
-          (subst (EndLabel (at .args .accepts .now) (at .args .classes .now) (here .loop .v)) (sym (c .narrow16 .ensures))
+          (subst (EndLabel (at .args .accepts .now) (at .args .values .now) (here .loop .v)) (sym (c .narrow16 .ensures))
           (labels .end-label .ensures .0))
           (here .loop .inv .1),
       labels .end-label .ensures .1,
@@ -82,7 +75,7 @@ returns : tie.Need-returns Inv-loop μ-loop
 returns c =
     let here = c .before in
     let at = here .before .before .before .before in
-    by-ends-all (here .loop .v) (at .args .accepts .now) (at .args .classes .now) (at .args .groups .now) (here .loop .groups)
+    by-ends-all (here .loop .v) (at .args .accepts .now) (at .args .values .now) (at .args .groups .now) (here .loop .groups)
     (omega (arith, here .loop .inv .1 .size)) (here .loop .inv .1)
 
 pub by-ends-spec : {M : Type 1} → statement M
