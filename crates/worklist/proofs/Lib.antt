@@ -1,0 +1,3 @@
+-- Laws that the functions of this crate rest on. Assumes nothing.
+pub mod KindLaws
+pub mod SettleLaws
