@@ -10,7 +10,7 @@ use Rattle.indexed.specs.Partitions.{Refines, Labelled}
 use Rattle.indexed.specs.Passes.{relabelled}
 use Rattle.indexed.proofs.Keys.{number-at, numbers-length, relabelled-labelled, relabelled-coarser, relabelled-refines}
 use Rattle.indexed.proofs.Keys.{relabelled-joins}
-use Rattle.worklist.specs.Lists.{Grew}
+use Rattle.worklist.specs.Lists.{Sorted, Grew, Merged}
 use Rattle.worklist.specs.Settling.{RoundReady, RoundClosed, JoinedUntil, Joins, FilledAll, MergedAll, Settling}
 use Rattle.worklist.proofs.KindLaws.{Each, each-shorter, each-longer, each-later, each-first, grew-twice, kind-more}
 use Rattle.worklist.proofs.KindLaws.{kind-filled, kind-closed, kind-merged, filled-safe, merged-safe, filled-inside}
@@ -23,6 +23,23 @@ One groups x y = getD groups x 0 ≡ getD groups y 0
 -- both states of a pair are states
 abbrev Two : ℕ → ℕ → ℕ → Type 0
 Two n x y = (x < n) × (y < n)
+
+-- lists by the number of their keys
+pub sorted-by-keys :
+    (n : ℕ) (keys rows links heads : List ℕ) → Sorted n keys rows links heads → Sorted (length keys) keys rows links heads
+sorted-by-keys n keys rows links heads sorted =
+    subst (λ (m : ℕ). Sorted m keys rows links heads) (sym (sorted .keys-size)) sorted
+
+-- lists merged, by the number of states
+pub merged-by-states :
+    (n : ℕ) (outs keys rows links heads : List ℕ) (to from : ℕ) (links′ heads′ firsts seconds firsts′ seconds′ : List ℕ)
+    (tail tail′ : ℕ) → Sorted n keys rows links heads →
+    (Sorted (length keys) keys rows links heads →
+    Merged (length keys) outs keys rows to from links′ heads′ firsts seconds firsts′ seconds′ tail tail′) →
+    Merged n outs keys rows to from links′ heads′ firsts seconds firsts′ seconds′ tail tail′
+merged-by-states n outs keys rows links heads to from links′ heads′ firsts seconds firsts′ seconds′ tail tail′ sorted merged =
+    subst (λ (m : ℕ). Merged m outs keys rows to from links′ heads′ firsts seconds firsts′ seconds′ tail tail′)
+    (sorted .keys-size) (merged (sorted-by-keys n keys rows links heads sorted))
 
 module _ (n : ℕ) (parents names numbers keys more : List ℕ) where
   pub numbers-size : (groups : List ℕ) → RoundReady n parents names numbers keys more groups → length numbers ≡ n
