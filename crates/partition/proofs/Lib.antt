@@ -4,3 +4,4 @@ pub mod JoinLaws
 pub mod StepLaws
 pub mod ClimbLaws
 pub mod PassLaws
+pub mod ForestLaws
