@@ -3,6 +3,7 @@
 pub mod lists;
 
 use cells::numbers::wide16;
+use partition::forest;
 ghost use mathlib.Core.Path.{_≡_};
 ghost use mathlib.Core.List.{List};
 ghost use Prim.Native.Nat.{ℕ, _<_, _≤_};
@@ -82,4 +83,118 @@ fn merge_all(
     let forks = lists::merge(numbers, names, links1, heads1, firsts, seconds, tail, to, from);
     let backs = lists::merge(parents, keys, links2, heads2, firsts, seconds, forks, to, from);
     lists::merge(parents, more, links3, heads3, firsts, seconds, backs, to, from)
+}
+
+// Joins the pair at `done`, where its states are of two groups, and merges the lists of both. Returns the queue's tail.
+fn settle_at(
+    parents: &[u16],
+    names: &[u8],
+    numbers: &[u16],
+    keys: &[u8],
+    more: &[u8],
+    groups: &mut [u16],
+    links1: &mut [u16; 512],
+    heads1: &mut [u16; 512],
+    links2: &mut [u16; 512],
+    heads2: &mut [u16; 512],
+    links3: &mut [u16; 512],
+    heads3: &mut [u16; 512],
+    firsts: &mut [u16; 1536],
+    seconds: &mut [u16; 1536],
+    done: usize,
+    tail: usize,
+) -> usize
+    requires forest { ⌜ Forest (length (now groups)) (now groups) ⌝ }
+    requires settling { ⌜ ((start : List ℕ) ×
+        Settling (length (now groups)) (now parents) (now names) (now numbers) (now keys) (now more) start (rootsOf (now groups))
+        (now links1) (now heads1) (now links2) (now heads2) (now links3) (now heads3) (now firsts) (now seconds) done tail) ⌝ }
+    requires due { ⌜ done < tail ⌝ }
+    ensures { λ r.
+        ⌜ SettledAt (length (now (groups .entry))) (now (parents .entry)) (now (names .entry)) (now (numbers .entry))
+        (now (keys .entry)) (now (more .entry)) (now (groups .entry)) (now (groups .exit)) (now (links1 .entry))
+        (now (heads1 .entry)) (now (links2 .entry)) (now (heads2 .entry)) (now (links3 .entry)) (now (heads3 .entry))
+        (now (links1 .exit)) (now (heads1 .exit)) (now (links2 .exit)) (now (heads2 .exit)) (now (links3 .exit))
+        (now (heads3 .exit)) (now (firsts .entry)) (now (seconds .entry)) (now (firsts .exit)) (now (seconds .exit)) done tail r ⌝ }
+{
+    let x = forest::find(groups, wide16(firsts[done]));
+    let y = forest::find(groups, wide16(seconds[done]));
+    if x < y {
+        forest::unite(groups, x, y);
+        return merge_all(
+            parents, names, numbers, keys, more, links1, heads1, links2, heads2, links3, heads3, firsts, seconds, tail, x, y,
+        );
+    }
+    if y < x {
+        forest::unite(groups, y, x);
+        return merge_all(
+            parents, names, numbers, keys, more, links1, heads1, links2, heads2, links3, heads3, firsts, seconds, tail, y, x,
+        );
+    }
+    tail
+}
+
+// Joins pair after pair, until none is left in the queue.
+fn settle(
+    parents: &[u16],
+    names: &[u8],
+    numbers: &[u16],
+    keys: &[u8],
+    more: &[u8],
+    groups: &mut [u16],
+    links1: &mut [u16; 512],
+    heads1: &mut [u16; 512],
+    links2: &mut [u16; 512],
+    heads2: &mut [u16; 512],
+    links3: &mut [u16; 512],
+    heads3: &mut [u16; 512],
+    firsts: &mut [u16; 1536],
+    seconds: &mut [u16; 1536],
+    tail: usize,
+)
+    requires forest { ⌜ Forest (length (now groups)) (now groups) ⌝ }
+    requires settling { ⌜ ((start : List ℕ) ×
+        Settling (length (now groups)) (now parents) (now names) (now numbers) (now keys) (now more) start (rootsOf (now groups))
+        (now links1) (now heads1) (now links2) (now heads2) (now links3) (now heads3) (now firsts) (now seconds) 0 tail) ⌝ }
+    ensures { λ _.
+        ⌜ SettledAll (length (now (groups .entry))) (now (parents .entry)) (now (names .entry)) (now (numbers .entry))
+        (now (keys .entry)) (now (more .entry)) (now (groups .entry)) (now (groups .exit)) (now (links1 .entry))
+        (now (heads1 .entry)) (now (links2 .entry)) (now (heads2 .entry)) (now (links3 .entry)) (now (heads3 .entry))
+        (now (firsts .entry)) (now (seconds .entry)) tail ⌝ }
+{
+    let mut done = 0;
+    let mut end = tail;
+    while done < end {
+        end = settle_at(
+            parents, names, numbers, keys, more, groups, links1, heads1, links2, heads2, links3, heads3, firsts, seconds, done, end,
+        );
+        done += 1;
+    }
+}
+
+// Joins groups until the partition is closed under forks and under both sets of keys against the arcs.
+pub fn close(parents: &[u16], names: &[u8], numbers: &[u16], keys: &[u8], more: &[u8], groups: &mut [u16])
+    requires ready { ⌜ RoundReady (length (now groups)) (now parents) (now names) (now numbers) (now keys) (now more) (now groups) ⌝ }
+    ensures { λ _.
+        ⌜ JoinedUntil
+        (RoundClosed (length (now (groups .entry))) (now (parents .entry)) (now (names .entry)) (now (numbers .entry))
+        (now (keys .entry)) (now (more .entry)))
+        (length (now (groups .entry))) (now (groups .entry)) (now (groups .exit)) ⌝ }
+{
+    let mut links1 = [0u16; 512];
+    let mut heads1 = [0u16; 512];
+    let mut links2 = [0u16; 512];
+    let mut heads2 = [0u16; 512];
+    let mut links3 = [0u16; 512];
+    let mut heads3 = [0u16; 512];
+    let mut firsts = [0u16; 1536];
+    let mut seconds = [0u16; 1536];
+    let tail = fill_all(
+        parents, names, numbers, keys, more, groups, &mut links1, &mut heads1, &mut links2, &mut heads2, &mut links3, &mut heads3,
+        &mut firsts, &mut seconds,
+    );
+    settle(
+        parents, names, numbers, keys, more, groups, &mut links1, &mut heads1, &mut links2, &mut heads2, &mut links3, &mut heads3,
+        &mut firsts, &mut seconds, tail,
+    );
+    forest::flatten(groups);
 }
