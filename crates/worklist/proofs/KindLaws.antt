@@ -4,7 +4,7 @@ use mathlib.Core.Path.{_≡_, refl, sym, ap, _∙_, subst, subst₂}
 use mathlib.Core.Logic.{_⊎_, inl, inr}
 use mathlib.Core.Bool.{Bool, true, false}
 use mathlib.Core.List.{List}
-use Prim.Native.Nat.{ℕ, suc, _+_, _<_, _≤_}
+use Prim.Native.Nat.{ℕ, suc, _<_, _≤_}
 use native.Mathlib.Omega.{arith}
 use lib.Dec.{ltb}
 use lib.ListN.{length, getD}
@@ -158,9 +158,9 @@ module _ (n : ℕ) (ins outs keys : List ℕ) where
       let row : getD rows (at-v .arc) 0 ≡ getD rows (at-w .arc) 0 = at-v .listed ∙ one ∙ sym (at-w .listed) in
       let key : getD keys (at-v .arc) 0 ≡ getD keys (at-w .arc) 0 = at-v .keyed ∙ same-key ∙ sym (at-w .keyed) in
       let listed : getD rows (at-v .arc) 0 < state-limit =
-          subst (λ (g : ℕ). g < state-limit) (sym (at-v .listed)) (labels v hv) in
+      subst (λ (g : ℕ). g < state-limit) (sym (at-v .listed)) (labels v hv) in
       let arcs : at-v .arc ≡ at-w .arc =
-          kind .sorted .single (at-v .arc) (at-w .arc) (at-v .inside) (at-w .inside) listed row key in
+      kind .sorted .single (at-v .arc) (at-w .arc) (at-v .inside) (at-w .inside) listed row key in
       sym (at-v .one groups (λ a b ha hb e. e) none) ∙ ap (λ (x : ℕ). getD groups (getD outs x 0) 0) arcs
       ∙ at-w .one groups (λ a b ha hb e. e) none
 
@@ -176,7 +176,7 @@ module _ (n : ℕ) (ins outs keys : List ℕ) where
       let same-key : getD keys (pair .0) 0 ≡ getD keys (pair .1) 0 = pair .5 in
       let key-c : getD keys (pair .0) 0 < name-limit = omega arith in
       let in-one : getD others (getD ins (pair .0) 0) 0 ≡ getD others (getD ins (pair .1) 0) 0 =
-          refines (getD ins (pair .0) 0) (getD ins (pair .1) 0) (below (pair .0) (pair .2)) (below (pair .1) (pair .3)) (pair .6) in
+      refines (getD ins (pair .0) 0) (getD ins (pair .1) 0) (below (pair .0) (pair .2)) (below (pair .1) (pair .3)) (pair .6) in
       ap (λ (x : ℕ). getD others x 0) (pair .7)
       ∙ closed (pair .0) (pair .1) (pair .2) (pair .3) key-c same-key in-one
       ∙ ap (λ (x : ℕ). getD others x 0) (sym (pair .8))
@@ -310,13 +310,13 @@ module _ (n : ℕ) (ins outs keys : List ℕ) where
           let listed-c : getD rows (pair .0) 0 < state-limit = omega arith in
           let listed-u : getD rows (pair .1) 0 < state-limit = omega arith in
           let was-to : getD groups (getD ins (pair .0) 0) 0 ≡ to =
-              sym (kind .placed (pair .0) (pair .2) listed-c) ∙ in-to in
+          sym (kind .placed (pair .0) (pair .2) listed-c) ∙ in-to in
           let was-from : getD groups (getD ins (pair .1) 0) 0 ≡ from =
-              sym (kind .placed (pair .1) (pair .3) listed-u) ∙ in-from in
+          sym (kind .placed (pair .1) (pair .3) listed-u) ∙ in-from in
           let in-one : getD others (getD ins (pair .0) 0) 0 ≡ getD others (getD ins (pair .1) 0) 0 =
-              refines (getD ins (pair .0) 0) (getD ins (pair .1) 0) (below (pair .0) (pair .2)) (below (pair .1) (pair .3))
-              (is-to (pair .0) (inl was-to) (new-label (pair .0) (pair .2))
-              ∙ sym (is-to (pair .1) (inr was-from) (new-label (pair .1) (pair .3)))) in
+          refines (getD ins (pair .0) 0) (getD ins (pair .1) 0) (below (pair .0) (pair .2)) (below (pair .1) (pair .3))
+          (is-to (pair .0) (inl was-to) (new-label (pair .0) (pair .2))
+          ∙ sym (is-to (pair .1) (inr was-from) (new-label (pair .1) (pair .3)))) in
           ap (λ (x : ℕ). getD others x 0) (pair .7)
           ∙ closed (pair .0) (pair .1) (pair .2) (pair .3) (kind .sorted .keyed (pair .0) (pair .2) listed-c) (pair .6) in-one
           ∙ ap (λ (x : ℕ). getD others x 0) (sym (pair .8))

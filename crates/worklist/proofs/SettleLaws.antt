@@ -1,8 +1,8 @@
 -- Laws of settling, all three kinds of arcs together: how it starts, what a pair skipped and a pair joined keep, and that it ends
 -- closed. Assumes nothing.
-use mathlib.Core.Path.{_≡_, refl, sym, ap, _∙_, subst}
+use mathlib.Core.Path.{_≡_, sym, ap, _∙_, subst}
 use mathlib.Core.List.{List}
-use Prim.Native.Nat.{ℕ, suc, _+_, _<_, _≤_}
+use Prim.Native.Nat.{ℕ, suc, _<_, _≤_}
 use native.Mathlib.Omega.{arith}
 use lib.ListN.{length, getD}
 use Rattle.model.specs.Limits.{state-limit}
@@ -12,12 +12,12 @@ use Rattle.indexed.proofs.Keys.{number-at, numbers-length, relabelled-labelled,
 use Rattle.indexed.proofs.Keys.{relabelled-joins}
 use Rattle.worklist.specs.Lists.{Sorted, Grew, Merged}
 use Rattle.worklist.specs.Settling.{RoundReady, RoundClosed, JoinedUntil, Joins, FilledAll, MergedAll, Settling}
-use Rattle.worklist.proofs.KindLaws.{Each, each-shorter, each-longer, each-later, each-first, grew-twice, kind-more}
+use Rattle.worklist.proofs.KindLaws.{each-shorter, each-longer, each-later, each-first, grew-twice, kind-more}
 use Rattle.worklist.proofs.KindLaws.{kind-filled, kind-closed, kind-merged, filled-safe, merged-safe, filled-inside}
 use Rattle.worklist.proofs.KindLaws.{merged-inside}
 
 -- a partition has both states of a pair in one group
-abbrev One : List ℕ → ℕ → ℕ → Type 0
+abbrev pub One : List ℕ → ℕ → ℕ → Type 0
 One groups x y = getD groups x 0 ≡ getD groups y 0
 
 -- both states of a pair are states
@@ -118,8 +118,8 @@ module _ (n : ℕ) (parents names numbers keys more : List ℕ) where
               (by .forks) refines)
               (filled-safe n numbers parents keys groups bl bh f₁ s₁ f₂ s₂ t₁ t₂ (numbers-below groups ready) (all .backs) closed
               (by .backs) refines))
-              (filled-safe n numbers parents more groups ml mh f₂ s₂ f′ s′ t₂ tail (numbers-below groups ready) (all .others) closed
-              (by .others) refines),
+              (filled-safe n numbers parents more groups ml mh f₂ s₂ f′ s′ t₂ tail (numbers-below groups ready) (all .others)
+              closed (by .others) refines),
         );
         inside =
             each-longer (Two n) f₂ s₂ f′ s′ 0 t₂ tail grew₃

@@ -10,9 +10,8 @@ ghost use Prim.Native.Nat.{ℕ, _<_, _≤_};
 ghost use lib.ListN.{length, getD};
 ghost use Rattle.model.specs.Limits.{state-limit};
 ghost use Rattle.partition.specs.Forests.{Forest, rootsOf};
-ghost use Rattle.worklist.specs.Lists.{pair-limit};
 ghost use Rattle.worklist.specs.Settling.{RoundReady, RoundClosed, JoinedUntil, FilledAll, ListedAll, MergedAll};
-ghost use Rattle.worklist.specs.Settling.{Settling, SettledAt, SettledAll};
+ghost use Rattle.worklist.specs.Settling.{JoinedRoots, Settling, SettledAt, SettledAll};
 
 // Puts all arcs of three kinds into their lists. Returns the queue's tail.
 fn fill_all(
@@ -41,9 +40,39 @@ fn fill_all(
         (now (links2 .exit)) (now (heads2 .exit)) (now (links3 .exit)) (now (heads3 .exit)) (now (firsts .entry))
         (now (seconds .entry)) (now (firsts .exit)) (now (seconds .exit)) 0 r ⌝ }
 {
-    let forks = lists::fill(parents, numbers, names, groups, links1, heads1, firsts, seconds, 0);
-    let backs = lists::fill(numbers, parents, keys, groups, links2, heads2, firsts, seconds, forks);
-    lists::fill(numbers, parents, more, groups, links3, heads3, firsts, seconds, backs)
+    let forks = lists::fill(
+        parents,
+        numbers,
+        names,
+        groups,
+        links1,
+        heads1,
+        firsts,
+        seconds,
+        0,
+    );
+    let backs = lists::fill(
+        numbers,
+        parents,
+        keys,
+        groups,
+        links2,
+        heads2,
+        firsts,
+        seconds,
+        forks,
+    );
+    lists::fill(
+        numbers,
+        parents,
+        more,
+        groups,
+        links3,
+        heads3,
+        firsts,
+        seconds,
+        backs,
+    )
 }
 
 // Merges the lists of two groups, of all three kinds. Returns the queue's tail.
@@ -80,9 +109,67 @@ fn merge_all(
         (now (heads1 .exit)) (now (links2 .exit)) (now (heads2 .exit)) (now (links3 .exit)) (now (heads3 .exit))
         (now (firsts .entry)) (now (seconds .entry)) (now (firsts .exit)) (now (seconds .exit)) tail r) ⌝ }
 {
-    let forks = lists::merge(numbers, names, links1, heads1, firsts, seconds, tail, to, from);
-    let backs = lists::merge(parents, keys, links2, heads2, firsts, seconds, forks, to, from);
-    lists::merge(parents, more, links3, heads3, firsts, seconds, backs, to, from)
+    let forks = lists::merge(
+        numbers,
+        names,
+        links1,
+        heads1,
+        firsts,
+        seconds,
+        tail,
+        to,
+        from,
+    );
+    let backs = lists::merge(
+        parents,
+        keys,
+        links2,
+        heads2,
+        firsts,
+        seconds,
+        forks,
+        to,
+        from,
+    );
+    lists::merge(
+        parents,
+        more,
+        links3,
+        heads3,
+        firsts,
+        seconds,
+        backs,
+        to,
+        from,
+    )
+}
+
+// Two groups by their roots: the higher goes into the lower. One group where both are the same.
+struct Roots {
+    to: usize,
+    from: usize,
+}
+
+// Makes the groups of two states one.
+fn join_roots(groups: &mut [u16], v: usize, w: usize) -> Roots
+    requires forest { ⌜ Forest (length (now groups)) (now groups) ⌝ }
+    requires few { ⌜ length (now groups) ≤ state-limit ⌝ }
+    requires v_inside { ⌜ v < length (now groups) ⌝ }
+    requires w_inside { ⌜ w < length (now groups) ⌝ }
+    ensures { λ r.
+        ⌜ JoinedRoots (length (now (groups .entry))) (now (groups .entry)) (now (groups .exit)) v w (r .to) (r .from) ⌝ }
+{
+    let x = forest::find(groups, v);
+    let y = forest::find(groups, w);
+    if x < y {
+        forest::unite(groups, x, y);
+        return Roots { to: x, from: y };
+    }
+    if y < x {
+        forest::unite(groups, y, x);
+        return Roots { to: y, from: x };
+    }
+    Roots { to: x, from: x }
 }
 
 // Joins the pair at `done`, where its states are of two groups, and merges the lists of both. Returns the queue's tail.
@@ -114,23 +201,31 @@ fn settle_at(
         (now (keys .entry)) (now (more .entry)) (now (groups .entry)) (now (groups .exit)) (now (links1 .entry))
         (now (heads1 .entry)) (now (links2 .entry)) (now (heads2 .entry)) (now (links3 .entry)) (now (heads3 .entry))
         (now (links1 .exit)) (now (heads1 .exit)) (now (links2 .exit)) (now (heads2 .exit)) (now (links3 .exit))
-        (now (heads3 .exit)) (now (firsts .entry)) (now (seconds .entry)) (now (firsts .exit)) (now (seconds .exit)) done tail r ⌝ }
+        (now (heads3 .exit)) (now (firsts .entry)) (now (seconds .entry)) (now (firsts .exit)) (now (seconds .exit)) done tail
+        r ⌝ }
 {
-    let x = forest::find(groups, wide16(firsts[done]));
-    let y = forest::find(groups, wide16(seconds[done]));
-    if x < y {
-        forest::unite(groups, x, y);
-        return merge_all(
-            parents, names, numbers, keys, more, links1, heads1, links2, heads2, links3, heads3, firsts, seconds, tail, x, y,
-        );
+    let roots = join_roots(groups, wide16(firsts[done]), wide16(seconds[done]));
+    if roots.to == roots.from {
+        return tail;
     }
-    if y < x {
-        forest::unite(groups, y, x);
-        return merge_all(
-            parents, names, numbers, keys, more, links1, heads1, links2, heads2, links3, heads3, firsts, seconds, tail, y, x,
-        );
-    }
-    tail
+    merge_all(
+        parents,
+        names,
+        numbers,
+        keys,
+        more,
+        links1,
+        heads1,
+        links2,
+        heads2,
+        links3,
+        heads3,
+        firsts,
+        seconds,
+        tail,
+        roots.to,
+        roots.from,
+    )
 }
 
 // Joins pair after pair, until none is left in the queue.
@@ -165,14 +260,36 @@ fn settle(
     let mut end = tail;
     while done < end {
         end = settle_at(
-            parents, names, numbers, keys, more, groups, links1, heads1, links2, heads2, links3, heads3, firsts, seconds, done, end,
+            parents,
+            names,
+            numbers,
+            keys,
+            more,
+            groups,
+            links1,
+            heads1,
+            links2,
+            heads2,
+            links3,
+            heads3,
+            firsts,
+            seconds,
+            done,
+            end,
         );
         done += 1;
     }
 }
 
 // Joins groups until the partition is closed under forks and under both sets of keys against the arcs.
-pub fn close(parents: &[u16], names: &[u8], numbers: &[u16], keys: &[u8], more: &[u8], groups: &mut [u16])
+pub fn close(
+    parents: &[u16],
+    names: &[u8],
+    numbers: &[u16],
+    keys: &[u8],
+    more: &[u8],
+    groups: &mut [u16],
+)
     requires ready { ⌜ RoundReady (length (now groups)) (now parents) (now names) (now numbers) (now keys) (now more) (now groups) ⌝ }
     ensures { λ _.
         ⌜ JoinedUntil
@@ -189,12 +306,37 @@ pub fn close(parents: &[u16], names: &[u8], numbers: &[u16], keys: &[u8], more: 
     let mut firsts = [0u16; 1536];
     let mut seconds = [0u16; 1536];
     let tail = fill_all(
-        parents, names, numbers, keys, more, groups, &mut links1, &mut heads1, &mut links2, &mut heads2, &mut links3, &mut heads3,
-        &mut firsts, &mut seconds,
+        parents,
+        names,
+        numbers,
+        keys,
+        more,
+        groups,
+        &mut links1,
+        &mut heads1,
+        &mut links2,
+        &mut heads2,
+        &mut links3,
+        &mut heads3,
+        &mut firsts,
+        &mut seconds,
     );
     settle(
-        parents, names, numbers, keys, more, groups, &mut links1, &mut heads1, &mut links2, &mut heads2, &mut links3, &mut heads3,
-        &mut firsts, &mut seconds, tail,
+        parents,
+        names,
+        numbers,
+        keys,
+        more,
+        groups,
+        &mut links1,
+        &mut heads1,
+        &mut links2,
+        &mut heads2,
+        &mut links3,
+        &mut heads3,
+        &mut firsts,
+        &mut seconds,
+        tail,
     );
     forest::flatten(groups);
 }

@@ -8,14 +8,16 @@ use Rattle.partition.specs.Forests.{rootsOf}
 use Rattle.partition.proofs.ForestLaws.{flat-forest}
 use Rattle.worklist.specs.Settling.{RoundClosed, JoinedUntil, Settling}
 use Rattle.worklist.proofs.SettleLaws.{settling-filled}
-use Rattle.worklist.proofs.PairLaws.{forest-again, settling-flat}
+use Rattle.worklist.proofs.RootLaws.{forest-again}
+use Rattle.worklist.proofs.PairLaws.{settling-flat}
 use borrow.Author.Needs.{needs}
 use Rattle.worklist.proofs.close.Statement.{statement}
 use Rattle.worklist.proofs.close.Tie as tie
 
 -- the function's entry, and the place after each call, from a later place
 abbrev entry : tie.After-seconds → tie.Start
-entry c = c .before .before .before .before .before .before .before .before .before .before .before .before .before .before .before
+entry c = c .before .before .before .before .before .before .before .before .before .before .before .before .before .before
+    .before
 
 abbrev fills-of : tie.After-seconds2 → tie.After-fill-all
 fills-of c = c .before .before .before .before .before .before .before .before .before
@@ -51,7 +53,8 @@ pending fills =
     (fills .fill-all .last .1 .1 .1 .1 .1 .1 .1 .1 .1 .1 .0)
     (fills .fill-all .last .1 .1 .1 .1 .1 .1 .1 .1 .1 .1 .1 .0) (replicate 1536 0) (replicate 1536 0)
     (fills .fill-all .last .1 .1 .1 .1 .1 .1 .1 .1 .1 .1 .1 .1 .0)
-    (fills .fill-all .last .1 .1 .1 .1 .1 .1 .1 .1 .1 .1 .1 .1 .1 .0) (fills .fill-all .result) (at .pre) (fills .fill-all .ensures))
+    (fills .fill-all .last .1 .1 .1 .1 .1 .1 .1 .1 .1 .1 .1 .1 .1 .0) (fills .fill-all .result) (at .pre)
+    (fills .fill-all .ensures))
 
 fill-all-requires : tie.Need-fill-all-requires
 fill-all-requires c κs = (entry c .pre, (heads-none 512, (heads-none 512, heads-none 512)))
@@ -59,8 +62,10 @@ fill-all-requires c κs = (entry c .pre, (heads-none 512, (heads-none 512, heads
 settle-requires : tie.Need-settle-requires
 settle-requires c κs =
     let fills = fills-of c in
-    let at = entry (fills .before) in
-    (flat-forest (length (at .args .groups .now)) (at .args .groups .now) (at .pre .labelled), (at .args .groups .now, pending fills))
+    let at = entry (fills .before) in (
+      flat-forest (length (at .args .groups .now)) (at .args .groups .now) (at .pre .labelled),
+      (at .args .groups .now, pending fills),
+    )
 
 flatten-requires : tie.Need-flatten-requires
 flatten-requires c κs =
@@ -79,8 +84,8 @@ returns c =
     let at = entry (fills .before) in
     subst
     (λ (groups : List ℕ).
-    JoinedUntil (RoundClosed (length (at .args .groups .now)) (at .args .parents .now) (at .args .names .now) (at .args .numbers .now)
-    (at .args .keys .now) (at .args .more .now))
+    JoinedUntil (RoundClosed (length (at .args .groups .now)) (at .args .parents .now) (at .args .names .now)
+    (at .args .numbers .now) (at .args .keys .now) (at .args .more .now))
     (length (at .args .groups .now)) (at .args .groups .now) groups)
     (sym (flat .flatten .ensures)) (settles .settle .ensures .until (at .args .groups .now) (pending fills))
 

@@ -18,8 +18,7 @@ second-of c = c .before .before .before .before
 fill-requires : tie.Need-fill-requires
 fill-requires c κs =
     let at = from-first c in
-    let ready = at .pre .0 in
-    (
+    let ready = at .pre .0 in (
       ready .few,
       (
         ready .parents-size,
@@ -35,8 +34,7 @@ fill-requires-2 : tie.Need-fill-requires-2
 fill-requires-2 c κs =
     let first = first-of c in
     let at = from-first (first .before) in
-    let ready = at .pre .0 in
-    (
+    let ready = at .pre .0 in (
       ready .few,
       (
         numbers-size (length (at .args .groups .now)) (at .args .parents .now) (at .args .names .now) (at .args .numbers .now)
@@ -60,8 +58,7 @@ fill-requires-3 c κs =
     let second = second-of c in
     let first = first-of (second .before) in
     let at = from-first (first .before) in
-    let ready = at .pre .0 in
-    (
+    let ready = at .pre .0 in (
       ready .few,
       (
         numbers-size (length (at .args .groups .now)) (at .args .parents .now) (at .args .names .now) (at .args .numbers .now)

@@ -1,10 +1,10 @@
 -- `merge_all` meets its contract: three kinds of lists merged, one after the other. Assumes nothing.
-use mathlib.Core.Path.{_≡_, sym, _∙_}
+use mathlib.Core.Path.{sym, _∙_}
 use mathlib.Core.List.{List}
 use Prim.Native.Nat.{ℕ}
 use native.Mathlib.Omega.{arith}
 use lib.ListN.{length}
-use Rattle.worklist.specs.Lists.{Sorted, Merged}
+use Rattle.worklist.specs.Lists.{Merged}
 use Rattle.worklist.specs.Settling.{ListedAll}
 use Rattle.worklist.proofs.SettleLaws.{sorted-by-keys, merged-by-states}
 use Rattle.worklist.proofs.merge_all.Statement.{statement}
@@ -23,8 +23,8 @@ second-of c = c .before .before .before .before
 -- what the lists are at the entry, with any rows
 abbrev AtEntry : tie.Start → List ℕ → List ℕ → List ℕ → Type 0
 AtEntry at rows₁ rows₂ rows₃ =
-    ListedAll (length (at .args .parents .now)) (at .args .names .now) (at .args .keys .now) (at .args .more .now) rows₁ rows₂ rows₃
-    (at .args .links1 .now) (at .args .heads1 .now) (at .args .links2 .now) (at .args .heads2 .now) (at .args .links3 .now)
+    ListedAll (length (at .args .parents .now)) (at .args .names .now) (at .args .keys .now) (at .args .more .now) rows₁ rows₂
+    rows₃ (at .args .links1 .now) (at .args .heads1 .now) (at .args .links2 .now) (at .args .heads2 .now) (at .args .links3 .now)
     (at .args .heads3 .now) (at .args .tail)
 
 -- what each call promises, by the number of states
@@ -36,7 +36,8 @@ merged-first :
     (c .merge .last .1 .1 .1 .1 .0) (c .merge .last .1 .1 .1 .1 .1 .0) (at .args .tail) (c .merge .result)
 merged-first c rows₁ rows₂ rows₃ listed =
     let at = from-first (c .before) in
-    merged-by-states (length (at .args .parents .now)) (at .args .numbers .now) (at .args .names .now) rows₁ (at .args .links1 .now)
+    merged-by-states (length (at .args .parents .now)) (at .args .numbers .now) (at .args .names .now) rows₁
+    (at .args .links1 .now)
     (at .args .heads1 .now) (at .args .to) (at .args .from) (c .merge .last .1 .1 .0) (c .merge .last .1 .1 .1 .0)
     (at .args .firsts .now) (at .args .seconds .now) (c .merge .last .1 .1 .1 .1 .0) (c .merge .last .1 .1 .1 .1 .1 .0)
     (at .args .tail) (c .merge .result) (listed .forks)
@@ -53,7 +54,8 @@ merged-second :
 merged-second c rows₁ rows₂ rows₃ listed =
     let first = first-of (c .before) in
     let at = from-first (first .before) in
-    merged-by-states (length (at .args .parents .now)) (at .args .parents .now) (at .args .keys .now) rows₂ (at .args .links2 .now)
+    merged-by-states (length (at .args .parents .now)) (at .args .parents .now) (at .args .keys .now) rows₂
+    (at .args .links2 .now)
     (at .args .heads2 .now) (at .args .to) (at .args .from) (c .merge2 .last .1 .1 .0) (c .merge2 .last .1 .1 .1 .0)
     (first .merge .last .1 .1 .1 .1 .0) (first .merge .last .1 .1 .1 .1 .1 .0) (c .merge2 .last .1 .1 .1 .1 .0)
     (c .merge2 .last .1 .1 .1 .1 .1 .0) (first .merge .result) (c .merge2 .result) (listed .backs)
@@ -63,8 +65,7 @@ merge-requires : tie.Need-merge-requires
 merge-requires c κs =
     let at = from-first c in
     let n = length (at .args .parents .now) in
-    let listed = at .pre .0 .3 in
-    (
+    let listed = at .pre .0 .3 in (
       (
         at .pre .0 .0,
         sorted-by-keys n (at .args .names .now) (at .pre .0 .0) (at .args .links1 .now) (at .args .heads1 .now) (listed .forks),
@@ -81,8 +82,7 @@ merge-requires-2 c κs =
     let first = first-of c in
     let at = from-first (first .before) in
     let n = length (at .args .parents .now) in
-    let listed = at .pre .0 .3 in
-    (
+    let listed = at .pre .0 .3 in (
       (
         at .pre .0 .1,
         sorted-by-keys n (at .args .keys .now) (at .pre .0 .1) (at .args .links2 .now) (at .args .heads2 .now) (listed .backs),
@@ -100,13 +100,16 @@ merge-requires-3 c κs =
     let first = first-of (second .before) in
     let at = from-first (first .before) in
     let n = length (at .args .parents .now) in
-    let listed = at .pre .0 .3 in
-    (
+    let listed = at .pre .0 .3 in (
       (
         at .pre .0 .2,
         sorted-by-keys n (at .args .more .now) (at .pre .0 .2) (at .args .links3 .now) (at .args .heads3 .now) (listed .others),
-        omega (arith, listed .room, merged-first first (at .pre .0 .0) (at .pre .0 .1) (at .pre .0 .2) listed .counted,
-            merged-second second (at .pre .0 .0) (at .pre .0 .1) (at .pre .0 .2) listed .counted),
+        omega (
+          arith,
+          listed .room,
+          merged-first first (at .pre .0 .0) (at .pre .0 .1) (at .pre .0 .2) listed .counted,
+          merged-second second (at .pre .0 .0) (at .pre .0 .1) (at .pre .0 .2) listed .counted,
+        ),
       ),
       (
         sym (listed .others .keys-size),

@@ -1,20 +1,20 @@
--- `settle` meets its contract. The invariant of its loop: what held at the start with all pairs pending holds with those before `done`
--- joined. The measure is the room left in the queue. Assumes nothing.
-use mathlib.Core.Path.{_≡_, sym}
-use Prim.Native.Nat.{ℕ, _+_, _-_, _<_, _≤_}
+-- `settle` meets its contract. The invariant of its loop: what held at the start with all pairs pending holds with those before
+-- `done` joined. The measure is the room left in the queue. Assumes nothing.
+use Prim.Native.Nat.{_+_, _-_, _<_}
 use native.Mathlib.Numerals.{add-one}
 use native.Mathlib.Omega.{arith}
 use lib.ListN.{length}
 use Rattle.worklist.specs.Lists.{pair-limit}
-use Rattle.worklist.proofs.PairLaws.{SettledTo, forest-again, settled-none, settled-again, settled-more, settled-all}
+use Rattle.worklist.proofs.RootLaws.{forest-again}
+use Rattle.worklist.proofs.PairLaws.{SettledTo, settled-none, settled-again, settled-more, settled-all}
 use Rattle.worklist.proofs.settle.Statement.{statement}
 use Rattle.worklist.proofs.settle.Tie as tie
 
 abbrev Inv-loop : tie.InvT-loop
 Inv-loop parents names numbers keys more groups₀ links1₀ heads1₀ links2₀ heads2₀ links3₀ heads3₀ firsts₀ seconds₀ tail done₀ end₀
     groups links1 heads1 links2 heads2 links3 heads3 firsts seconds done end =
-    SettledTo (length groups₀) parents names numbers keys more groups₀ groups links1₀ heads1₀ links2₀ heads2₀ links3₀ heads3₀ links1
-    heads1 links2 heads2 links3 heads3 firsts₀ seconds₀ firsts seconds tail done end
+    SettledTo (length groups₀) parents names numbers keys more groups₀ groups links1₀ heads1₀ links2₀ heads2₀ links3₀ heads3₀
+    links1 heads1 links2 heads2 links3 heads3 firsts₀ seconds₀ firsts seconds tail done end
 
 abbrev μ-loop : tie.MeasureT-loop
 μ-loop parents names numbers keys more groups₀ links1₀ heads1₀ links2₀ heads2₀ links3₀ heads3₀ firsts₀ seconds₀ tail done₀ end₀
@@ -54,11 +54,11 @@ settle-at-requires c κs =
         settled-again (length (at .args .groups .now)) (at .args .parents .now) (at .args .names .now) (at .args .numbers .now)
             (at .args .keys .now) (at .args .more .now)
             (at .args .groups .now) (at .args .links1 .now) (at .args .heads1 .now)
-            (at .args .links2 .now) (at .args .heads2 .now) (at .args .links3 .now) (at .args .heads3 .now) (at .args .firsts .now)
-            (at .args .seconds .now) (at .args .tail)
+            (at .args .links2 .now) (at .args .heads2 .now) (at .args .links3 .now) (at .args .heads3 .now)
+            (at .args .firsts .now) (at .args .seconds .now) (at .args .tail)
             (here .loop .groups) (here .loop .links1) (here .loop .heads1) (here .loop .links2) (here .loop .heads2)
-            (here .loop .links3) (here .loop .heads3) (here .loop .firsts) (here .loop .seconds) (here .loop .done) (here .loop .end)
-            (here .loop .inv),
+            (here .loop .links3) (here .loop .heads3) (here .loop .firsts) (here .loop .seconds) (here .loop .done)
+            (here .loop .end) (here .loop .inv),
         turn .loop-test .taken,
       ),
     )
