@@ -1,0 +1,2 @@
+-- Why heads and links give lists of arcs by ascending key. Assumes nothing.
+pub mod ListLaws
