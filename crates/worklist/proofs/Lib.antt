@@ -1,2 +1,3 @@
--- Why heads and links give lists of arcs by ascending key. Assumes nothing.
+-- Why heads and links give lists of arcs by ascending key, and what the queue holds. Assumes nothing.
 pub mod ListLaws
+pub mod QueueLaws
