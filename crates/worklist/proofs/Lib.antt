@@ -1,3 +1,4 @@
 -- Why heads and links give lists of arcs by ascending key, and what the queue holds. Assumes nothing.
 pub mod ListLaws
+pub mod PopLaws
 pub mod QueueLaws
