@@ -2,3 +2,4 @@
 pub mod ListLaws
 pub mod PopLaws
 pub mod QueueLaws
+pub mod FillLaws
