@@ -3,3 +3,4 @@ pub mod ListLaws
 pub mod PopLaws
 pub mod QueueLaws
 pub mod FillLaws
+pub mod MergeLaws
