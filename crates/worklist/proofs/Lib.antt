@@ -1,5 +1,7 @@
 -- Why heads and links give lists of arcs by ascending key, and what the queue holds. Assumes nothing.
 pub mod ListLaws
+pub mod PlaceLaws
+pub mod PutLaws
 pub mod PopLaws
 pub mod QueueLaws
 pub mod FillLaws
