@@ -2,17 +2,15 @@
 -- applies. Assumes nothing.
 use mathlib.Core.Path.{_≡_}
 use mathlib.Core.List.{List}
-use Prim.Native.Nat.{ℕ, _≤_}
+use Prim.Native.Nat.{ℕ}
 use lib.ListN.{length}
-use Rattle.cells.specs.Cells.{work-bytes}
 use Rattle.indexed.specs.Trees.{Arrays}
 use Rattle.indexed.specs.Passes.{SuffixAlike, SeenSets, FJoined}
 
--- the tree's arrays, an array of accepting states, and a working area large enough
-pub record JoinReady (n : ℕ) (parents names accepts work : List ℕ) : Type 0 where
+-- the tree's arrays and an array of accepting states
+pub record JoinReady (n : ℕ) (parents names accepts : List ℕ) : Type 0 where
   pub arrays : Arrays n parents names
   pub accepts-size : length accepts ≡ n
-  pub room : work-bytes ≤ length work
 
 -- f is the last j names
 pub record JoinedByLast (n j : ℕ) (parents names accepts groups : List ℕ) : Type 0 where

@@ -24,10 +24,9 @@ fn join_last_in(
     keys: &mut [u8],
     numbers: &mut [u16],
     groups: &mut [u16],
-    work: &mut [u8],
 )
     requires few { ⌜ j ≤ setting-limit ⌝ }
-    requires ready { ⌜ JoinReady (length (now groups)) (now parents) (now names) (now accepts) (now work) ⌝ }
+    requires ready { ⌜ JoinReady (length (now groups)) (now parents) (now names) (now accepts) ⌝ }
     requires none_size { ⌜ length (now none) ≡ length (now groups) ⌝ }
     requires no_keys { ⌜ ((v : ℕ) → v < length (now groups) → getD (now none) v 0 ≡ name-limit) ⌝ }
     requires codes_size { ⌜ length (now codes) ≡ length (now groups) ⌝ }
@@ -47,7 +46,6 @@ fn join_last_in(
         none,
         numbers,
         groups,
-        work,
     );
 }
 
@@ -58,10 +56,9 @@ pub fn join_by_last(
     names: &[u8],
     accepts: &[u8],
     groups: &mut [u16],
-    work: &mut [u8],
 )
     requires few { ⌜ j ≤ setting-limit ⌝ }
-    requires ready { ⌜ JoinReady (length (now groups)) (now parents) (now names) (now accepts) (now work) ⌝ }
+    requires ready { ⌜ JoinReady (length (now groups)) (now parents) (now names) (now accepts) ⌝ }
     ensures { λ _.
         ⌜ JoinedByLast (length (now (groups .entry))) j (now (parents .entry)) (now (names .entry)) (now (accepts .entry))
         (now (groups .exit)) ⌝ }
@@ -81,7 +78,6 @@ pub fn join_by_last(
         &mut keys[..n],
         &mut numbers[..n],
         groups,
-        work,
     );
 }
 
@@ -95,9 +91,8 @@ fn join_seen_in(
     others: &mut [u8],
     numbers: &mut [u16],
     groups: &mut [u16],
-    work: &mut [u8],
 )
-    requires ready { ⌜ JoinReady (length (now groups)) (now parents) (now names) (now accepts) (now work) ⌝ }
+    requires ready { ⌜ JoinReady (length (now groups)) (now parents) (now names) (now accepts) ⌝ }
     requires sets_size { ⌜ length (now sets) ≡ length (now groups) ⌝ }
     requires enlarging_size { ⌜ length (now enlarging) ≡ length (now groups) ⌝ }
     requires others_size { ⌜ length (now others) ≡ length (now groups) ⌝ }
@@ -117,7 +112,6 @@ fn join_seen_in(
         others,
         numbers,
         groups,
-        work,
     );
 }
 
@@ -127,9 +121,8 @@ pub fn join_by_seen(
     names: &[u8],
     accepts: &[u8],
     groups: &mut [u16],
-    work: &mut [u8],
 )
-    requires ready { ⌜ JoinReady (length (now groups)) (now parents) (now names) (now accepts) (now work) ⌝ }
+    requires ready { ⌜ JoinReady (length (now groups)) (now parents) (now names) (now accepts) ⌝ }
     ensures { λ _.
         ⌜ JoinedBySeen (length (now (groups .entry))) (now (parents .entry)) (now (names .entry)) (now (accepts .entry))
         (now (groups .exit)) ⌝ }
@@ -148,6 +141,5 @@ pub fn join_by_seen(
         &mut others[..n],
         &mut numbers[..n],
         groups,
-        work,
     );
 }

@@ -29,13 +29,14 @@ pub fn join_by_class(
     work: &mut [u8],
 )
     requires { ⌜ settingsOk kind first second ≡ true ⌝ }
-    requires { ⌜ JoinReady (length (now groups)) (now parents) (now names) (now accepts) (now work) ⌝ }
+    requires { ⌜ JoinReady (length (now groups)) (now parents) (now names) (now accepts) ⌝ }
+    requires { ⌜ work-bytes ≤ length (now work) ⌝ }
     ensures { λ _. ⌜ ((rows : List Word) → TreeIn rows (now (parents .entry)) (now (names .entry)) (now (accepts .entry)) →
         JoinedBy (class-of kind first second) rows (now (parents .entry)) (now (names .entry)) (now (groups .exit))) ⌝ }
 {
     match kind {
         CONTEXT => join_by_context(wide8(first), wide8(second), parents, names, groups, work),
-        SEEN_SET => join_by_seen(parents, names, accepts, groups, work),
-        _ => join_by_last(wide8(first), parents, names, accepts, groups, work),
+        SEEN_SET => join_by_seen(parents, names, accepts, groups),
+        _ => join_by_last(wide8(first), parents, names, accepts, groups),
     }
 }

@@ -17,29 +17,29 @@ array-share-prefix-none : tie.Need-array-share-prefix-none
 array-share-prefix-none c = search needs
 
 slice-aggregate-join-last-in : tie.Need-slice-aggregate-join-last-in
-slice-aggregate-join-last-in c = cut-here (c .before .before .before .before .before .before) 64
+slice-aggregate-join-last-in c = cut-here (c .before .before .before .before .before) 64
 
 array-borrow-prefix-codes : tie.Need-array-borrow-prefix-codes
 array-borrow-prefix-codes c = search needs
 
 slice-aggregate-join-last-in-2 : tie.Need-slice-aggregate-join-last-in-2
-slice-aggregate-join-last-in-2 c = cut-here (c .before .before .before .before .before .before .before) 0
+slice-aggregate-join-last-in-2 c = cut-here (c .before .before .before .before .before .before) 0
 
 array-borrow-prefix-keys : tie.Need-array-borrow-prefix-keys
 array-borrow-prefix-keys c = search needs
 
 slice-aggregate-join-last-in-3 : tie.Need-slice-aggregate-join-last-in-3
-slice-aggregate-join-last-in-3 c = cut-here (c .before .before .before .before .before .before .before .before) 0
+slice-aggregate-join-last-in-3 c = cut-here (c .before .before .before .before .before .before .before) 0
 
 array-borrow-prefix-numbers : tie.Need-array-borrow-prefix-numbers
 array-borrow-prefix-numbers c = search needs
 
 slice-aggregate-join-last-in-4 : tie.Need-slice-aggregate-join-last-in-4
-slice-aggregate-join-last-in-4 c = cut-here (c .before .before .before .before .before .before .before .before .before) 0
+slice-aggregate-join-last-in-4 c = cut-here (c .before .before .before .before .before .before .before .before) 0
 
 join-last-in-requires : tie.Need-join-last-in-requires
 join-last-in-requires c κs =
-    let at = c .before .before .before .before .before .before .before .before .before .before .before in
+    let at = c .before .before .before .before .before .before .before .before .before in
     let n = length (at .args .groups .now) in
     let few = at .pre .1 .arrays .few-states in
     let zeros = sym (cut n 0 few) in (
@@ -49,9 +49,6 @@ join-last-in-requires c κs =
 
 same-length : tie.Need-same-length
 same-length c = search needs
-
-same-length-2 : tie.Need-same-length-2
-same-length-2 c = search needs
 
 returns : tie.Need-returns
 returns c = search needs
@@ -70,5 +67,4 @@ join-by-last-spec =
     slice-aggregate-join-last-in-4
     join-last-in-requires
     same-length
-    same-length-2
     returns)

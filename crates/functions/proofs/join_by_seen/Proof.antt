@@ -17,38 +17,35 @@ array-borrow-prefix-sets : tie.Need-array-borrow-prefix-sets
 array-borrow-prefix-sets c = search needs
 
 slice-aggregate-join-seen-in : tie.Need-slice-aggregate-join-seen-in
-slice-aggregate-join-seen-in c = cut-here (c .before .before .before .before .before .before) 0
+slice-aggregate-join-seen-in c = cut-here (c .before .before .before .before .before) 0
 
 array-borrow-prefix-enlarging : tie.Need-array-borrow-prefix-enlarging
 array-borrow-prefix-enlarging c = search needs
 
 slice-aggregate-join-seen-in-2 : tie.Need-slice-aggregate-join-seen-in-2
-slice-aggregate-join-seen-in-2 c = cut-here (c .before .before .before .before .before .before .before) 0
+slice-aggregate-join-seen-in-2 c = cut-here (c .before .before .before .before .before .before) 0
 
 array-borrow-prefix-others : tie.Need-array-borrow-prefix-others
 array-borrow-prefix-others c = search needs
 
 slice-aggregate-join-seen-in-3 : tie.Need-slice-aggregate-join-seen-in-3
-slice-aggregate-join-seen-in-3 c = cut-here (c .before .before .before .before .before .before .before .before) 0
+slice-aggregate-join-seen-in-3 c = cut-here (c .before .before .before .before .before .before .before) 0
 
 array-borrow-prefix-numbers : tie.Need-array-borrow-prefix-numbers
 array-borrow-prefix-numbers c = search needs
 
 slice-aggregate-join-seen-in-4 : tie.Need-slice-aggregate-join-seen-in-4
-slice-aggregate-join-seen-in-4 c = cut-here (c .before .before .before .before .before .before .before .before .before) 0
+slice-aggregate-join-seen-in-4 c = cut-here (c .before .before .before .before .before .before .before .before) 0
 
 join-seen-in-requires : tie.Need-join-seen-in-requires
 join-seen-in-requires c κs =
-    let at = c .before .before .before .before .before .before .before .before .before .before .before in
+    let at = c .before .before .before .before .before .before .before .before .before in
     let n = length (at .args .groups .now) in
     let zeros = sym (cut n 0 (at .pre .arrays .few-states)) in
     (at .pre, (zeros, (zeros, (zeros, zeros))))
 
 same-length : tie.Need-same-length
 same-length c = search needs
-
-same-length-2 : tie.Need-same-length-2
-same-length-2 c = search needs
 
 returns : tie.Need-returns
 returns c = search needs
@@ -67,5 +64,4 @@ join-by-seen-spec =
     slice-aggregate-join-seen-in-4
     join-seen-in-requires
     same-length
-    same-length-2
     returns)

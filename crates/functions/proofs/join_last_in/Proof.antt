@@ -12,7 +12,7 @@ use Rattle.functions.proofs.join_last_in.Tie as tie
 
 -- the entry, seen from the place after codes and keys
 abbrev start : tie.After-codes-and-names-above → tie.Start
-start c = c .before .before .before .before .before .before .before .before .before .before .before .before
+start c = c .before .before .before .before .before .before .before .before .before .before .before
 
 -- the codes and the keys, by the number of states
 coded-here :
@@ -39,7 +39,7 @@ above-here c =
 
 codes-and-names-above-requires : tie.Need-codes-and-names-above-requires
 codes-and-names-above-requires c κs =
-    let at = c .before .before .before .before .before .before .before .before .before .before .before in (
+    let at = c .before .before .before .before .before .before .before .before .before .before in (
       arrays-for (length (at .args .groups .now)) (length (at .args .codes .now)) (at .args .parents .now) (at .args .names .now)
           (at .pre .1 .1 .1 .1 .0) (at .pre .1 .0 .arrays),
       (at .pre .0, at .pre .1 .1 .1 .1 .1 .0 ∙ sym (at .pre .1 .1 .1 .1 .0)),
@@ -47,7 +47,7 @@ codes-and-names-above-requires c κs =
 
 finish-requires : tie.Need-finish-requires
 finish-requires c κs =
-    let coded = c .before .before .before .before .before .before .before .before .before in
+    let coded = c .before .before .before .before .before .before .before .before in
     let at = start coded in (
       record {
         arrays = at .pre .1 .0 .arrays;
@@ -56,7 +56,7 @@ finish-requires c κs =
         keys-size = above-here coded .size;
         more-size = at .pre .1 .1 .0;
       },
-      (at .pre .1 .1 .1 .1 .1 .1, at .pre .1 .0 .room),
+      at .pre .1 .1 .1 .1 .1 .1,
     )
 
 same-length : tie.Need-same-length
@@ -71,13 +71,10 @@ same-length-3 c = search needs
 same-length-4 : tie.Need-same-length-4
 same-length-4 c = search needs
 
-same-length-5 : tie.Need-same-length-5
-same-length-5 c = search needs
-
 returns : tie.Need-returns
 returns c =
-    let finishes = c .before .before .before .before .before .before in
-    let coded = finishes .before .before .before .before .before .before .before .before .before .before in
+    let finishes = c .before .before .before .before in
+    let coded = finishes .before .before .before .before .before .before .before .before .before in
     let at = start coded in
     let args = at .args in
     let n = length (args .groups .now) in
@@ -98,5 +95,4 @@ join-last-in-spec =
     same-length-2
     same-length-3
     same-length-4
-    same-length-5
     returns)

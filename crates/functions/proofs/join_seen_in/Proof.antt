@@ -11,7 +11,7 @@ use Rattle.functions.proofs.join_seen_in.Tie as tie
 
 -- the entry and the sets, seen from the places that the facts below are about
 abbrev start : tie.After-seen-sets → tie.Start
-start c = c .before .before .before .before .before .before .before .before .before .before .before
+start c = c .before .before .before .before .before .before .before .before .before .before
 
 abbrev sets-of : tie.After-seen-keys → tie.After-seen-sets
 sets-of c = c .before .before .before .before .before .before
@@ -48,7 +48,7 @@ others-here c =
 
 seen-sets-requires : tie.Need-seen-sets-requires
 seen-sets-requires c κs =
-    let at = c .before .before .before .before .before .before .before .before .before .before in
+    let at = c .before .before .before .before .before .before .before .before .before in
     arrays-for (length (at .args .groups .now)) (length (at .args .sets .now)) (at .args .parents .now) (at .args .names .now)
     (at .pre .1 .0) (at .pre .0 .arrays)
 
@@ -66,7 +66,7 @@ seen-keys-requires c κs =
 
 finish-requires : tie.Need-finish-requires
 finish-requires c κs =
-    let keyed = c .before .before .before .before .before .before .before .before .before .before in
+    let keyed = c .before .before .before .before .before .before .before .before .before in
     let seen = sets-of keyed in
     let at = start seen in (
       record {
@@ -76,7 +76,7 @@ finish-requires c κs =
         keys-size = enlarging-here keyed .size;
         more-size = others-here keyed .size;
       },
-      (at .pre .1 .1 .1 .1, at .pre .0 .room),
+      at .pre .1 .1 .1 .1,
     )
 
 same-length : tie.Need-same-length
@@ -94,13 +94,10 @@ same-length-4 c = search needs
 same-length-5 : tie.Need-same-length-5
 same-length-5 c = search needs
 
-same-length-6 : tie.Need-same-length-6
-same-length-6 c = search needs
-
 returns : tie.Need-returns
 returns c =
-    let finishes = c .before .before .before .before .before .before in
-    let keyed = finishes .before .before .before .before .before .before .before .before .before .before .before in
+    let finishes = c .before .before .before .before in
+    let keyed = finishes .before .before .before .before .before .before .before .before .before .before in
     let seen = sets-of keyed in
     let at = start seen in
     let args = at .args in
@@ -122,5 +119,4 @@ join-seen-in-spec =
     same-length-3
     same-length-4
     same-length-5
-    same-length-6
     returns)
