@@ -9,7 +9,6 @@ use borrow.Author.Tests.{leb-true, leb-false}
 use lib.Dec.{leb}
 use lib.ListN.{length, getD, take, length-append}
 use lib.Seq.{take-at}
-use Rattle.model.specs.Limits.{work-bytes}
 use Rattle.model.specs.Fields.{Class}
 use Rattle.model.specs.Tables.{State, stateFields}
 use Rattle.model.specs.Classes.{Word}
@@ -41,15 +40,14 @@ prefix-again n front rest size = take-at front rest n size
 
 -- the tree in arrays is ready to be joined, with as many groups
 pub tree-ready :
-    (rows : List Word) (parents names accepts work : List ℕ) (n : ℕ) → TreeIn rows parents names accepts → n ≡ length parents →
-    work-bytes ≤ length work → JoinReady n parents names accepts work
-tree-ready rows parents names accepts work n tree size room =
+    (rows : List Word) (parents names accepts : List ℕ) (n : ℕ) → TreeIn rows parents names accepts → n ≡ length parents →
+    JoinReady n parents names accepts
+tree-ready rows parents names accepts n tree size =
     let all : length (treeOf rows) ≡ n = sym (tree .tree .parents-size) ∙ sym size in
     record {
       arrays =
           subst (λ (m : ℕ). Arrays m parents names) all (tree-arrays rows parents names (tree .tree) (tree .few));
       accepts-size = tree .accepting .accepts-size ∙ all;
-      room = room;
     }
 
 module _ (rows : List Word) (parents names accepts : List ℕ) (c : Class) (groups : List ℕ) where

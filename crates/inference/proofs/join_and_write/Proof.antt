@@ -39,8 +39,11 @@ join-by-class-requires c κs =
     let args = start .args in
     let known = c .before .before .before .before .before .before .before .shared-slice-known in (
       class-allowed (args .book .now) (args .place) (start .pre .0 .0) (λ i h. omega (arith, known .given i)),
-      tree-ready (rowsAt (args .book .now) (args .place)) (args .parents .now) (args .names .now) (args .accepts .now) (args .work .now)
-          _ (start .pre .1) (length-take-le _ _ (count start)) (start .pre .0 .2),
+      (
+        tree-ready (rowsAt (args .book .now) (args .place)) (args .parents .now) (args .names .now) (args .accepts .now) _
+            (start .pre .1) (length-take-le _ _ (count start)),
+        start .pre .0 .2,
+      ),
     )
 
 array-share-prefix-groups : tie.Need-array-share-prefix-groups

@@ -27,22 +27,22 @@ join-by-context-requires c κs =
     let some = settings .some in
     let within = settings .within in
     let limit = settings .limit in
-    (start .pre .1 .arrays, (omega arith, (omega arith, (omega arith, start .pre .1 .room))))
+    (start .pre .1 .0 .arrays, (omega arith, (omega arith, (omega arith, start .pre .1 .1))))
 
 join-by-seen-requires : tie.Need-join-by-seen-requires
-join-by-seen-requires c κs = c .before .before .before .before .before .before .before .before .pre .1
+join-by-seen-requires c κs = c .before .before .before .before .before .before .before .pre .1 .0
 
 wide8-requires-3 : tie.Need-wide8-requires-3
 wide8-requires-3 c κs = search needs
 
 join-by-last-requires : tie.Need-join-by-last-requires
 join-by-last-requires c κs =
-    let start = c .before .before .before .before .before .before .before .before .before in
+    let start = c .before .before .before .before .before .before .before .before in
     let args = start .args in
-    let others = c .before .before .before .match .rest in
+    let others = c .before .before .match .rest in
     let limit = last-setting (args .kind) (args .first) (args .second) (start .pre .0) (others .0 .1) (others .1) in
-    let j = c .before .before .wide83 .ensures in
-    (omega arith, start .pre .1)
+    let j = c .before .wide83 .ensures in
+    (omega arith, start .pre .1 .0)
 
 same-length : tie.Need-same-length
 same-length c = search needs
@@ -68,43 +68,37 @@ returns c =
     (second-wide .wide82 .ensures) with-k in
     λ rows tree.
     by-context (args .kind) (args .first) (args .second) n rows (args .parents .now) (args .names .now) (args .accepts .now) groups
-    tree (at .pre .1 .arrays .parents-size) (chosen .match .keys1) (at .pre .0) joined
+    tree (at .pre .1 .0 .arrays .parents-size) (chosen .match .keys1) (at .pre .0) joined
 
 same-length-3 : tie.Need-same-length-3
 same-length-3 c = search needs
 
-same-length-4 : tie.Need-same-length-4
-same-length-4 c = search needs
-
 returns-2 : tie.Need-returns-2
 returns-2 c =
-    let done = c .before .before .before .before .join-by-seen in
-    let chosen = c .before .before .before .before .before .before .before in
+    let done = c .before .before .join-by-seen in
+    let chosen = c .before .before .before .before in
     let at = chosen .before .before .before .before .before .before in
     let args = at .args in
     λ rows tree.
     by-seen (args .kind) (args .first) (args .second) (length (args .groups .now)) rows (args .parents .now) (args .names .now)
-    (args .accepts .now) (done .last .1 .1 .1 .0) tree (at .pre .1 .arrays .parents-size) (chosen .match .keys2) (done .ensures)
+    (args .accepts .now) (done .last .1 .1 .1 .0) tree (at .pre .1 .0 .arrays .parents-size) (chosen .match .keys2) (done .ensures)
 
-same-length-5 : tie.Need-same-length-5
-same-length-5 c = search needs
-
-same-length-6 : tie.Need-same-length-6
-same-length-6 c = search needs
+same-length-4 : tie.Need-same-length-4
+same-length-4 c = search needs
 
 returns-3 : tie.Need-returns-3
 returns-3 c =
-    let start = c .before .before .before .before .before .before .before .before .before .before .before .before .before .before in
+    let start = c .before .before .before .before .before .before .before .before .before .before .before in
     let args = start .args in
-    let done = c .before .before .before .before .join-by-last in
+    let done = c .before .before .join-by-last in
     let groups = done .last .1 .1 .1 .1 .0 in
     let n = length (args .groups .now) in
-    let others = c .before .before .before .before .before .before .before .before .match .rest in
+    let others = c .before .before .before .before .before .match .rest in
     let joined = subst (λ (j : ℕ). JoinedByLast n j (args .parents .now) (args .names .now) (args .accepts .now) groups)
-    (c .before .before .before .before .before .before .before .wide83 .ensures) (done .ensures) in
+    (c .before .before .before .before .wide83 .ensures) (done .ensures) in
     λ rows tree.
     by-last (args .kind) (args .first) (args .second) n rows (args .parents .now) (args .names .now) (args .accepts .now) groups
-    tree (start .pre .1 .arrays .parents-size) (others .0 .1) (others .1) joined
+    tree (start .pre .1 .0 .arrays .parents-size) (others .0 .1) (others .1) joined
 
 pub join-by-class-spec : {M : Type 1} → statement M
 join-by-class-spec =
@@ -120,8 +114,6 @@ join-by-class-spec =
     same-length-2
     returns
     same-length-3
-    same-length-4
     returns-2
-    same-length-5
-    same-length-6
+    same-length-4
     returns-3)
