@@ -2,6 +2,7 @@
 pub mod ClimbLaws
 pub mod CommonLaws
 pub mod LinkLaws
+pub mod NearLaws
 pub mod ChainLaws
 pub mod RoundLaws
 pub mod SweepLaws
