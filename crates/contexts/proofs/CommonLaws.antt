@@ -1,13 +1,16 @@
 -- Names in succession that lead out of two groups: the search for the first of them through the names that leave both, lowest
 -- first; a single name; and that they lead out of the two the other way round. Assumes nothing.
-use mathlib.Core.Path.{_≡_, sym, subst, subst₂}
-use mathlib.Core.Logic.{⊎-elim}
+use mathlib.Core.Path.{_≡_, refl, sym, subst, subst₂}
+use mathlib.Core.Logic.{⊎-elim, _↔_}
+use mathlib.Core.Bool.{Bool, true, false, not, false≢true}
 use mathlib.Core.List.{List}
 use Prim.Native.Nat.{ℕ, zero, suc, _-_, _^_, _<_}
 use native.Mathlib.Omega.{arith}
 use lib.Bits.{bitAnd, and-le-l, and-le-r}
 use lib.Count.{trailingZeros}
+use lib.Dec.{eqb}
 use lib.ListN.{getD}
+use borrow.Author.Tests.{eqb-true, eqb-false}
 use Rattle.cells.specs.Cells.{cellAt}
 use Rattle.model.specs.Limits.{name-limit}
 use Rattle.indexed.proofs.Bits.{bit, bit-zero, bit-of-both, lowest-bit, without-lowest}
@@ -98,7 +101,7 @@ pub common-one :
 common-one {next} {work} j x y targets some few =
     let one : 1 ≡ j = omega arith in
     let left = bitAnd (getD next x 0) (getD next y 0) in
-    let trying = trying-all {next} {work} 0 x y targets in
+    let trying = trying-all {next = next} {work = work} 0 x y targets in
     go left refl trying (eqb left 0) refl one
   where
     go :

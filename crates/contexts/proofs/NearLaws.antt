@@ -3,19 +3,26 @@
 use mathlib.Core.Path.{_≡_, refl, sym, _∙_, subst, subst₂}
 use mathlib.Core.Logic.{_⊎_, inl, inr}
 use mathlib.Core.List.{List}
-use Prim.Native.Nat.{ℕ, suc, _+_, _<_, _≤_}
+use Prim.Native.Nat.{ℕ, zero, suc, _+_, _<_, _≤_}
 use native.Mathlib.Numerals.{add-one}
 use native.Mathlib.Omega.{arith}
-use lib.ListN.{length, getD, set}
+use lib.ListN.{length, getD, set, replicate}
 use lib.Seq.{getD-set-same, getD-set-other}
 use Rattle.model.specs.Limits.{state-limit}
 use Rattle.model.proofs.Tests.{eq-dec, decided, tells-ltb}
 use Rattle.indexed.specs.Chains.{Chained}
 use Rattle.indexed.proofs.Chains.{chained-none, chained-skip, chained-push}
 use Rattle.indexed.proofs.Bits.{bit}
+use Rattle.contexts.specs.Distances.{distance-limit}
 use Rattle.contexts.specs.Sweeps.{FirstArc, Linked, Listed, ListedNear, Near, Far, waiting, Placed, ArcsLinked, FarLinked}
 use Rattle.contexts.specs.Sweeps.{ArcsReady}
 use Rattle.contexts.proofs.LinkLaws.{linked-none, linked-known}
+
+-- the distances at first
+pub distances-none : (n x : ℕ) → getD (replicate n distance-limit) x 0 ≤ distance-limit
+distances-none zero x = omega arith
+distances-none (suc n) zero = omega arith
+distances-none (suc n) (suc x) = distances-none n x
 
 -- chains tell no other links than those of their members
 chained-same :
@@ -51,17 +58,17 @@ module _ {j : ℕ} {parents names classes old dist : List ℕ} where
       (so-far : ArcsLinked i j parents names classes old dist next links heads work) where
     -- far arcs below i + 1 have the mark if arc i has, and those before it still have it
     far-more :
-        {links′ : List ℕ} → ((v : ℕ) → (v ≡ i → ⊥) → getD links′ v 0 ≡ getD links v 0) →
+        (links′ : List ℕ) → ((v : ℕ) → (v ≡ i → ⊥) → getD links′ v 0 ≡ getD links v 0) →
         (Listed parents names classes old (getD classes i 0) i → Far j old dist i → getD links′ i 0 ≡ waiting) → (v : ℕ) → v < i + 1 →
         Listed parents names classes old (getD classes v 0) v → Far j old dist v → getD links′ v 0 ≡ waiting
-    far-more {links′} kept here v low = go (eq-dec v i)
+    far-more links′ kept here v low = go (eq-dec v i)
       where
         go :
             (v ≡ i) ⊎ (v ≡ i → ⊥) → Listed parents names classes old (getD classes v 0) v → Far j old dist v →
             getD links′ v 0 ≡ waiting
-        go (inl e) =
+        go (inl e) listed far =
             subst (λ (u : ℕ). Listed parents names classes old (getD classes u 0) u → Far j old dist u → getD links′ u 0 ≡ waiting)
-            (sym e) here
+            (sym e) here listed far
         go (inr other) listed far = kept v other ∙ so-far .far v (omega arith) listed far
 
     -- arc i has a name that leads out of its group already
@@ -75,7 +82,7 @@ module _ {j : ℕ} {parents names classes old dist : List ℕ} where
               chained-skip i (ListedNear j parents names classes old dist) links heads (λ b in-b. unlisted b (in-b .listed))
               (so-far .chained);
           listed = so-far .listed;
-          far = far-more (λ v other. refl) (λ listed far. absurd (unlisted (getD classes i 0) listed));
+          far = far-more links (λ v other. refl) (λ listed far. absurd (unlisted (getD classes i 0) listed));
           waits = so-far .waits;
         }
       where
@@ -96,7 +103,7 @@ module _ {j : ℕ} {parents names classes old dist : List ℕ} where
                 chained-skip i (ListedNear j parents names classes old dist) links heads
                 (λ b in-b. let z : ⊥ = omega (arith, in-b .listed .classed, in-b .listed .class-is) in z) (so-far .chained);
             listed = so-far .listed;
-            far = far-more (λ v other. refl) (λ listed far. let z : ⊥ = omega (arith, listed .classed) in absurd z);
+            far = far-more links (λ v other. refl) (λ listed far. let z : ⊥ = omega (arith, listed .classed) in absurd z);
             waits = so-far .waits;
           }
 
@@ -138,7 +145,7 @@ module _ {j : ℕ} {parents names classes old dist : List ℕ} where
                   (λ b in-b. let z : ⊥ = omega (arith, in-b .near) in z)
                   (chained-same (λ b v low in-b. other-kept waiting v (λ e. omega arith)) (so-far .chained));
               listed = listed-more waiting;
-              far = far-more (other-kept waiting) (λ listed _. this-put waiting);
+              far = far-more (set links i waiting) (other-kept waiting) (λ listed _. this-put waiting);
               waits = waits-more waiting (λ _. far);
             }
 
@@ -155,7 +162,7 @@ module _ {j : ℕ} {parents names classes old dist : List ℕ} where
                   chained-push i (ListedNear j parents names classes old dist) links heads b (i + 1) in-links in-heads refl
                   (record { listed = here; near = near }) (λ c in-c. sym (in-c .listed .class-is)) (so-far .chained);
               listed = listed-more (getD heads b 0);
-              far = far-more (other-kept (getD heads b 0)) (λ listed far. let z : ⊥ = omega arith in absurd z);
+              far = far-more (set links i (getD heads b 0)) (other-kept (getD heads b 0)) (λ listed far. let z : ⊥ = omega arith in absurd z);
               waits = waits-more (getD heads b 0) (λ e. let z : ⊥ = omega (arith, so-far .chained .head-low b) in absurd z);
             }
 

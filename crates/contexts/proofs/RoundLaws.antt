@@ -18,8 +18,11 @@ use Rattle.indexed.proofs.Rounds.{due, due-less, sum-fewer}
 use Rattle.partition.specs.Steps.{Ready}
 use Rattle.indexed.proofs.Fills.{front-length}
 use Rattle.contexts.specs.Climbs.{ClimbedBelow}
+use Rattle.contexts.specs.Distances.{Tested}
+use Rattle.contexts.specs.Sweeps.{SweptBy}
 use Rattle.contexts.specs.Rounds.{ContextSound, ForksJoined, RoundReady}
 use Rattle.contexts.proofs.ClimbLaws.{climbs-sound}
+use Rattle.contexts.proofs.FarLaws.{tested-coarser, tested-tree}
 
 -- the own numbers of a front
 pub own-front :
@@ -29,6 +32,7 @@ own-front n list out fits own = own ∙ ap (λ (m : ℕ). numbersFrom m 0) (fron
 -- passes so far: joined says whether another is due
 pub record ForksTo (n : ℕ) (parents names groups₀ groups : List ℕ) (joined : Bool) : Type 0 where
   pub labelled : Labelled n groups
+  pub coarser : Refines n groups₀ groups
   pub sound : (others : List ℕ) → ForkClosed n parents names others → Refines n groups₀ others → Refines n groups others
   pub closed : joined ≡ false → ForkClosed n parents names groups
   pub fewer : sum groups ≤ sum groups₀
@@ -54,6 +58,7 @@ module _ (n : ℕ) (parents names : List ℕ) (arrays : Arrays n parents names) 
     forks-none labelled =
         record {
           labelled = labelled;
+          coarser = λ v w hv hw same. same;
           sound = λ others closed refines. refines;
           closed = λ e. absurd (true≢false e);
           fewer = omega arith;
@@ -65,6 +70,7 @@ module _ (n : ℕ) (parents names : List ℕ) (arrays : Arrays n parents names) 
     forks-more groups groups′ before joined so-far passed =
         record {
           labelled = passed .labelled;
+          coarser = λ v w hv hw same. passed .coarser v w hv hw (so-far .coarser v w hv hw same);
           sound = λ others closed refines.
               passed .sound others (forks-keys n parents names others arrays closed) (so-far .sound others closed refines);
           closed = λ e.
@@ -77,7 +83,13 @@ module _ (n : ℕ) (parents names : List ℕ) (arrays : Arrays n parents names) 
         (groups : List ℕ) (joined : Bool) → joined ≡ false → ForksTo n parents names groups₀ groups joined →
         ForksJoined n parents names groups₀ groups
     forks-all groups joined done so-far =
-        record { labelled = so-far .labelled; sound = so-far .sound; closed = so-far .closed done; fewer = so-far .fewer }
+        record {
+          labelled = so-far .labelled;
+          coarser = so-far .coarser;
+          sound = so-far .sound;
+          closed = so-far .closed done;
+          fewer = so-far .fewer;
+        }
 
 -- a pass of a partition with as many states, with the states' own numbers
 pub pass-of :
@@ -88,38 +100,54 @@ pass-of n parents names numbers groups groups′ joined size own passed =
     subst (λ (l : List ℕ). Passed n parents l names groups groups′ joined) own
     (subst (λ (m : ℕ). Passed m parents numbers names groups groups′ joined) size passed)
 
--- rounds so far: joined says whether another is due
-pub record RoundsTo (n h m : ℕ) (parents names groups : List ℕ) (joined : Bool) : Type 0 where
+-- rounds so far, the last sweep by `before`: joined says whether another is due
+pub record RoundsTo (n h m : ℕ) (parents names before groups : List ℕ) (joined : Bool) : Type 0 where
   pub labelled : Labelled n groups
   pub sound : ContextSound n h m parents names groups
+  pub before-size : length before ≡ n
+  pub tested : Tested n h m parents names before groups
   pub forks : joined ≡ false → ForkClosed n parents names groups
   pub contexts : joined ≡ false → ContextClosed n h m parents names groups
 
-pub rounds-none : (n h m : ℕ) (parents names groups : List ℕ) → RoundReady n h m parents names groups →
-    RoundsTo n h m parents names groups true
-rounds-none n h m parents names groups ready =
+pub rounds-none :
+    (n h m : ℕ) (parents names before groups : List ℕ) → RoundReady n h m parents names groups → before ≡ numbersFrom n 0 →
+    RoundsTo n h m parents names before groups true
+rounds-none n h m parents names before groups ready own =
     record {
       labelled = ready .labelled;
       sound = ready .sound;
+      before-size = ap length own ∙ numbers-length n 0;
+      tested = subst (λ (l : List ℕ). Tested n h m parents names l groups) (sym own) (ready .tested);
       forks = λ e. absurd (true≢false e);
       contexts = λ e. absurd (true≢false e);
     }
 
 -- one round: forks, then a sweep
-module _ (n h m : ℕ) (parents names groups forked : List ℕ) (before : Bool) (arrays : Arrays n parents names)
-    (so-far : RoundsTo n h m parents names groups before) (forks : ForksJoined n parents names groups forked) where
+module _ (n h m : ℕ) (parents names before groups forked : List ℕ) (was : Bool) (arrays : Arrays n parents names)
+    (pos : 0 < h) (so-far : RoundsTo n h m parents names before groups was) (forks : ForksJoined n parents names groups forked) where
   forked-sound : ContextSound n h m parents names forked
   forked-sound others fork context = forks .sound others fork (so-far .sound others fork context)
 
-  pub forked-agree : 0 < h → SuffixAgree n h parents names forked
-  forked-agree pos = joined-suffix-agree n parents names arrays h m forked pos (forks .labelled .size) forked-sound
+  forked-agree : SuffixAgree n h parents names forked
+  forked-agree = joined-suffix-agree n parents names arrays h m forked pos (forks .labelled .size) forked-sound
 
-  module _ (groups′ : List ℕ) (joined : Bool) (swept : Swept n h m parents names forked groups′ joined) where
-    pub rounds-more : RoundsTo n h m parents names groups′ joined
+  forked-tested : Tested n h m parents names before forked
+  forked-tested = tested-coarser n h m parents names before groups forked (so-far .tested) (forks .coarser)
+
+  module _ (classes before′ groups′ : List ℕ) (joined : Bool) (by : SuffixClasses n (h + 1) parents names classes)
+      (sweeps : SweptBy n m parents names classes before before′ forked groups′ joined) where
+    swept : Swept n h m parents names forked groups′ joined
+    swept = sweeps .swept h by forked-agree forked-tested
+
+    pub rounds-more : RoundsTo n h m parents names before′ groups′ joined
     rounds-more =
         record {
           labelled = swept .labelled;
           sound = λ others fork context. swept .sound others context (forked-sound others fork context);
+          before-size = ap length (sweeps .before-is) ∙ forks .labelled .size;
+          tested =
+              subst (λ (l : List ℕ). Tested n h m parents names l groups′) (sym (sweeps .before-is))
+              (sweeps .tested-after h by forked-agree forked-tested (forks .closed));
           forks = λ e.
               subst (λ (l : List ℕ). ForkClosed n parents names l) (sym (swept .none e (forks .closed) .0)) (forks .closed);
           contexts = λ e.
@@ -132,9 +160,10 @@ module _ (n h m : ℕ) (parents names groups forked : List ℕ) (before : Bool) 
         omega (arith, forks .fewer, due-less forked groups′ joined (λ e. swept .none e (forks .closed) .0) (swept .some))
 
 pub rounds-all :
-    (n h m : ℕ) (parents names groups : List ℕ) (joined : Bool) → joined ≡ false → RoundsTo n h m parents names groups joined →
+    (n h m : ℕ) (parents names before groups : List ℕ) (joined : Bool) → joined ≡ false →
+    RoundsTo n h m parents names before groups joined →
     ContextJoined n (h + m) h parents names groups
-rounds-all n h m parents names groups joined done so-far =
+rounds-all n h m parents names before groups joined done so-far =
     record {
       labelled = so-far .labelled;
       sound = λ j e others fork context.
@@ -161,7 +190,7 @@ classes-front n h list parents names classes fits by =
 
 -- the rounds start from the climbs
 pub climbs-ready :
-    (n h m k : ℕ) (parents names starts groups : List ℕ) → Arrays n parents names → 0 < h → 0 < m → h + m ≡ k →
+    (n h m k : ℕ) (parents names starts groups : List ℕ) → Arrays n parents names → 0 < h → 1 < m → h + m ≡ k →
     k ≤ setting-limit → BySuffix n k parents names starts → ClimbedBelow n n m parents starts starts groups →
     RoundReady (length groups) h m parents names groups
 climbs-ready n h m k parents names starts groups arrays some-names more-names sum-is limit by climbed =
@@ -173,6 +202,7 @@ climbs-ready n h m k parents names starts groups arrays some-names more-names su
       limit = omega arith;
       labelled = climbed .labelled;
       sound = climbs-sound n h m k parents names starts groups arrays some-names sum-is by climbed;
+      tested = tested-tree n parents names arrays h m k starts groups some-names (omega arith) sum-is by climbed;
     })
 
 pub rounds-joined :

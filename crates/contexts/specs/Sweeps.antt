@@ -14,7 +14,7 @@ use Rattle.indexed.specs.Partitions.{Refines, Labelled, SuffixAgree, ForkClosed
 use Rattle.indexed.specs.Passes.{SuffixClasses, Swept}
 use Rattle.indexed.proofs.Bits.{bit}
 use Rattle.contexts.specs.Climbs.{ParentsJoined}
-use Rattle.contexts.specs.Distances.{Tested}
+use Rattle.contexts.specs.Distances.{Tested, distanceOf}
 
 -- no arc before v has its name and leaves its group
 abbrev pub FirstArc : List ℕ → List ℕ → List ℕ → ℕ → Type 0
@@ -47,11 +47,11 @@ pub record Listed (parents names classes old : List ℕ) (b v : ℕ) : Type 0 wh
 
 -- fewer than j arcs lead from where arc v leads to a group that has grown
 abbrev pub Near : ℕ → List ℕ → List ℕ → ℕ → Type 0
-Near j old dist v = getD dist (getD old v 0) 0 < j
+Near j old dist v = distanceOf old dist v < j
 
 -- j arcs or more do
 abbrev pub Far : ℕ → List ℕ → List ℕ → ℕ → Type 0
-Far j old dist v = j ≤ getD dist (getD old v 0) 0
+Far j old dist v = j ≤ distanceOf old dist v
 
 -- arc v is in the chain of class b: it is of this class, and near
 pub record ListedNear (j : ℕ) (parents names classes old dist : List ℕ) (b v : ℕ) : Type 0 where

@@ -164,10 +164,10 @@ fn link_far(classes: &[u16], heads: &[u16], links: &mut [u16])
 
 // Whether j names in succession lead out of both x and y. At the last name the cells are not read.
 fn common(j: usize, x: usize, y: usize, next: &[u64], work: &[u8]) -> bool
-    requires some { ⌜ 0 < j ⌝ }
     requires targets { ⌜ Targets (now next) (now work) ⌝ }
     requires x_inside { ⌜ x < length (now next) ⌝ }
     requires y_inside { ⌜ y < length (now next) ⌝ }
+    requires some { ⌜ 0 < j ⌝ }
     ensures { λ r. ⌜ (r ≡ true) ↔ Common (now (next .entry)) (now (work .entry)) j x y ⌝ }
 {
     let mut left = next[x] & next[y];
@@ -195,11 +195,11 @@ fn join_pair(
     groups: &mut [u16],
     work: &[u8],
 ) -> bool
-    requires some { ⌜ 0 < j ⌝ }
     requires targets { ⌜ Targets (now next) (now work) ⌝ }
     requires v_inside { ⌜ ArcInside (length (now groups)) (length (now next)) (now parents) (now old) v ⌝ }
     requires w_inside { ⌜ ArcInside (length (now groups)) (length (now next)) (now parents) (now old) w ⌝ }
     requires labelled { ⌜ Labelled (length (now groups)) (now groups) ⌝ }
+    requires some { ⌜ 0 < j ⌝ }
     ensures { λ r.
         ⌜ PairJoined (length (now (groups .entry))) j (now (parents .entry)) (now (old .entry)) (now (next .entry))
         (now (work .entry)) v w (now (groups .entry)) (now (groups .exit)) r ⌝ }
@@ -232,10 +232,10 @@ fn join_chain(
     groups: &mut [u16],
     work: &[u8],
 ) -> bool
-    requires some { ⌜ 0 < j ⌝ }
     requires comparing { ⌜ Comparing (length (now groups)) (now parents) (now old) (now next) (now links) (now work) ⌝ }
     requires inside { ⌜ v < length (now groups) ⌝ }
     requires labelled { ⌜ Labelled (length (now groups)) (now groups) ⌝ }
+    requires some { ⌜ 0 < j ⌝ }
     ensures { λ r.
         ⌜ ChainJoined (length (now (groups .entry))) j (now (parents .entry)) (now (old .entry)) (now (next .entry))
         (now (links .entry)) (now (work .entry)) v (now (groups .entry)) (now (groups .exit)) r ⌝ }
@@ -261,9 +261,9 @@ fn sweep_pairs(
     groups: &mut [u16],
     work: &[u8],
 ) -> bool
-    requires some { ⌜ 0 < j ⌝ }
     requires comparing { ⌜ Comparing (length (now groups)) (now parents) (now old) (now next) (now links) (now work) ⌝ }
     requires labelled { ⌜ Labelled (length (now groups)) (now groups) ⌝ }
+    requires some { ⌜ 0 < j ⌝ }
     ensures { λ r.
         ⌜ PairsJoined (length (now (groups .entry))) (length (now (groups .entry))) j (now (parents .entry)) (now (old .entry))
         (now (next .entry)) (now (links .entry)) (now (work .entry)) (now (groups .entry)) (now (groups .exit)) r ⌝ }
