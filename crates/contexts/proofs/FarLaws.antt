@@ -2,7 +2,7 @@
 -- on in that one already; what was compared by it stays joined; and what the climbs join is what states by themselves would have
 -- compared. Assumes nothing.
 use mathlib.Core.Path.{_≡_, refl, sym, ap, _∙_, subst, subst₂}
-use mathlib.Core.Logic.{_⊎_, inl, inr}
+use mathlib.Core.Logic.{inl, inr}
 use mathlib.Core.List.{List}
 use Prim.Native.Nat.{ℕ, zero, suc, _+_, _<_, _≤_}
 use native.Mathlib.Omega.{arith}
@@ -90,6 +90,7 @@ pub record Below (n m h : ℕ) (parents names : List ℕ) (v w : ℕ) : Type 0 w
   pub same : SameSuffix parents names (m + h) x y
 
 module _ (n : ℕ) (parents names : List ℕ) (arrays : Arrays n parents names) where
+  -- states of one own number are one state
   own-same : (u v : ℕ) → u < n → v < n → getD (numbersFrom n 0) u 0 ≡ getD (numbersFrom n 0) v 0 → u ≡ v
   own-same u v hu hv e = sym (number-at n u hu) ∙ e ∙ number-at n v hv
 
