@@ -15,6 +15,7 @@ use Rattle.indexed.specs.Partitions.{Labelled, sum}
 use Rattle.contexts.specs.Climbs.{Above}
 use Rattle.contexts.specs.Distances.{UnchangedAt, SpreadAt, SpreadFrom, Spread, Marking, Lowering, Fallen}
 use Rattle.contexts.specs.Distances.{MarkedAt, MarkedBelow, Lowered}
+use Rattle.contexts.proofs.ChainLaws.{both-none, both-some}
 use Rattle.contexts.proofs.ClimbLaws.{below-suc}
 
 -- no number is higher than itself
@@ -129,8 +130,8 @@ lowered-set dist p d inside lower =
 
 -- what is settled, written another way
 pub lowered-cast :
-    {settled settled′ : Type 0} {dist dist′ : List ℕ} {lowered : Bool} → (settled → settled′) → Lowered settled dist dist′ lowered →
-    Lowered settled′ dist dist′ lowered
+    {settled settled′ : Type 0} {dist dist′ : List ℕ} {lowered : Bool} → (settled → settled′) →
+    Lowered settled dist dist′ lowered → Lowered settled′ dist dist′ lowered
 lowered-cast f lowers =
     record {
       fallen = lowers .fallen;
@@ -149,30 +150,13 @@ module _ (n j : ℕ) (parents groups dist dist′ dist″ : List ℕ) (i u : ℕ
   Here here = Lowered (SpreadAt j parents groups dist′ u) dist′ dist″ here
 
   -- where neither lowers a number, all are as they should be from u on
-  none-of :
-      (before here : Bool) → Later before → Here here → (before || here) ≡ false →
-      (dist″ ≡ dist) × SpreadFrom u n j parents groups dist
-  none-of true here later at e = absurd (true≢false e)
-  none-of false true later at e = absurd (true≢false e)
-  none-of false false later at e = (
-    at .none refl .0 ∙ later .none refl .0,
-    λ v low h.
-        ⊎-elim
-        (λ same. subst (λ (x : ℕ). SpreadAt j parents groups dist x) (sym same)
-        (subst (λ (l : List ℕ). SpreadAt j parents groups l u) (later .none refl .0) (at .none refl .1)))
-        (λ apart. later .none refl .1 v (omega arith) h) (eq-dec v u),
-  )
-
-  -- where one of them lowers a number, the sum falls
-  some-of : (before here : Bool) → Later before → Here here → (before || here) ≡ true → sum dist″ < sum dist
-  some-of true true later at e = omega (arith, later .some refl, at .some refl)
-  some-of true false later at e =
-      let same : sum dist″ ≡ sum dist′ = ap sum (at .none refl .0) in
-      omega (arith, later .some refl)
-  some-of false true later at e =
-      let same : sum dist′ ≡ sum dist = ap sum (later .none refl .0) in
-      omega (arith, at .some refl)
-  some-of false false later at e = absurd (true≢false (sym e))
+  spread-of : (before here : Bool) → Later before → Here here → (before || here) ≡ false → SpreadFrom u n j parents groups dist
+  spread-of true here later at e v low h = absurd (true≢false e)
+  spread-of false here later at e v low h =
+      ⊎-elim
+      (λ same. subst (λ (x : ℕ). SpreadAt j parents groups dist x) (sym same)
+      (subst (λ (l : List ℕ). SpreadAt j parents groups l u) (later .none refl .0) (at .none e .1)))
+      (λ apart. later .none refl .1 v (omega arith) h) (eq-dec v u)
 
   -- both together
   pub lowered-more :
@@ -180,9 +164,15 @@ module _ (n j : ℕ) (parents groups dist dist′ dist″ : List ℕ) (i u : ℕ
   lowered-more before here later at =
       record {
         fallen = fallen-more (later .fallen) (at .fallen);
-        none = none-of before here later at;
-        some = some-of before here later at;
+        none = λ e. (both-none before here dist dist′ dist″ first second e, spread-of before here later at e);
+        some = both-some before here dist dist′ dist″ first second (later .some) (at .some);
       }
+    where
+      first : before ≡ false → dist′ ≡ dist
+      first e = later .none e .0
+
+      second : here ≡ false → dist″ ≡ dist′
+      second e = at .none e .0
 
 -- passes so far: lowered says whether another is due
 pub record Measured (n j : ℕ) (parents before groups dist : List ℕ) (lowered : Bool) : Type 0 where

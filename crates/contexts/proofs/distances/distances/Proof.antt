@@ -41,7 +41,8 @@ loop-less : tie.Need-loop-less Inv-loop μ-loop
 loop-less c =
     let turn = c .before .before in
     let here = turn .before in
-    subst (λ (b : Bool). due (c .lower .last .1 .1 .1 .0) (c .lower .result) < due (here .loop .dist) b) (sym (turn .loop-test .taken))
+    subst (λ (b : Bool). due (c .lower .last .1 .1 .1 .0) (c .lower .result) < due (here .loop .dist) b)
+    (sym (turn .loop-test .taken))
     (due-less (here .loop .dist) (c .lower .last .1 .1 .1 .0) (c .lower .result) (λ e. c .lower .ensures .none e .0)
     (c .lower .ensures .some))
 
@@ -58,7 +59,8 @@ returns c =
     let here = c .before in
     let start = entry here in
     subst (λ (k : ℕ). Spread (length (start .args .groups .now)) k (start .args .parents .now) (start .args .before .now)
-    (start .args .groups .now) (here .loop .dist)) (here .before .narrow8 .ensures) (measured-all (c .loop-test .left) (here .loop .inv))
+    (start .args .groups .now) (here .loop .dist)) (here .before .narrow8 .ensures)
+    (measured-all (c .loop-test .left) (here .loop .inv))
 
 pub distances-spec : {M : Type 1} → statement M
 distances-spec =

@@ -57,8 +57,8 @@ source-fits : (c : tie.After-class-above) → c .class-above .result < length (e
 source-fits c =
     let start = entry (target c) in
     let ready = start .pre .0 in
-    label-fits (length (start .args .groups .now)) (start .args .groups .now) (start .args .dist .now) (ready .labelled) (ready .few)
-    (ready .size) (getD (start .args .parents .now) (start .args .v) 0) (c .class-above .result)
+    label-fits (length (start .args .groups .now)) (start .args .groups .now) (start .args .dist .now) (ready .labelled)
+    (ready .few) (ready .size) (getD (start .args .parents .now) (start .args .v) 0) (c .class-above .result)
     (ready .above .below (start .args .v) (start .pre .1)) (c .class-above .ensures)
 
 element-copy-out-if2 : tie.Need-element-copy-out-if2

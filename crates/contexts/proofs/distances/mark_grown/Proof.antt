@@ -44,8 +44,8 @@ returns c =
     let loop = c .before .loop in
     let start = entry (c .before) in
     let all : loop .v ≡ length (start .args .groups .now) = omega (arith, c .loop-test .left, loop .inv .0) in
-    subst (λ (k : ℕ). MarkedBelow k (start .args .before .now) (start .args .groups .now) (start .args .dist .now) (loop .dist)) all
-    (loop .inv .1)
+    subst (λ (k : ℕ). MarkedBelow k (start .args .before .now) (start .args .groups .now) (start .args .dist .now) (loop .dist))
+    all (loop .inv .1)
 
 pub mark-grown-spec : {M : Type 1} → statement M
 mark-grown-spec =
