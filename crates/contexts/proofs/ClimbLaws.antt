@@ -46,6 +46,7 @@ module _ (n m : ℕ) (parents : List ℕ) (above : Above n parents) where
         steps = λ k pos le. let z : ⊥ = omega arith in absurd z;
       }
 
+  -- ancestors are states
   up-inside : (i v : ℕ) → v < n → up parents i v < n
   unfolding up
   up-inside zero v h = h

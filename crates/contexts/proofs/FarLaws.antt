@@ -1,8 +1,8 @@
--- Laws of what a sweep can leave out: names in common that lead through groups which have not grown since an earlier partition led
--- on in that one already; what was compared by it stays joined; and what the climbs join is what states by themselves would have
--- compared. Assumes nothing.
+-- Laws of what a sweep can leave out: names in common that lead through groups which have not grown since an earlier partition
+-- led on in that one already; what was compared by it stays joined; and what the climbs join is what states by themselves would
+-- have compared. Assumes nothing.
 use mathlib.Core.Path.{_≡_, refl, sym, ap, _∙_, subst, subst₂}
-use mathlib.Core.Logic.{_⊎_, inl, inr}
+use mathlib.Core.Logic.{inl, inr}
 use mathlib.Core.List.{List}
 use Prim.Native.Nat.{ℕ, zero, suc, _+_, _<_, _≤_}
 use native.Mathlib.Omega.{arith}
@@ -76,7 +76,8 @@ module _ (n h m : ℕ) (parents names before : List ℕ) where
 
 -- a partition that is tested by itself is closed
 pub tested-closed :
-    (n h m : ℕ) (parents names groups : List ℕ) → Tested n h m parents names groups groups → ContextClosed n h m parents names groups
+    (n h m : ℕ) (parents names groups : List ℕ) → Tested n h m parents names groups groups →
+    ContextClosed n h m parents names groups
 tested-closed n h m parents names groups tested = tested
 
 -- m names lead from v and w down to states x and y, and these and those before v and w are their last names
@@ -90,6 +91,7 @@ pub record Below (n m h : ℕ) (parents names : List ℕ) (v w : ℕ) : Type 0 w
   pub same : SameSuffix parents names (m + h) x y
 
 module _ (n : ℕ) (parents names : List ℕ) (arrays : Arrays n parents names) where
+  -- states of one own number are one state
   own-same : (u v : ℕ) → u < n → v < n → getD (numbersFrom n 0) u 0 ≡ getD (numbersFrom n 0) v 0 → u ≡ v
   own-same u v hu hv e = sym (number-at n u hu) ∙ e ∙ number-at n v hv
 
@@ -134,6 +136,6 @@ module _ (n : ℕ) (parents names : List ℕ) (arrays : Arrays n parents names) 
       let all : m + h ≡ k = omega arith in
       let below = own-below m h v w hv hw same shared in
       subst₂ (λ (a b : ℕ). getD groups a 0 ≡ getD groups b 0) (below .from-v) (below .from-w)
-      (climbs-steps n h m k parents names starts groups arrays some-names sum-is by climbed (below .x) (below .y) (below .x-inside)
-      (below .y-inside) (suffix-cast n parents names arrays (m + h) k (below .x) (below .y) all (below .same)) m more-names
-      (omega arith))
+      (climbs-steps n h m k parents names starts groups arrays some-names sum-is by climbed (below .x) (below .y)
+      (below .x-inside) (below .y-inside) (suffix-cast n parents names arrays (m + h) k (below .x) (below .y) all (below .same)) m
+      more-names (omega arith))

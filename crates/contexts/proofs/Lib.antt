@@ -1,6 +1,7 @@
 -- Why climbing and the sweeps give what the context rule asks for. Assumes nothing.
 pub mod ClimbLaws
 pub mod CommonLaws
+pub mod DistanceLaws
 pub mod FarLaws
 pub mod LinkLaws
 pub mod NearLaws

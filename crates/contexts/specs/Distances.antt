@@ -31,8 +31,8 @@ abbrev pub SpreadAt : ℕ → List ℕ → List ℕ → List ℕ → ℕ → Typ
 SpreadAt j parents groups dist v =
     (j ≤ distanceOf groups dist v + 1) ⊎ (distanceOf groups dist (getD parents v 0) ≤ distanceOf groups dist v + 1)
 
--- for each group a number, 0 where it has grown since `before`: no fewer arcs lead from it to one that has grown, as far as numbers
--- below j tell
+-- for each group a number, 0 where it has grown since `before`: no fewer arcs lead from it to one that has grown, as far as
+-- numbers below j tell
 pub record Spread (n j : ℕ) (parents before groups dist : List ℕ) : Type 0 where
   pub size : length dist ≡ state-limit
   pub unchanged : (u : ℕ) → u < n → UnchangedAt before groups dist u
