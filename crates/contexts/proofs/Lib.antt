@@ -6,5 +6,6 @@ pub mod FarLaws
 pub mod LinkLaws
 pub mod NearLaws
 pub mod ChainLaws
+pub mod ReadyLaws
 pub mod RoundLaws
 pub mod SweepLaws

@@ -1,10 +1,10 @@
--- Laws of the sweep: nothing compared yet, one arc more, which is compared with its chain; what the comparisons need; and what all
--- of them are: a sweep as the context rule asks for. Assumes nothing.
+-- Laws of the sweep: nothing compared yet, one arc more, which is compared with its chain; and what all comparisons are: a sweep as
+-- the context rule asks for. Assumes nothing.
 use mathlib.Core.Path.{_≡_, refl, sym, ap, _∙_, subst}
 use mathlib.Core.Logic.{_⊎_, inl, inr}
 use mathlib.Core.Bool.{Bool, false, _||_, false≢true}
 use mathlib.Core.List.{List}
-use Prim.Native.Nat.{ℕ, zero, suc, _+_, _<_, _≤_}
+use Prim.Native.Nat.{ℕ, zero, suc, _+_, _<_}
 use native.Mathlib.Numerals.{add-one}
 use native.Mathlib.Omega.{arith}
 use lib.ListN.{getD}
@@ -15,13 +15,13 @@ use Rattle.indexed.specs.Passes.{SuffixClasses, Swept}
 use Rattle.indexed.proofs.Suffixes.{parent-below, suffix-refl, suffix-sym, suffix-trans}
 use Rattle.contexts.specs.Climbs.{ParentsJoined}
 use Rattle.contexts.specs.Distances.{Tested, Spread, distanceOf}
-use Rattle.contexts.specs.Sweeps.{ArcOf, Listed, Near, Far, ListedNear, ArcsReady, Sizes, CommonAfter, OnChain, Falling}
-use Rattle.contexts.specs.Sweeps.{Comparing, Paired, ChainJoined, PairsJoined, SweptBy}
+use Rattle.contexts.specs.Sweeps.{ArcOf, Listed, Near, Far, ArcsReady, CommonAfter, Comparing}
+use Rattle.contexts.specs.Sweeps.{Paired, ChainJoined, PairsJoined, SweptBy}
 use Rattle.contexts.proofs.ClimbLaws.{below-suc}
 use Rattle.contexts.proofs.CommonLaws.{common-sym}
-use Rattle.contexts.proofs.LinkLaws.{linked-targets, share-groups, common-share, share-common}
-use Rattle.contexts.proofs.ChainLaws.{both-none, both-some, on-none, From, from-head, from-link, on-listed, listed-on}
-use Rattle.contexts.proofs.ChainLaws.{chain-falls}
+use Rattle.contexts.proofs.LinkLaws.{share-groups, common-share, share-common}
+use Rattle.contexts.proofs.ChainLaws.{both-none, both-some}
+use Rattle.contexts.proofs.ReadyLaws.{paired-listed, paired-near, link-on}
 use Rattle.contexts.proofs.FarLaws.{tested-far, tested-closed}
 
 module _ {n j : ℕ} {parents old next links work : List ℕ} where
@@ -94,78 +94,6 @@ share-refines n parents names groups others arrays refines (suc j) v w hv hw s =
 -- all pairs of arcs joined are a sweep, whatever number of last names the classes go by
 module _ {n j : ℕ} {parents names classes groups dist next links heads work : List ℕ} (arrays : Arrays n parents names)
     (labelled : Labelled n groups) (arcs : ArcsReady n j parents names classes groups dist next links heads work) where
-  -- an arc with others on its chain has a class
-  paired-listed :
-      (v w : ℕ) → v < n → OnChain links (getD links v 0) w → Listed parents names classes groups (getD classes v 0) v
-  paired-listed v w inside on = go (eq-dec (getD links v 0) 0)
-    where
-      go :
-          (getD links v 0 ≡ 0) ⊎ (getD links v 0 ≡ 0 → ⊥) → Listed parents names classes groups (getD classes v 0) v
-      go (inl none) = absurd (on-none links (getD links v 0) w none on)
-      go (inr some) = arcs .listed v inside (omega arith)
-
-  far-link :
-      (b v : ℕ) → v < n → Listed parents names classes groups b v → Far j groups dist v → getD links v 0 ≡ getD heads b 0
-  far-link b v inside listed far =
-      let own : Listed parents names classes groups (getD classes v 0) v =
-      subst (λ (c : ℕ). Listed parents names classes groups c v) (sym (listed .class-is)) listed in
-      arcs .far v inside own far ∙ ap (λ (c : ℕ). getD heads c 0) (listed .class-is)
-
-  -- the link of an arc leads down the chain of its class
-  link-from :
-      (b v : ℕ) → v < n → Listed parents names classes groups b v → From links (arcs .chained) b (getD links v 0)
-  link-from b v inside listed = go (decided (tells-ltb (distanceOf groups dist v) j))
-    where
-      go : Near j groups dist v ⊎ (Near j groups dist v → ⊥) → From links (arcs .chained) b (getD links v 0)
-      go (inl near) = from-link links (arcs .chained) b v inside (record { listed = listed; near = near })
-      go (inr not-near) =
-          subst (λ (at : ℕ). From links (arcs .chained) b at) (sym (far-link b v inside listed (omega arith)))
-          (from-head links (arcs .chained) b)
-
-  -- from a far arc to all near ones of its class, from a near one to those before it
-  link-on :
-      (b v w : ℕ) → v < n → w < n → Listed parents names classes groups b v →
-      ListedNear j parents names classes groups dist b w → Far j groups dist v ⊎ (w < v) → OnChain links (getD links v 0) w
-  link-on b v w hv hw in-v in-w which =
-      listed-on links (arcs .chained) b w (getD links v 0) (link-from b v hv in-v)
-      (go which (decided (tells-ltb (distanceOf groups dist v) j))) in-w
-    where
-      go : Far j groups dist v ⊎ (w < v) → Near j groups dist v ⊎ (Near j groups dist v → ⊥) → w < getD links v 0
-      go which (inr not-near) =
-          let last : getD heads b 0 ≤ w → ⊥ = λ above. arcs .chained .head-last b w hw above in-w in
-          omega (arith, far-link b v hv in-v (omega arith))
-      go (inl far) (inl near) = let z : ⊥ = omega arith in absurd z
-      go (inr earlier) (inl near) =
-          let last : getD links v 0 ≤ w → ⊥ =
-          λ above. arcs .chained .link-last b v w hv (record { listed = in-v; near = near }) above earlier in-w in
-          omega arith
-
-  arcs-fall : (v : ℕ) → v < n → Falling links (getD links v 0) n
-  arcs-fall v inside w on =
-      chain-falls links (arcs .chained) (getD classes v 0) (getD links v 0)
-      (link-from (getD classes v 0) v inside (paired-listed v w inside on)) w on
-
-  pub arcs-comparing : Sizes n classes next links heads work → Comparing n parents groups next links work
-  arcs-comparing sizes =
-      record {
-        few = arrays .few-states;
-        old-size = labelled .size;
-        links-size = omega (arith, arrays .few-states, sizes .links-size);
-        targets =
-            linked-targets labelled (arcs .linked) (omega (arith, arrays .few-states, sizes .next-size))
-            (omega (arith, sizes .next-size)) (sizes .room);
-        arcs = λ v inside.
-            record {
-              few = arrays .few-states;
-              inside = inside;
-              in-parents = omega (arith, arrays .parents-size);
-              in-old = omega (arith, labelled .size);
-              source-below = parent-below n parents names arrays v inside;
-              group-below = omega (arith, labelled .low v inside, arrays .few-states, sizes .next-size);
-            };
-        falling = arcs-fall;
-      }
-
   module _ {before groups′ : List ℕ} {joined : Bool} (spread : Spread n j parents before groups dist)
       (all : PairsJoined n n j parents groups next links work groups groups′ joined) where
     module _ (h : ℕ) (by : SuffixClasses n (suc h) parents names classes) (agree : SuffixAgree n h parents names groups) where
@@ -174,9 +102,8 @@ module _ {n j : ℕ} {parents names classes groups dist next links heads work : 
           (others : List ℕ) → ContextClosed n h (suc j) parents names others → Refines n groups others → (v w : ℕ) → v < n →
           Paired j groups next links work v w → ParentsJoined parents others v w
       pair-closed others context refines v w hv pair =
-          let first = paired-listed v w hv (pair .0) in
-          let found =
-          on-listed links (arcs .chained) (getD classes v 0) (getD links v 0) (link-from (getD classes v 0) v hv first) w (pair .0) in
+          let first = paired-listed arcs v w hv (pair .0) in
+          let found = paired-near arcs v w hv (pair .0) in
           let second = found .1 .listed in
           let hw = found .0 in
           let suffix : SameSuffix parents names (suc h) v w = by .alike v w hv hw .0 (first .classed, sym (second .class-is)) in
@@ -219,13 +146,13 @@ module _ {n j : ℕ} {parents names classes groups dist next links heads work : 
             -- from p down to q, and from q down to p
             down : Near j groups dist q → Far j groups dist p ⊎ (q < p) → ParentsJoined parents groups′ p q
             down near which =
-                all .complete p q hp (link-on b p q hp hq in-p (record { listed = in-q; near = near }) which, common)
+                all .complete p q hp (link-on arcs b p q hp hq in-p (record { listed = in-q; near = near }) which, common)
 
             back : Near j groups dist p → Far j groups dist q ⊎ (p < q) → ParentsJoined parents groups′ p q
             back near which =
                 sym
                 (all .complete q p hq (
-                  link-on b q p hq hp in-q (record { listed = in-p; near = near }) which,
+                  link-on arcs b q p hq hp in-q (record { listed = in-p; near = near }) which,
                   common-sym next work j (getD groups p 0) (getD groups q 0) common,
                 ))
 

@@ -135,7 +135,16 @@ fn run_rounds(
     partition::own(&mut numbers[..n]);
     let mut before = [0u16; STATE_LIMIT];
     partition::own(&mut before[..n]);
-    close_contexts(h, m, parents, names, &numbers[..n], &mut before[..n], groups, work);
+    close_contexts(
+        h,
+        m,
+        parents,
+        names,
+        &numbers[..n],
+        &mut before[..n],
+        groups,
+        work,
+    );
 }
 
 // Joins by the context rule until it applies no more. What the lent area holds at first is all the same.

@@ -2,9 +2,9 @@
 // first of each name out of each group, by classes. The sources of two arcs of a class have the same last names, and are joined
 // where m - 1 names lead on after both arcs. An arc goes by the state that it leads into.
 //
-// Most pairs are left out: an arc is far where fewer than m names do not lead on from it into a group that has grown since the
-// sweep before, and two far arcs were compared then. So the chain of a class has its near arcs alone; each of them is compared with
-// those before it, and each far arc with all of them.
+// Most pairs are left out: an arc is near where fewer than m - 1 arcs lead on from where it leads to a group that has grown since
+// the last sweep, else far, and what leads on from two far arcs was compared by the last sweep. So the chain of a class has its
+// near arcs alone; each of them is compared with those before it, and each far arc with all of them.
 use crate::STATE_LIMIT;
 use crate::distances::distances;
 use cells::cell;
@@ -84,8 +84,7 @@ fn link_arc(
     requires no_root { ⌜ 0 < v ⌝ }
     requires inside { ⌜ v < length (now old) ⌝ }
     requires sizes { ⌜ Sizes (length (now old)) (now classes) (now next) (now links) (now heads) (now work) ⌝ }
-    requires so_far {
-        ⌜ ArcsLinked v j (now parents) (now names) (now classes) (now old) (now dist) (now next) (now links) (now heads) (now work) ⌝ }
+    requires so_far { ⌜ ArcsLinked v j (now parents) (now names) (now classes) (now old) (now dist) (now next) (now links) (now heads) (now work) ⌝ }
     ensures { λ _.
         ⌜ ArcsLinked (v + 1) j (now (parents .entry)) (now (names .entry)) (now (classes .entry)) (now (old .entry))
         (now (dist .entry)) (now (next .exit)) (now (links .exit)) (now (heads .exit)) (now (work .exit)) ⌝ }
@@ -118,8 +117,7 @@ fn link_arcs(
     requires arrays { ⌜ Arrays (length (now old)) (now parents) (now names) ⌝ }
     requires labelled { ⌜ Labelled (length (now old)) (now old) ⌝ }
     requires sizes { ⌜ Sizes (length (now old)) (now classes) (now next) (now links) (now heads) (now work) ⌝ }
-    requires none {
-        ⌜ ArcsLinked 1 j (now parents) (now names) (now classes) (now old) (now dist) (now next) (now links) (now heads) (now work) ⌝ }
+    requires none { ⌜ ArcsLinked 1 j (now parents) (now names) (now classes) (now old) (now dist) (now next) (now links) (now heads) (now work) ⌝ }
     ensures { λ _.
         ⌜ ArcsLinked (length (now (old .entry))) j (now (parents .entry)) (now (names .entry)) (now (classes .entry))
         (now (old .entry)) (now (dist .entry)) (now (next .exit)) (now (links .exit)) (now (heads .exit)) (now (work .exit)) ⌝ }
@@ -127,7 +125,17 @@ fn link_arcs(
     let mut v = 1;
     while v < old.len() {
         link_arc(
-            j, v, parents, names, classes, old, dist, next, links, heads, work,
+            j,
+            v,
+            parents,
+            names,
+            classes,
+            old,
+            dist,
+            next,
+            links,
+            heads,
+            work,
         );
         v += 1;
     }
@@ -308,7 +316,16 @@ pub fn sweep(
     let mut links = [0u16; STATE_LIMIT];
     let mut heads = [0u16; STATE_LIMIT];
     link_arcs(
-        j, parents, names, classes, before, &dist, &mut next, &mut links, &mut heads, work,
+        j,
+        parents,
+        names,
+        classes,
+        before,
+        &dist,
+        &mut next,
+        &mut links,
+        &mut heads,
+        work,
     );
     link_far(classes, &heads, &mut links);
     sweep_pairs(j, parents, before, &next, &links, groups, work)

@@ -118,9 +118,9 @@ returns-3 c =
       short = λ short. let z : ⊥ = omega (arith, classed) in absurd z;
       far = λ _ far. let z : ⊥ = omega (arith, other .if2 .left, distance-is read) in absurd z;
       near = λ _ _. (
-          ap (λ (b : ℕ). set links (start .args .v) (getD heads b 0)) (class .ensures),
-          subst₂ (λ (b h : ℕ). set heads (class .result) (c .narrow16 .result) ≡ set heads b h) (class .ensures)
-              (c .narrow16 .ensures) refl,
+        ap (λ (b : ℕ). set links (start .args .v) (getD heads b 0)) (class .ensures),
+        subst₂ (λ (b h : ℕ). set heads (class .result) (c .narrow16 .result) ≡ set heads b h) (class .ensures)
+            (c .narrow16 .ensures) refl,
       );
     }
 

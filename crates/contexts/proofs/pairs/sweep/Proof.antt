@@ -11,7 +11,8 @@ use Rattle.indexed.proofs.Chains.{heads-none}
 use Rattle.indexed.proofs.Suffixes.{parent-below}
 use Rattle.contexts.specs.Sweeps.{ArcsLinked, ArcsReady, Comparing, PairsJoined}
 use Rattle.contexts.proofs.NearLaws.{distances-none, arcs-none, arcs-ready}
-use Rattle.contexts.proofs.SweepLaws.{arcs-comparing, pairs-sweep}
+use Rattle.contexts.proofs.ReadyLaws.{arcs-comparing}
+use Rattle.contexts.proofs.SweepLaws.{pairs-sweep}
 use Rattle.contexts.proofs.pairs.sweep.Statement.{statement}
 use Rattle.contexts.proofs.pairs.sweep.Tie as tie
 
@@ -153,7 +154,7 @@ sweep-pairs-requires c κs =
     let sizes = links .kept .1 .1 .1 .1 .1 .1 in (
       subst (λ (l : List ℕ). Comparing (length groups) (start .args .parents .now) l (made .0) (far .link-far .last .1 .1 .0)
           (made .1 .1 .1 .0)) (sym (at .copy .ensures))
-          (arcs-comparing (start .pre .0) (start .pre .1 .1 .1 .0) (ready-here far)
+          (arcs-comparing (ready-here far) (start .pre .0) (start .pre .1 .1 .1 .0)
           (record {
             classes-size = start .pre .1 .0;
             next-size = sizes .0;
