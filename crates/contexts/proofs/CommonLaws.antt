@@ -98,22 +98,23 @@ common-apart j x y targets some none leads = trying-none (trying-all (j - 1) x y
 pub common-one :
     {next work : List ℕ} (j x y : ℕ) → Targets next work → 0 < j → j < 2 →
     (not (eqb (bitAnd (getD next x 0) (getD next y 0)) 0) ≡ true) ↔ Common next work j x y
-common-one {next} {work} j x y targets some few =
-    let one : 1 ≡ j = omega arith in
-    let left = bitAnd (getD next x 0) (getD next y 0) in
-    let trying = trying-all {next = next} {work = work} 0 x y targets in
-    go left refl trying (eqb left 0) refl one
+common-one {next} {work} j x y targets some few = go (eqb left 0) refl
   where
-    go :
-        (left : ℕ) → left ≡ bitAnd (getD next x 0) (getD next y 0) → Trying next work 0 x y left → (b : Bool) → eqb left 0 ≡ b → 1 ≡ j →
-        (not b ≡ true) ↔ Common next work j x y
-    go left is trying true e one = (
+    left : ℕ
+    left = bitAnd (getD next x 0) (getD next y 0)
+
+    one : 1 ≡ j
+    one = omega arith
+
+    trying : Trying next work 0 x y left
+    trying = trying-all 0 x y targets
+
+    go : (b : Bool) → eqb left 0 ≡ b → (not b ≡ true) ↔ Common next work j x y
+    go true e = (
       λ f. absurd (false≢true f),
       λ leads. absurd (trying-none trying (eqb-true left 0 e) j one leads),
     )
-    go left is trying false e one =
-        let some-left : 0 < left = omega (arith, eqb-false left 0 e) in (
-          λ _. trying-found trying some-left j (cellAt work x (trailingZeros 64 left)) (cellAt work y (trailingZeros 64 left)) one refl
-              refl tt,
-          λ _. refl,
-        )
+    go false e =
+        let name = trailingZeros 64 left in
+        let some-left : 0 < left = omega (arith, eqb-false left 0 e) in
+        (λ _. trying-found trying some-left j (cellAt work x name) (cellAt work y name) one refl refl tt, λ _. refl)

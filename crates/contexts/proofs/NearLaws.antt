@@ -1,5 +1,5 @@
--- The chains of the near arcs by class, and the marks of the far ones: no arc yet, one more, which is put into its chain or marked,
--- and the far arcs linked in the end. Assumes nothing.
+-- The chains of the near arcs by class, and the marks of the far ones: no arc yet, one more, which is put into its chain or
+-- marked, and the far arcs linked in the end. Assumes nothing.
 use mathlib.Core.Path.{_≡_, refl, sym, _∙_, subst, subst₂}
 use mathlib.Core.Logic.{_⊎_, inl, inr}
 use mathlib.Core.List.{List}
@@ -59,15 +59,16 @@ module _ {j : ℕ} {parents names classes old dist : List ℕ} where
     -- far arcs below i + 1 have the mark if arc i has, and those before it still have it
     far-more :
         (links′ : List ℕ) → ((v : ℕ) → (v ≡ i → ⊥) → getD links′ v 0 ≡ getD links v 0) →
-        (Listed parents names classes old (getD classes i 0) i → Far j old dist i → getD links′ i 0 ≡ waiting) → (v : ℕ) → v < i + 1 →
-        Listed parents names classes old (getD classes v 0) v → Far j old dist v → getD links′ v 0 ≡ waiting
+        (Listed parents names classes old (getD classes i 0) i → Far j old dist i → getD links′ i 0 ≡ waiting) →
+        (v : ℕ) → v < i + 1 → Listed parents names classes old (getD classes v 0) v → Far j old dist v → getD links′ v 0 ≡ waiting
     far-more links′ kept here v low = go (eq-dec v i)
       where
         go :
             (v ≡ i) ⊎ (v ≡ i → ⊥) → Listed parents names classes old (getD classes v 0) v → Far j old dist v →
             getD links′ v 0 ≡ waiting
         go (inl e) listed far =
-            subst (λ (u : ℕ). Listed parents names classes old (getD classes u 0) u → Far j old dist u → getD links′ u 0 ≡ waiting)
+            subst
+            (λ (u : ℕ). Listed parents names classes old (getD classes u 0) u → Far j old dist u → getD links′ u 0 ≡ waiting)
             (sym e) here listed far
         go (inr other) listed far = kept v other ∙ so-far .far v (omega arith) listed far
 
@@ -156,14 +157,15 @@ module _ {j : ℕ} {parents names classes old dist : List ℕ} where
             (set heads (getD classes i 0) (i + 1)) work′
         arcs-near in-heads links-size near =
             let b = getD classes i 0 in
+            let head = getD heads b 0 in
             record {
               linked = rw add-one linked;
               chained =
                   chained-push i (ListedNear j parents names classes old dist) links heads b (i + 1) in-links in-heads refl
                   (record { listed = here; near = near }) (λ c in-c. sym (in-c .listed .class-is)) (so-far .chained);
-              listed = listed-more (getD heads b 0);
-              far = far-more (set links i (getD heads b 0)) (other-kept (getD heads b 0)) (λ listed far. let z : ⊥ = omega arith in absurd z);
-              waits = waits-more (getD heads b 0) (λ e. let z : ⊥ = omega (arith, so-far .chained .head-low b) in absurd z);
+              listed = listed-more head;
+              far = far-more (set links i head) (other-kept head) (λ listed far. let z : ⊥ = omega arith in absurd z);
+              waits = waits-more head (λ e. let z : ⊥ = omega (arith, so-far .chained .head-low b) in absurd z);
             }
 
       pub arcs-placed :
@@ -178,14 +180,15 @@ module _ {j : ℕ} {parents names classes old dist : List ℕ} where
               ArcsLinked (i + 1) j parents names classes old dist next′ l h work′ →
               ArcsLinked (i + 1) j parents names classes old dist next′ links′ heads′ work′
           to l h e arcs =
-              subst₂ (λ (l h : List ℕ). ArcsLinked (i + 1) j parents names classes old dist next′ l h work′) (sym (e .0)) (sym (e .1))
-              arcs
+              subst₂ (λ (l h : List ℕ). ArcsLinked (i + 1) j parents names classes old dist next′ l h work′) (sym (e .0))
+              (sym (e .1)) arcs
 
           here : getD classes i 0 < state-limit → Listed parents names classes old (getD classes i 0) i
           here classed = record { classed = classed; class-is = refl; no-root = some; first = first }
 
           go :
-              (getD classes i 0 < state-limit) ⊎ (getD classes i 0 < state-limit → ⊥) → Near j old dist i ⊎ (Near j old dist i → ⊥) →
+              (getD classes i 0 < state-limit) ⊎ (getD classes i 0 < state-limit → ⊥) →
+              Near j old dist i ⊎ (Near j old dist i → ⊥) →
               ArcsLinked (i + 1) j parents names classes old dist next′ links′ heads′ work′
           go (inr not-classed) near =
               let short : state-limit ≤ getD classes i 0 = omega arith in
@@ -194,8 +197,8 @@ module _ {j : ℕ} {parents names classes old dist : List ℕ} where
               let far : Far j old dist i = omega arith in
               to (set links i waiting) heads (placed .far classed far) (arcs-far (omega arith) (here classed) far)
           go (inl classed) (inl near) =
-              to (set links i (getD heads (getD classes i 0) 0)) (set heads (getD classes i 0) (i + 1)) (placed .near classed near)
-              (arcs-near (omega arith) (here classed) (omega arith) links-size near)
+              to (set links i (getD heads (getD classes i 0) 0)) (set heads (getD classes i 0) (i + 1))
+              (placed .near classed near) (arcs-near (omega arith) (here classed) (omega arith) links-size near)
 
   -- the far arcs are linked
   pub arcs-ready :

@@ -1,5 +1,5 @@
--- Where the links of the arcs lead, when the far ones are linked too: from each arc with a class to near arcs of this class, from a
--- far arc to all of them, from a near one to those before it; and what the comparisons need. Assumes nothing.
+-- Where the links of the arcs lead, when the far ones are linked too: from each arc with a class to near arcs of this class, from
+-- a far arc to all of them, from a near one to those before it; and what the comparisons need. Assumes nothing.
 use mathlib.Core.Path.{_≡_, sym, ap, _∙_, subst}
 use mathlib.Core.Logic.{_⊎_, inl, inr}
 use mathlib.Core.List.{List}

@@ -124,7 +124,8 @@ rounds-none n h m parents names before groups ready own =
 
 -- one round: forks, then a sweep
 module _ (n h m : ℕ) (parents names before groups forked : List ℕ) (was : Bool) (arrays : Arrays n parents names)
-    (pos : 0 < h) (so-far : RoundsTo n h m parents names before groups was) (forks : ForksJoined n parents names groups forked) where
+    (pos : 0 < h) (so-far : RoundsTo n h m parents names before groups was)
+    (forks : ForksJoined n parents names groups forked) where
   forked-sound : ContextSound n h m parents names forked
   forked-sound others fork context = forks .sound others fork (so-far .sound others fork context)
 

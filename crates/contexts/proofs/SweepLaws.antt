@@ -1,5 +1,5 @@
--- Laws of the sweep: nothing compared yet, one arc more, which is compared with its chain; and what all comparisons are: a sweep as
--- the context rule asks for. Assumes nothing.
+-- Laws of the sweep: nothing compared yet, one arc more, which is compared with its chain; and what all comparisons are: a sweep
+-- as the context rule asks for. Assumes nothing.
 use mathlib.Core.Path.{_≡_, refl, sym, ap, _∙_, subst}
 use mathlib.Core.Logic.{_⊎_, inl, inr}
 use mathlib.Core.Bool.{Bool, false, _||_, false≢true}
@@ -202,8 +202,8 @@ module _ {n j : ℕ} {parents names classes groups dist next links heads work : 
               share-groups labelled (arcs .linked) j x y p q to-p to-q (shared .9) in
               one-source (getD classes p 0) p q (at-x .below) (at-y .below)
               (record { classed = class .0; class-is = refl; no-root = at-x .no-root; first = at-x .first })
-              (record { classed = class .0; class-is = sym (class .1); no-root = at-y .no-root; first = at-y .first }) suffix after
-              (share-common labelled (arcs .linked) fork j p q after)
+              (record { classed = class .0; class-is = sym (class .1); no-root = at-y .no-root; first = at-y .first }) suffix
+              after (share-common labelled (arcs .linked) fork j p q after)
 
           now-tested : Tested n h (suc j) parents names groups groups′
           now-tested v w hv hw s shared =

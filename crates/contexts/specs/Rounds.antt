@@ -21,8 +21,8 @@ pub record ForksJoined (n : ℕ) (parents names groups groups′ : List ℕ) : T
   pub closed : ForkClosed n parents names groups′
   pub fewer : sum groups′ ≤ sum groups
 
--- what the rounds of the context rule start from: contexts of two names and more are left to them, and what the tree itself tells is
--- joined already
+-- what the rounds of the context rule start from: contexts of two names and more are left to them, and what the tree itself tells
+-- is joined already
 pub record RoundReady (n h m : ℕ) (parents names groups : List ℕ) : Type 0 where
   pub arrays : Arrays n parents names
   pub some-names : 0 < h

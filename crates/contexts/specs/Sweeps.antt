@@ -1,7 +1,8 @@
 -- The sweep over pairs of arcs, after which j names lead on in common. In order: the first arc of each group and name, as a set of
--- names for each group and a cell for each group and name; the chains of the near ones among these arcs by class, and the links of
--- the far ones; names in succession that lead out of two groups; the pairs of arcs that are compared; what joining one pair, one
--- chain and all pairs promises; and the sweep. A group goes by its label, an arc by the state that it leads into. Assumes nothing.
+-- names for each group and a cell for each group and name; the chains of the near ones among these arcs by class, and the links
+-- of the far ones; names in succession that lead out of two groups; the pairs of arcs that are compared; what joining one pair,
+-- one chain and all pairs promises; and the sweep. A group goes by its label, an arc by the state that it leads into.
+-- Assumes nothing.
 use mathlib.Core.Path.{_≡_}
 use mathlib.Core.Bool.{Bool, true, false}
 use mathlib.Core.List.{List}
@@ -62,8 +63,8 @@ pub record ListedNear (j : ℕ) (parents names classes old dist : List ℕ) (b v
 abbrev pub waiting : ℕ
 waiting = 513
 
--- the links and heads after the first arc v of its name out of its group is put into its chain, if it is near, or marked, if it is
--- far; one without a class is left alone
+-- the links and heads after arc v, the first of its name out of its group, is put into its chain, if it is near, or marked, if it
+-- is far; one without a class is left alone
 pub record Placed (j v : ℕ) (classes old dist links heads links′ heads′ : List ℕ) : Type 0 where
   pub short : state-limit ≤ getD classes v 0 → (links′ ≡ links) × (heads′ ≡ heads)
   pub far : getD classes v 0 < state-limit → Far j old dist v → (links′ ≡ set links v waiting) × (heads′ ≡ heads)
@@ -71,8 +72,8 @@ pub record Placed (j v : ℕ) (classes old dist links heads links′ heads′ : 
       getD classes v 0 < state-limit → Near j old dist v →
       (links′ ≡ set links v (getD heads (getD classes v 0) 0)) × (heads′ ≡ set heads (getD classes v 0) (v + 1))
 
--- the arcs into the states below i, as sets, cells and chains of near arcs; far arcs are marked, and only they are; what has a link
--- or the mark has a class
+-- the arcs into the states below i, as sets, cells and chains of near arcs; far arcs are marked, and only they are; what has a
+-- link or the mark has a class
 pub record ArcsLinked (i j : ℕ) (parents names classes old dist next links heads work : List ℕ) : Type 0 where
   pub linked : Linked i parents names old next work
   pub chained : Chained i (ListedNear j parents names classes old dist) links heads

@@ -20,8 +20,8 @@ ghost use Rattle.cells.specs.Cells.{work-bytes};
 ghost use Rattle.indexed.specs.Trees.{Arrays};
 ghost use Rattle.indexed.specs.Partitions.{Labelled};
 ghost use Rattle.model.specs.Limits.{setting-limit, state-limit};
-ghost use Rattle.contexts.specs.Sweeps.{Sizes, Placed, ArcsLinked, Settled, FarLinked, Targets, Common, ArcInside, Comparing};
-ghost use Rattle.contexts.specs.Sweeps.{waiting, PairJoined, ChainJoined, PairsJoined, SweptBy};
+ghost use Rattle.contexts.specs.Sweeps.{Sizes, Placed, ArcsLinked, waiting, Settled, FarLinked, Targets, Common};
+ghost use Rattle.contexts.specs.Sweeps.{ArcInside, Comparing, PairJoined, ChainJoined, PairsJoined, SweptBy};
 
 // The class of a state with too few names.
 const NONE: u16 = 512;
@@ -84,7 +84,8 @@ fn link_arc(
     requires no_root { ⌜ 0 < v ⌝ }
     requires inside { ⌜ v < length (now old) ⌝ }
     requires sizes { ⌜ Sizes (length (now old)) (now classes) (now next) (now links) (now heads) (now work) ⌝ }
-    requires so_far { ⌜ ArcsLinked v j (now parents) (now names) (now classes) (now old) (now dist) (now next) (now links) (now heads) (now work) ⌝ }
+    requires so_far { ⌜ ArcsLinked v j (now parents) (now names) (now classes) (now old) (now dist) (now next)
+        (now links) (now heads) (now work) ⌝ }
     ensures { λ _.
         ⌜ ArcsLinked (v + 1) j (now (parents .entry)) (now (names .entry)) (now (classes .entry)) (now (old .entry))
         (now (dist .entry)) (now (next .exit)) (now (links .exit)) (now (heads .exit)) (now (work .exit)) ⌝ }
@@ -101,7 +102,8 @@ fn link_arc(
     place_arc(j, v, classes, old, dist, links, heads);
 }
 
-// The set of names that lead out of each group, in `next`, the groups that they lead to, in the cells, and the chains of near arcs.
+// The set of names that lead out of each group, in `next`, the groups that they lead to, in the cells, and the chains of near
+// arcs.
 fn link_arcs(
     j: usize,
     parents: &[u16],
@@ -117,7 +119,8 @@ fn link_arcs(
     requires arrays { ⌜ Arrays (length (now old)) (now parents) (now names) ⌝ }
     requires labelled { ⌜ Labelled (length (now old)) (now old) ⌝ }
     requires sizes { ⌜ Sizes (length (now old)) (now classes) (now next) (now links) (now heads) (now work) ⌝ }
-    requires none { ⌜ ArcsLinked 1 j (now parents) (now names) (now classes) (now old) (now dist) (now next) (now links) (now heads) (now work) ⌝ }
+    requires none { ⌜ ArcsLinked 1 j (now parents) (now names) (now classes) (now old) (now dist) (now next)
+        (now links) (now heads) (now work) ⌝ }
     ensures { λ _.
         ⌜ ArcsLinked (length (now (old .entry))) j (now (parents .entry)) (now (names .entry)) (now (classes .entry))
         (now (old .entry)) (now (dist .entry)) (now (next .exit)) (now (links .exit)) (now (heads .exit)) (now (work .exit)) ⌝ }
@@ -286,8 +289,8 @@ fn sweep_pairs(
     joined
 }
 
-// The sweep for m names, by the groups as they are at first; true where anything was joined. `before` has the groups that the sweep
-// before went by, and gets those of this one.
+// The sweep for m names, by the groups as they are at first; true where anything was joined. `before` has the groups that the
+// last sweep went by, and gets those of this one.
 pub fn sweep(
     m: usize,
     parents: &[u16],

@@ -71,8 +71,9 @@ swept-here c =
     let cut = here .before .before in
     let front = cut .suffix-classes .last .1 .1 .1 .0 in
     subst₂ (λ (k : ℕ) (l : List ℕ). SweptBy k (at .args .m) (at .args .parents .now) (at .args .names .now) l (here .loop .before)
-    (c .sweep .last .1 .1 .1 .1 .0) (forked c .close-forks .last .1 .1 .1 .0) (c .sweep .last .1 .1 .1 .1 .1 .0) (c .sweep .result))
-    (forks-here (forked c) .labelled .size) (front-again n front front _ refl (classes-here cut .size)) (c .sweep .ensures)
+    (c .sweep .last .1 .1 .1 .1 .0) (forked c .close-forks .last .1 .1 .1 .0) (c .sweep .last .1 .1 .1 .1 .1 .0)
+    (c .sweep .result)) (forks-here (forked c) .labelled .size)
+    (front-again n front front _ refl (classes-here cut .size)) (c .sweep .ensures)
 
 add-suffix-classes : tie.Need-add-suffix-classes Inv-loop μ-loop
 add-suffix-classes c = omega (arith, c .before .before .before .before .before .before .pre .0 .limit)
@@ -164,9 +165,9 @@ loop-less c =
     subst (λ (b : Bool). due (sweeps .sweep .last .1 .1 .1 .1 .1 .0) (sweeps .sweep .result) < due (here .loop .groups) b)
     (sym (forked sweeps .before .before .before .loop-test .taken))
     (rounds-less (length (at .args .groups .now)) (at .args .h) (at .args .m) (at .args .parents .now) (at .args .names .now)
-    (here .loop .before) (here .loop .groups) (forked sweeps .close-forks .last .1 .1 .1 .0) (here .loop .joined) (at .pre .0 .arrays)
-    (at .pre .0 .some-names) (here .loop .inv .2) (forks-here (forked sweeps)) (cut .suffix-classes .last .1 .1 .1 .0)
-    (sweeps .sweep .last .1 .1 .1 .1 .0) (sweeps .sweep .last .1 .1 .1 .1 .1 .0) (sweeps .sweep .result) (classes-here cut)
+    (here .loop .before) (here .loop .groups) (forked sweeps .close-forks .last .1 .1 .1 .0) (here .loop .joined)
+    (at .pre .0 .arrays) (at .pre .0 .some-names) (here .loop .inv .2) (forks-here (forked sweeps))
+    (cut .suffix-classes .last .1 .1 .1 .0) (sweeps .sweep .last .1 .1 .1 .1 .0) (sweeps .sweep .last .1 .1 .1 .1 .1 .0) (sweeps .sweep .result) (classes-here cut)
     (swept-here sweeps))
 
 loop-again : tie.Need-loop-again Inv-loop μ-loop
@@ -180,9 +181,9 @@ loop-again c =
       kept .1 .1 .0 ∙ forks .close-forks .kept .1 .1 .1 .1 .0 ∙ here .loop .inv .0,
       kept .0 ∙ here .loop .inv .1,
       rounds-more (length (at .args .groups .now)) (at .args .h) (at .args .m) (at .args .parents .now) (at .args .names .now)
-          (here .loop .before) (here .loop .groups) (forks .close-forks .last .1 .1 .1 .0) (here .loop .joined) (at .pre .0 .arrays)
-          (at .pre .0 .some-names) (here .loop .inv .2) (forks-here forks) (cut .suffix-classes .last .1 .1 .1 .0)
-          (sweeps .sweep .last .1 .1 .1 .1 .0) (sweeps .sweep .last .1 .1 .1 .1 .1 .0) (sweeps .sweep .result) (classes-here cut)
+          (here .loop .before) (here .loop .groups) (forks .close-forks .last .1 .1 .1 .0) (here .loop .joined)
+          (at .pre .0 .arrays) (at .pre .0 .some-names) (here .loop .inv .2) (forks-here forks)
+          (cut .suffix-classes .last .1 .1 .1 .0) (sweeps .sweep .last .1 .1 .1 .1 .0) (sweeps .sweep .last .1 .1 .1 .1 .1 .0) (sweeps .sweep .result) (classes-here cut)
           (swept-here sweeps),
     )
 

@@ -63,7 +63,8 @@ slice-aggregate-close-contexts : tie.Need-slice-aggregate-close-contexts
 slice-aggregate-close-contexts c =
     let own = c .before .before .before .before .before in
     let n = length (own .before .before .before .before .before .before .args .groups .now) in
-    sym (ap length (front-again n (numbersFrom n 0) (own .own .last .0) _ (own-here own) (numbers-length n 0)) ∙ numbers-length n 0)
+    let size = numbers-length n 0 in
+    sym (ap length (front-again n (numbersFrom n 0) (own .own .last .0) _ (own-here own) size) ∙ size)
 
 array-borrow-prefix-before-2 : tie.Need-array-borrow-prefix-before-2
 array-borrow-prefix-before-2 c =
@@ -75,18 +76,20 @@ slice-aggregate-close-contexts-2 : tie.Need-slice-aggregate-close-contexts-2
 slice-aggregate-close-contexts-2 c =
     let own = c .before .before .before in
     let n = length (own .before .before .before .before .before .before .before .before .before .args .groups .now) in
-    sym (ap length (front-again n (numbersFrom n 0) (own .own2 .last .0) _ (before-here own) (numbers-length n 0)) ∙ numbers-length n 0)
+    let size = numbers-length n 0 in
+    sym (ap length (front-again n (numbersFrom n 0) (own .own2 .last .0) _ (before-here own) size) ∙ size)
 
 close-contexts-requires : tie.Need-close-contexts-requires
 close-contexts-requires c κs =
     let own-before = c .before .before .before .before .before in
     let own = own-before .before .before .before in
     let start = own .before .before .before .before .before .before in
-    let n = length (start .args .groups .now) in (
+    let n = length (start .args .groups .now) in
+    let size = numbers-length n 0 in (
       start .pre .0,
       (
-        front-again n (numbersFrom n 0) (own .own .last .0) _ (own-here own) (numbers-length n 0),
-        (front-again n (numbersFrom n 0) (own-before .own2 .last .0) _ (before-here own-before) (numbers-length n 0), start .pre .1),
+        front-again n (numbersFrom n 0) (own .own .last .0) _ (own-here own) size,
+        (front-again n (numbersFrom n 0) (own-before .own2 .last .0) _ (before-here own-before) size, start .pre .1),
       ),
     )
 

@@ -48,7 +48,9 @@ wide16-requires : tie.Need-wide16-requires Inv-loop μ-loop
 wide16-requires c κs = tt
 
 loop-holds : tie.Need-loop-holds Inv-loop μ-loop
-loop-holds c = (refl, chaining-none (c .wide16 .ensures) (c .before .before .before .before .before .before .before .before .pre .1 .1 .0))
+loop-holds c =
+    let start = c .before .before .before .before .before .before .before .before in
+    (refl, chaining-none (c .wide16 .ensures) (start .pre .1 .1 .0))
 
 sub-w : tie.Need-sub-w Inv-loop μ-loop
 sub-w c = omega arith

@@ -52,7 +52,9 @@ mul-if1-2 c =
     omega (arith, c .before .wide162 .ensures, start .pre .1 .1 .0 .group-below, start .pre .0 .few)
 
 shared-slice-read-if1-2 : tie.Need-shared-slice-read-if1-2
-shared-slice-read-if1-2 c = omega (arith, c .before .before .wide162 .ensures, entry (c .before .before) .pre .1 .1 .0 .group-below)
+shared-slice-read-if1-2 c =
+    let both = c .before .before in
+    omega (arith, both .wide162 .ensures, entry both .pre .1 .1 .0 .group-below)
 
 -- no name leaves both groups
 returns : tie.Need-returns
@@ -91,7 +93,9 @@ mul-if2 c =
     omega (arith, c .before .before .wide163 .ensures, start .pre .1 .0 .source-below, start .pre .1 .0 .few)
 
 slice-read-if2 : tie.Need-slice-read-if2
-slice-read-if2 c = omega (arith, c .before .before .before .wide163 .ensures, entry (targets (c .before)) .pre .1 .0 .source-below)
+slice-read-if2 c =
+    let both = c .before in
+    omega (arith, both .before .before .wide163 .ensures, entry (targets both) .pre .1 .0 .source-below)
 
 mul-if2-2 : tie.Need-mul-if2-2
 mul-if2-2 c =
@@ -100,7 +104,8 @@ mul-if2-2 c =
 
 slice-read-if2-2 : tie.Need-slice-read-if2-2
 slice-read-if2-2 c =
-    omega (arith, c .before .before .wide164 .ensures, entry (targets (c .before .before)) .pre .1 .1 .0 .source-below)
+    let both = c .before .before in
+    omega (arith, both .wide164 .ensures, entry (targets both) .pre .1 .1 .0 .source-below)
 
 -- the sources are in one group
 returns-2 : tie.Need-returns-2
@@ -109,8 +114,8 @@ returns-2 c =
     let start = entry (targets both) in
     let groups = start .args .groups .now in
     pair-left (start .pre .1 .1 .1 .0)
-    (λ common. subst₂ (λ (x y : ℕ). getD groups x 0 ≡ getD groups y 0) (both .before .before .wide163 .ensures) (both .wide164 .ensures)
-    (c .if2 .taken))
+    (λ common. subst₂ (λ (x y : ℕ). getD groups x 0 ≡ getD groups y 0) (both .before .before .wide163 .ensures)
+    (both .wide164 .ensures) (c .if2 .taken))
 
 common-requires : tie.Need-common-requires
 common-requires c κs =

@@ -161,13 +161,9 @@ place-arc-requires c κs =
     let start = entry (put .before .before .before .before .before .before .before .before) in
     let few = start .pre .0 .few-states in
     let inside = start .pre .1 .1 .1 .0 in
-    let sizes = start .pre .1 .1 .1 .1 .0 in (
-      sizes .classes-size,
-      (
-        inside,
-        (few, (omega (arith, start .pre .1 .0 .low (start .args .v) inside, inside, few), (sizes .links-size, sizes .heads-size))),
-      ),
-    )
+    let sizes = start .pre .1 .1 .1 .1 .0 in
+    let group-low = start .pre .1 .0 .low (start .args .v) inside in
+    (sizes .classes-size, (inside, (few, (omega (arith, group-low, inside, few), (sizes .links-size, sizes .heads-size)))))
 
 same-length : tie.Need-same-length
 same-length c = search needs

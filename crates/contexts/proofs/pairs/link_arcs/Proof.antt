@@ -93,8 +93,9 @@ returns c =
     let loop = c .before .loop in
     let start = entry (c .before) in
     let all : loop .v ≡ length (start .args .old .now) = omega (arith, c .loop-test .left, loop .inv .1) in
-    subst (λ (k : ℕ). ArcsLinked k (start .args .j) (start .args .parents .now) (start .args .names .now) (start .args .classes .now)
-    (start .args .old .now) (start .args .dist .now) (loop .next) (loop .links) (loop .heads) (loop .work)) all (loop .inv .6)
+    subst (λ (k : ℕ). ArcsLinked k (start .args .j) (start .args .parents .now) (start .args .names .now)
+    (start .args .classes .now) (start .args .old .now) (start .args .dist .now) (loop .next) (loop .links) (loop .heads)
+    (loop .work)) all (loop .inv .6)
 
 pub link-arcs-spec : {M : Type 1} → statement M
 link-arcs-spec =

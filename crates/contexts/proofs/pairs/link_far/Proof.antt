@@ -77,8 +77,8 @@ loop-again c =
     let classes = start .args .classes .now in
     let inside : loop .v < length links = omega (arith, turn .loop-test .taken, start .pre .0, start .pre .1 .1 .0) in
     let here =
-    subst (λ (link : ℕ). Settled link (getD classes (loop .v) 0) heads (c .settled .result)) (loop .inv .2 (loop .v) (omega arith))
-    (c .settled .ensures) in (
+    subst (λ (link : ℕ). Settled link (getD classes (loop .v) 0) heads (c .settled .result))
+    (loop .inv .2 (loop .v) (omega arith)) (c .settled .ensures) in (
       omega (arith, turn .loop-test .taken),
       filled-more (λ (u link : ℕ). Settled (getD links u 0) (getD classes u 0) heads link) (loop .v) (c .settled .result) links
           (loop .links) inside here (loop .inv .1),

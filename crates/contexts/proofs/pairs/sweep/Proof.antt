@@ -62,7 +62,9 @@ distances-requires c κs =
     )
 
 copy-requires : tie.Need-copy-requires
-copy-requires c κs = c .before .before .before .before .before .before .before .before .before .before .before .before .pre .1 .1 .0
+copy-requires c κs =
+    let start = c .before .before .before .before .before .before .before .before .before .before .before .before in
+    start .pre .1 .1 .0
 
 slice-aggregate-link-arcs : tie.Need-slice-aggregate-link-arcs
 slice-aggregate-link-arcs c = search needs
@@ -100,8 +102,8 @@ arcs-here :
     let groups = start .args .groups .now in
     let dist = spread (copied c) .distances .last .1 .1 .1 .1 .0 in
     let made = c .link-arcs .last .1 .1 .1 .1 .1 .1 in
-    ArcsLinked (length groups) (start .args .m - 1) (start .args .parents .now) (start .args .names .now) (start .args .classes .now)
-    groups dist (made .0) (made .1 .0) (made .1 .1 .0) (made .1 .1 .1 .0)
+    ArcsLinked (length groups) (start .args .m - 1) (start .args .parents .now) (start .args .names .now)
+    (start .args .classes .now) groups dist (made .0) (made .1 .0) (made .1 .1 .0) (made .1 .1 .1 .0)
 arcs-here c =
     let start = entry (copied c) in
     let dist = spread (copied c) .distances .last .1 .1 .1 .1 .0 in
@@ -131,8 +133,8 @@ ready-here :
     let groups = start .args .groups .now in
     let dist = spread (copied (linked c)) .distances .last .1 .1 .1 .1 .0 in
     let made = linked c .link-arcs .last .1 .1 .1 .1 .1 .1 in
-    ArcsReady (length groups) (start .args .m - 1) (start .args .parents .now) (start .args .names .now) (start .args .classes .now)
-    groups dist (made .0) (c .link-far .last .1 .1 .0) (made .1 .1 .0) (made .1 .1 .1 .0)
+    ArcsReady (length groups) (start .args .m - 1) (start .args .parents .now) (start .args .names .now)
+    (start .args .classes .now) groups dist (made .0) (c .link-far .last .1 .1 .0) (made .1 .1 .0) (made .1 .1 .1 .0)
 ready-here c =
     let start = entry (copied (linked c)) in
     arcs-ready (arcs-here (linked c)) (λ v low. c .link-far .ensures v (omega (arith, start .pre .1 .0)))
