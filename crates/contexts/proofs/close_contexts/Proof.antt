@@ -167,8 +167,8 @@ loop-less c =
     (rounds-less (length (at .args .groups .now)) (at .args .h) (at .args .m) (at .args .parents .now) (at .args .names .now)
     (here .loop .before) (here .loop .groups) (forked sweeps .close-forks .last .1 .1 .1 .0) (here .loop .joined)
     (at .pre .0 .arrays) (at .pre .0 .some-names) (here .loop .inv .2) (forks-here (forked sweeps))
-    (cut .suffix-classes .last .1 .1 .1 .0) (sweeps .sweep .last .1 .1 .1 .1 .0) (sweeps .sweep .last .1 .1 .1 .1 .1 .0) (sweeps .sweep .result) (classes-here cut)
-    (swept-here sweeps))
+    (cut .suffix-classes .last .1 .1 .1 .0) (sweeps .sweep .last .1 .1 .1 .1 .0)
+    (sweeps .sweep .last .1 .1 .1 .1 .1 .0) (sweeps .sweep .result) (classes-here cut) (swept-here sweeps))
 
 loop-again : tie.Need-loop-again Inv-loop μ-loop
 loop-again c =
@@ -183,8 +183,8 @@ loop-again c =
       rounds-more (length (at .args .groups .now)) (at .args .h) (at .args .m) (at .args .parents .now) (at .args .names .now)
           (here .loop .before) (here .loop .groups) (forks .close-forks .last .1 .1 .1 .0) (here .loop .joined)
           (at .pre .0 .arrays) (at .pre .0 .some-names) (here .loop .inv .2) (forks-here forks)
-          (cut .suffix-classes .last .1 .1 .1 .0) (sweeps .sweep .last .1 .1 .1 .1 .0) (sweeps .sweep .last .1 .1 .1 .1 .1 .0) (sweeps .sweep .result) (classes-here cut)
-          (swept-here sweeps),
+          (cut .suffix-classes .last .1 .1 .1 .0) (sweeps .sweep .last .1 .1 .1 .1 .0)
+          (sweeps .sweep .last .1 .1 .1 .1 .1 .0) (sweeps .sweep .result) (classes-here cut) (swept-here sweeps),
     )
 
 same-length : tie.Need-same-length Inv-loop μ-loop
