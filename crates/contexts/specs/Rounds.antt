@@ -14,6 +14,7 @@ ContextSound n h m parents names groups =
 -- forks joined until none is left
 pub record ForksJoined (n : ℕ) (parents names groups groups′ : List ℕ) : Type 0 where
   pub labelled : Labelled n groups′
+  pub coarser : Refines n groups groups′
   pub sound : (others : List ℕ) → ForkClosed n parents names others → Refines n groups others → Refines n groups′ others
   pub closed : ForkClosed n parents names groups′
   pub fewer : sum groups′ ≤ sum groups
