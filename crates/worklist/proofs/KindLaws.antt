@@ -15,7 +15,7 @@ use Rattle.indexed.specs.Partitions.{Refines, KeyClosed}
 use Rattle.indexed.specs.Passes.{relabelled}
 use Rattle.indexed.proofs.Keys.{Relabel, moved, kept, relabelled-cases, relabelled-coarser}
 use Rattle.worklist.specs.Lists.{Queued, Grew, StandsFor, Filled, Merged}
-use Rattle.worklist.specs.Settling.{Joins, Covered, Kind}
+use Rattle.worklist.specs.Settling.{Joins, Covered, Kind, QueueRoom}
 
 -- a place is in the shorter queue, or past it
 before-or-past : (i tail : ℕ) → (i < tail) ⊎ (tail ≤ i)
@@ -77,6 +77,15 @@ grew-twice f s f′ s′ f″ s″ t t′ t″ one two =
       seconds-size = two .seconds-size ∙ one .seconds-size;
       firsts-kept = λ i h. two .firsts-kept i (omega arith) ∙ one .firsts-kept i h;
       seconds-kept = λ i h. two .seconds-kept i (omega arith) ∙ one .seconds-kept i h;
+    }
+
+-- and keeps its arrays' lengths
+pub queue-grew :
+    (f s f′ s′ : List ℕ) (t t′ : ℕ) → Grew f s f′ s′ t t′ → QueueRoom f s → QueueRoom f′ s′
+queue-grew f s f′ s′ t t′ grew queue =
+    record {
+      firsts-size = grew .firsts-size ∙ queue .firsts-size;
+      seconds-size = grew .seconds-size ∙ queue .seconds-size;
     }
 
 -- a queued pair is joined
