@@ -41,25 +41,25 @@ classes-here c =
 
 -- what the forks promise, by the number of states at the start
 forks-here :
-    (c : tie.After-close-forks Inv-loop μ-loop) → let here = c .before .before .before .before in
+    (c : tie.After-close-forks Inv-loop μ-loop) → let here = c .before .before .before in
     let at = entry here in
     ForksJoined (length (at .args .groups .now)) (at .args .parents .now) (at .args .names .now) (here .loop .groups)
     (c .close-forks .last .1 .1 .1 .0)
 forks-here c =
-    let here = c .before .before .before .before in
+    let here = c .before .before .before in
     let at = entry here in
     subst (λ (k : ℕ). ForksJoined k (at .args .parents .now) (at .args .names .now) (here .loop .groups)
     (c .close-forks .last .1 .1 .1 .0)) (here .loop .inv .1 .labelled .size) (c .close-forks .ensures)
 
 -- what the sweep promises, by the number of states at the start
 swept-here :
-    (c : tie.After-sweep Inv-loop μ-loop) → let forks = c .before .before .before .before .before .before .before .before in
-    let at = entry (forks .before .before .before .before) in
+    (c : tie.After-sweep Inv-loop μ-loop) → let forks = c .before .before .before .before .before .before in
+    let at = entry (forks .before .before .before) in
     Swept (length (at .args .groups .now)) (at .args .h) (at .args .m) (at .args .parents .now) (at .args .names .now)
     (forks .close-forks .last .1 .1 .1 .0) (c .sweep .last .1 .1 .1 .1 .0) (c .sweep .result)
 swept-here c =
-    let forks = c .before .before .before .before .before .before .before .before in
-    let here = forks .before .before .before .before in
+    let forks = c .before .before .before .before .before .before in
+    let here = forks .before .before .before in
     let at = entry here in
     let n = length (at .args .groups .now) in
     let forked = forks .close-forks .last .1 .1 .1 .0 in
@@ -99,36 +99,33 @@ loop-holds c =
 
 close-forks-requires : tie.Need-close-forks-requires Inv-loop μ-loop
 close-forks-requires c κs =
-    let here = c .before .before .before in
+    let here = c .before .before in
     let at = entry here in
     let size = sym (here .loop .inv .1 .labelled .size) in (
       subst (λ (k : ℕ). Arrays k (at .args .parents .now) (at .args .names .now)) size (at .pre .0 .arrays),
       (
         at .pre .1 .0 ∙ ap (λ (k : ℕ). numbersFrom k 0) size,
-        (
-          subst (λ (k : ℕ). Labelled k (here .loop .groups)) size (here .loop .inv .1 .labelled),
-          omega (arith, here .loop .inv .0, at .pre .1 .1),
-        ),
+        subst (λ (k : ℕ). Labelled k (here .loop .groups)) size (here .loop .inv .1 .labelled),
       ),
     )
 
 array-share-prefix-classes : tie.Need-array-share-prefix-classes Inv-loop μ-loop
 array-share-prefix-classes c =
-    let cut = c .before .before .before .before .before .before .before .before .before .before in
+    let cut = c .before .before .before .before .before .before .before in
     let front = cut .suffix-classes .last .1 .1 .1 .0 in
     front-fits _ front front _ refl (classes-here cut .size)
 
 slice-aggregate-sweep : tie.Need-slice-aggregate-sweep Inv-loop μ-loop
 slice-aggregate-sweep c =
-    let cut = c .before .before .before .before .before .before .before .before .before .before .before in
+    let cut = c .before .before .before .before .before .before .before .before in
     let front = cut .suffix-classes .last .1 .1 .1 .0 in
     let size = classes-here cut .size in
     sym (ap length (front-again _ front front _ refl size) ∙ size)
 
 sweep-requires : tie.Need-sweep-requires Inv-loop μ-loop
 sweep-requires c κs =
-    let forks = c .before .before .before .before .before .before .before in
-    let here = forks .before .before .before .before in
+    let forks = c .before .before .before .before .before in
+    let here = forks .before .before .before in
     let at = entry here in
     let cut = here .before .before in
     let forked = forks .close-forks .last .1 .1 .1 .0 in
@@ -141,7 +138,7 @@ sweep-requires c κs =
         ap length (front-again _ front front _ refl by-size) ∙ by-size ∙ size,
         (
           subst (λ (k : ℕ). Labelled k forked) size (done .labelled),
-          (omega (arith, forks .close-forks .kept .1 .1 .1 .1 .0, here .loop .inv .0, at .pre .1 .1), at .pre .0 .more-names),
+          (omega (arith, here .loop .inv .0, at .pre .1 .1), at .pre .0 .more-names),
         ),
       ),
     )
@@ -149,11 +146,11 @@ sweep-requires c κs =
 loop-less : tie.Need-loop-less Inv-loop μ-loop
 loop-less c =
     let sweeps = c .before .before .before .before in
-    let forks = sweeps .before .before .before .before .before .before .before .before in
-    let here = forks .before .before .before .before in
+    let forks = sweeps .before .before .before .before .before .before in
+    let here = forks .before .before .before in
     let at = entry here in
     subst (λ (b : Bool). due (sweeps .sweep .last .1 .1 .1 .1 .0) (sweeps .sweep .result) < due (here .loop .groups) b)
-    (sym (forks .before .before .before .loop-test .taken))
+    (sym (forks .before .before .loop-test .taken))
     (rounds-less (length (at .args .groups .now)) (at .args .h) (at .args .m) (at .args .parents .now) (at .args .names .now)
     (here .loop .groups) (forks .close-forks .last .1 .1 .1 .0) (here .loop .joined) (at .pre .0 .arrays) (here .loop .inv .1)
     (forks-here forks) (sweeps .sweep .last .1 .1 .1 .1 .0) (sweeps .sweep .result) (swept-here sweeps))
@@ -161,10 +158,10 @@ loop-less c =
 loop-again : tie.Need-loop-again Inv-loop μ-loop
 loop-again c =
     let sweeps = c .before .before .before .before in
-    let forks = sweeps .before .before .before .before .before .before .before .before in
-    let here = forks .before .before .before .before in
+    let forks = sweeps .before .before .before .before .before .before in
+    let here = forks .before .before .before in
     let at = entry here in (
-      sweeps .sweep .kept .1 .1 .1 .1 .1 .0 ∙ forks .close-forks .kept .1 .1 .1 .1 .0 ∙ here .loop .inv .0,
+      sweeps .sweep .kept .1 .1 .1 .1 .1 .0 ∙ here .loop .inv .0,
       rounds-more (length (at .args .groups .now)) (at .args .h) (at .args .m) (at .args .parents .now) (at .args .names .now)
           (here .loop .groups) (forks .close-forks .last .1 .1 .1 .0) (here .loop .joined) (at .pre .0 .arrays) (here .loop .inv .1)
           (forks-here forks) (sweeps .sweep .last .1 .1 .1 .1 .0) (sweeps .sweep .result) (swept-here sweeps),
