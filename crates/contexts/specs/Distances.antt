@@ -22,7 +22,7 @@ Tested n h m parents names before groups =
 abbrev pub distanceOf : List ℕ → List ℕ → ℕ → ℕ
 distanceOf groups dist v = getD dist (getD groups v 0) 0
 
--- state u has not left its group's label since `before`, unless the group's number is 0
+-- state u was in the group of its label in `before`, unless the number of its group is 0
 abbrev pub UnchangedAt : List ℕ → List ℕ → List ℕ → ℕ → Type 0
 UnchangedAt before groups dist u = 0 < distanceOf groups dist u → getD before u 0 ≡ getD before (getD groups u 0) 0
 
