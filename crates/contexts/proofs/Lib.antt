@@ -3,6 +3,7 @@ pub mod ClimbLaws
 pub mod CommonLaws
 pub mod DistanceLaws
 pub mod FarLaws
+pub mod ForkLaws
 pub mod LinkLaws
 pub mod NearLaws
 pub mod ChainLaws

@@ -1,21 +1,18 @@
--- Laws of rounds: the states' own numbers, passes along the arcs until none joins, and rounds of forks and a sweep until a sweep
--- joins nothing. Assumes nothing.
+-- Laws of rounds: the states' own numbers, and rounds of forks and a sweep until a sweep joins nothing. Assumes nothing.
 use mathlib.Core.Path.{_≡_, sym, ap, _∙_, subst}
 use mathlib.Core.Bool.{Bool, true, false, true≢false}
 use mathlib.Core.List.{List}
 use Prim.Native.Nat.{ℕ, _+_, _<_, _≤_}
 use native.Mathlib.Omega.{arith}
-use lib.ListN.{length, getD, take}
+use lib.ListN.{length, take}
 use Rattle.model.specs.Lists.{numbersFrom}
 use Rattle.model.specs.Limits.{setting-limit}
 use Rattle.indexed.specs.Trees.{Arrays}
-use Rattle.indexed.specs.Partitions.{Refines, Labelled, ForkClosed, ContextClosed, SuffixAgree, sum}
-use Rattle.indexed.specs.Passes.{Passed, Swept, SuffixClasses, BySuffix, ContextJoined}
-use Rattle.indexed.proofs.Keys.{number-at, numbers-length, forks-keys, keys-forks}
-use Rattle.indexed.proofs.Suffixes.{parent-below}
+use Rattle.indexed.specs.Partitions.{Labelled, ForkClosed, ContextClosed, SuffixAgree}
+use Rattle.indexed.specs.Passes.{Swept, SuffixClasses, BySuffix, ContextJoined}
+use Rattle.indexed.proofs.Keys.{numbers-length}
 use Rattle.indexed.proofs.Contexts.{joined-suffix-agree}
-use Rattle.indexed.proofs.Rounds.{due, due-less, sum-fewer}
-use Rattle.partition.specs.Steps.{Ready}
+use Rattle.indexed.proofs.Rounds.{due, due-less}
 use Rattle.indexed.proofs.Fills.{front-length}
 use Rattle.contexts.specs.Climbs.{ClimbedBelow}
 use Rattle.contexts.specs.Distances.{Tested}
@@ -28,77 +25,6 @@ use Rattle.contexts.proofs.FarLaws.{tested-coarser, tested-tree}
 pub own-front :
     (n : ℕ) (list out : List ℕ) → n ≤ length list → out ≡ numbersFrom (length (take n list)) 0 → out ≡ numbersFrom n 0
 own-front n list out fits own = own ∙ ap (λ (m : ℕ). numbersFrom m 0) (front-length n list fits)
-
--- passes so far: joined says whether another is due
-pub record ForksTo (n : ℕ) (parents names groups₀ groups : List ℕ) (joined : Bool) : Type 0 where
-  pub labelled : Labelled n groups
-  pub coarser : Refines n groups₀ groups
-  pub sound : (others : List ℕ) → ForkClosed n parents names others → Refines n groups₀ others → Refines n groups others
-  pub closed : joined ≡ false → ForkClosed n parents names groups
-  pub fewer : sum groups ≤ sum groups₀
-
-module _ (n : ℕ) (parents names : List ℕ) (arrays : Arrays n parents names) where
-  pub forks-ready :
-      (numbers groups : List ℕ) → numbers ≡ numbersFrom n 0 → Labelled n groups →
-      Ready (length groups) parents numbers names groups
-  forks-ready numbers groups own labelled =
-      subst (λ (m : ℕ). Ready m parents numbers names groups) (sym (labelled .size))
-      (record {
-        few = arrays .few-states;
-        ins-size = arrays .parents-size;
-        outs-size = ap length own ∙ numbers-length n 0;
-        keys-size = arrays .names-size;
-        ins-below = parent-below n parents names arrays;
-        outs-below = λ v h. subst (λ (x : ℕ). x < n) (sym (ap (λ (l : List ℕ). getD l v 0) own ∙ number-at n v h)) h;
-        labelled = labelled;
-      })
-
-  module _ (groups₀ : List ℕ) where
-    pub forks-none : Labelled n groups₀ → ForksTo n parents names groups₀ groups₀ true
-    forks-none labelled =
-        record {
-          labelled = labelled;
-          coarser = λ v w hv hw same. same;
-          sound = λ others closed refines. refines;
-          closed = λ e. absurd (true≢false e);
-          fewer = omega arith;
-        }
-
-    pub forks-more :
-        (groups groups′ : List ℕ) (before joined : Bool) → ForksTo n parents names groups₀ groups before →
-        Passed n parents (numbersFrom n 0) names groups groups′ joined → ForksTo n parents names groups₀ groups′ joined
-    forks-more groups groups′ before joined so-far passed =
-        record {
-          labelled = passed .labelled;
-          coarser = λ v w hv hw same. passed .coarser v w hv hw (so-far .coarser v w hv hw same);
-          sound = λ others closed refines.
-              passed .sound others (forks-keys n parents names others arrays closed) (so-far .sound others closed refines);
-          closed = λ e.
-              subst (λ (l : List ℕ). ForkClosed n parents names l) (sym (passed .none e .0))
-              (keys-forks n parents names groups arrays (passed .none e .1));
-          fewer = omega (arith, so-far .fewer, sum-fewer groups groups′ joined (λ e. passed .none e .0) (passed .some));
-        }
-
-    pub forks-all :
-        (groups : List ℕ) (joined : Bool) → joined ≡ false → ForksTo n parents names groups₀ groups joined →
-        ForksJoined n parents names groups₀ groups
-    forks-all groups joined done so-far =
-        record {
-          labelled = so-far .labelled;
-          coarser = so-far .coarser;
-          sound = so-far .sound;
-          closed = so-far .closed done;
-          fewer = so-far .fewer;
-        }
-
--- a pass of a partition with as many states, with the states' own numbers
-pub pass-of :
-    (n : ℕ) (parents names numbers groups groups′ : List ℕ) (joined : Bool) → length groups ≡ n → numbers ≡ numbersFrom n 0 →
-    Passed (length groups) parents numbers names groups groups′ joined →
-    Passed n parents (numbersFrom n 0) names groups groups′ joined
-pass-of n parents names numbers groups groups′ joined size own passed =
-    subst (λ (l : List ℕ). Passed n parents l names groups groups′ joined) own
-    (subst (λ (m : ℕ). Passed m parents numbers names groups groups′ joined) size passed)
 
 -- rounds so far, the last sweep by `before`: joined says whether another is due
 pub record RoundsTo (n h m : ℕ) (parents names before groups : List ℕ) (joined : Bool) : Type 0 where

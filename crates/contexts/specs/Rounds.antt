@@ -1,8 +1,10 @@
 -- Rounds of joins: what is joined by the context rule and no more, forks joined until none is left, and what the rounds start
 -- from. Assumes nothing.
+use mathlib.Core.Path.{_≡_}
 use mathlib.Core.List.{List}
 use Prim.Native.Nat.{ℕ, _+_, _<_, _≤_}
-use Rattle.model.specs.Limits.{setting-limit}
+use lib.ListN.{length, getD}
+use Rattle.model.specs.Limits.{name-limit, setting-limit}
 use Rattle.model.specs.Lists.{numbersFrom}
 use Rattle.indexed.specs.Trees.{Arrays}
 use Rattle.indexed.specs.Partitions.{Refines, Labelled, ForkClosed, ContextClosed, sum}
@@ -12,6 +14,11 @@ use Rattle.contexts.specs.Distances.{Tested}
 abbrev pub ContextSound : ℕ → ℕ → ℕ → List ℕ → List ℕ → List ℕ → Type 0
 ContextSound n h m parents names groups =
     (others : List ℕ) → ForkClosed n parents names others → ContextClosed n h m parents names others → Refines n groups others
+
+-- none of n states has a key
+pub record NoKeys (n : ℕ) (keys : List ℕ) : Type 0 where
+  pub size : length keys ≡ n
+  pub none : (v : ℕ) → v < n → getD keys v 0 ≡ name-limit
 
 -- forks joined until none is left
 pub record ForksJoined (n : ℕ) (parents names groups groups′ : List ℕ) : Type 0 where

@@ -111,7 +111,7 @@ fn close_contexts(
     suffixes::suffix_classes(h + 1, parents, names, &mut classes[..n]);
     let mut joined = true;
     while joined {
-        forks::close_forks(parents, names, numbers, groups, work);
+        forks::close_forks(parents, names, numbers, groups);
         joined = pairs::sweep(m, parents, names, &classes[..n], before, groups, work);
     }
 }

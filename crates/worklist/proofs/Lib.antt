@@ -1,0 +1,13 @@
+-- Why heads and links give lists of arcs by ascending key, and what the queue holds; why joining its pairs until none is left
+-- ends closed. Assumes nothing.
+pub mod ListLaws
+pub mod PlaceLaws
+pub mod PutLaws
+pub mod PopLaws
+pub mod QueueLaws
+pub mod FillLaws
+pub mod MergeLaws
+pub mod KindLaws
+pub mod SettleLaws
+pub mod RootLaws
+pub mod PairLaws

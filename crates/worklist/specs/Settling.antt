@@ -1,13 +1,16 @@
 -- Joining until closed: what it needs and promises, and what holds while pairs are still queued. Three kinds of arcs: along the
 -- tree's arcs by their names, and two sets of keys against them. Assumes nothing.
 use mathlib.Core.Path.{_≡_}
+use mathlib.Core.Logic.{_⊎_}
 use mathlib.Core.List.{List}
-use Prim.Native.Nat.{ℕ, _<_, _≤_}
+use Prim.Native.Nat.{ℕ, suc, _+_, _<_, _≤_}
 use lib.ListN.{length, getD}
 use Rattle.model.specs.Limits.{name-limit, state-limit}
 use Rattle.model.specs.Lists.{numbersFrom}
 use Rattle.indexed.specs.Partitions.{Refines, Labelled, KeyClosed}
-use Rattle.worklist.specs.Lists.{Sorted}
+use Rattle.indexed.specs.Passes.{relabelled}
+use Rattle.partition.specs.Forests.{Forest, rootsOf}
+use Rattle.worklist.specs.Lists.{pair-limit, live, Sorted, Filled, Merged}
 
 -- arrays of n states, at most 512, with the states' own numbers and two sets of keys
 pub record RoundReady (n : ℕ) (parents names numbers keys more groups : List ℕ) : Type 0 where
@@ -50,8 +53,8 @@ pub record Covered
       (others : List ℕ) → Refines n groups others → Pending others →
       getD others (getD outs arc 0) 0 ≡ getD others (getD outs v 0) 0
 
--- arcs of one kind while pairs are pending: each listed arc is in the list of the group that ins lead into, and each arc with a key
--- is covered there
+-- arcs of one kind while pairs are pending: each listed arc is in the list of the group that ins lead into, and each arc with a
+-- key is covered there
 pub record Kind
     (n : ℕ) (ins outs keys groups rows links heads : List ℕ) (Pending : List ℕ → Type 0) : Type 0 where
   pub sorted : Sorted n keys rows links heads
@@ -59,3 +62,105 @@ pub record Kind
   pub covers :
       (v : ℕ) → v < n → getD keys v 0 < name-limit →
       Covered n outs keys groups rows Pending (getD groups (getD ins v 0) 0) v
+
+-- lists of one kind with no arc in any
+pub record NoLists (links heads : List ℕ) : Type 0 where
+  pub links-size : length links ≡ state-limit
+  pub heads-size : length heads ≡ state-limit
+  pub empty : (g : ℕ) → getD heads g 0 ≡ 0
+
+-- the arrays of the queue
+pub record QueueRoom (firsts seconds : List ℕ) : Type 0 where
+  pub firsts-size : length firsts ≡ pair-limit
+  pub seconds-size : length seconds ≡ pair-limit
+
+-- the arcs of all three kinds put into their lists, one kind after the other
+pub record FilledAll
+    (n : ℕ) (parents names numbers keys more groups : List ℕ)
+    (fork-links fork-heads back-links back-heads more-links more-heads firsts seconds firsts′ seconds′ : List ℕ) (tail tail′ : ℕ)
+    : Type 0 where
+  pub firsts₁ : List ℕ
+  pub seconds₁ : List ℕ
+  pub tail₁ : ℕ
+  pub firsts₂ : List ℕ
+  pub seconds₂ : List ℕ
+  pub tail₂ : ℕ
+  pub forks : Filled n parents numbers names groups fork-links fork-heads firsts seconds firsts₁ seconds₁ tail tail₁
+  pub backs : Filled n numbers parents keys groups back-links back-heads firsts₁ seconds₁ firsts₂ seconds₂ tail₁ tail₂
+  pub others : Filled n numbers parents more groups more-links more-heads firsts₂ seconds₂ firsts′ seconds′ tail₂ tail′
+
+-- three kinds of lists, and room in the queue for a pair for each arc that is in one
+pub record ListedAll
+    (n : ℕ) (names keys more fork-rows back-rows more-rows : List ℕ)
+    (fork-links fork-heads back-links back-heads more-links more-heads : List ℕ) (tail : ℕ) : Type 0 where
+  pub forks : Sorted n names fork-rows fork-links fork-heads
+  pub backs : Sorted n keys back-rows back-links back-heads
+  pub others : Sorted n more more-rows more-links more-heads
+  pub room : tail + live fork-rows + live back-rows + live more-rows ≤ pair-limit
+
+-- the lists of two groups merged, one kind after the other
+pub record MergedAll
+    (n : ℕ) (parents names numbers keys more fork-rows back-rows more-rows : List ℕ) (to from : ℕ)
+    (fork-links fork-heads back-links back-heads more-links more-heads firsts seconds firsts′ seconds′ : List ℕ) (tail tail′ : ℕ)
+    : Type 0 where
+  pub firsts₁ : List ℕ
+  pub seconds₁ : List ℕ
+  pub tail₁ : ℕ
+  pub firsts₂ : List ℕ
+  pub seconds₂ : List ℕ
+  pub tail₂ : ℕ
+  pub forks : Merged n numbers names fork-rows to from fork-links fork-heads firsts seconds firsts₁ seconds₁ tail tail₁
+  pub backs : Merged n parents keys back-rows to from back-links back-heads firsts₁ seconds₁ firsts₂ seconds₂ tail₁ tail₂
+  pub others : Merged n parents more more-rows to from more-links more-heads firsts₂ seconds₂ firsts′ seconds′ tail₂ tail′
+
+-- the groups of two states made one: the higher root, `from`, put below the lower, `to`; both the same where it was one group
+pub record JoinedRoots (n : ℕ) (above above′ : List ℕ) (v w to from : ℕ) : Type 0 where
+  pub forest : Forest n above′
+  pub inside : from < n
+  pub order : to ≤ from
+  pub ends :
+      ((to ≡ getD (rootsOf above) v 0) × (from ≡ getD (rootsOf above) w 0))
+      ⊎ ((to ≡ getD (rootsOf above) w 0) × (from ≡ getD (rootsOf above) v 0))
+  pub kept : to ≡ from → rootsOf above′ ≡ rootsOf above
+  pub joined : to < from → rootsOf above′ ≡ relabelled to from (rootsOf above)
+
+-- what holds while the pairs from `done` on are still to be joined: arcs of each kind are covered once they are; every closed
+-- partition that is coarser than the one at the start is coarser than this one and joins them; and the queue has room
+pub record Settling
+    (n : ℕ) (parents names numbers keys more start groups : List ℕ)
+    (fork-links fork-heads back-links back-heads more-links more-heads firsts seconds : List ℕ) (done tail : ℕ) : Type 0 where
+  pub fork-rows : List ℕ
+  pub back-rows : List ℕ
+  pub more-rows : List ℕ
+  pub ready : RoundReady n parents names numbers keys more groups
+  pub forks : Kind n parents numbers names groups fork-rows fork-links fork-heads (Joins firsts seconds done tail)
+  pub backs : Kind n numbers parents keys groups back-rows back-links back-heads (Joins firsts seconds done tail)
+  pub others : Kind n numbers parents more groups more-rows more-links more-heads (Joins firsts seconds done tail)
+  pub coarser : Refines n start groups
+  pub safe :
+      (closed : List ℕ) → RoundClosed n parents names numbers keys more closed → Refines n start closed →
+      Refines n groups closed × Joins firsts seconds done tail closed
+  pub inside : (i : ℕ) → done ≤ i → i < tail → (getD firsts i 0 < n) × (getD seconds i 0 < n)
+  pub order : done ≤ tail
+  pub queue : QueueRoom firsts seconds
+  pub room : tail + live fork-rows + live back-rows + live more-rows ≤ pair-limit
+
+-- one pair joined: what held with it pending holds without it
+pub record SettledAt
+    (n : ℕ) (parents names numbers keys more above above′ : List ℕ)
+    (fl fh bl bh ml mh fl′ fh′ bl′ bh′ ml′ mh′ firsts seconds firsts′ seconds′ : List ℕ) (done tail tail′ : ℕ) : Type 0 where
+  pub forest : Forest n above′
+  pub settling :
+      (start : List ℕ) →
+      Settling n parents names numbers keys more start (rootsOf above) fl fh bl bh ml mh firsts seconds done tail →
+      Settling n parents names numbers keys more start (rootsOf above′) fl′ fh′ bl′ bh′ ml′ mh′ firsts′ seconds′ (suc done) tail′
+
+-- all pairs joined
+pub record SettledAll
+    (n : ℕ) (parents names numbers keys more above above′ : List ℕ)
+    (fl fh bl bh ml mh firsts seconds : List ℕ) (tail : ℕ) : Type 0 where
+  pub forest : Forest n above′
+  pub until :
+      (start : List ℕ) →
+      Settling n parents names numbers keys more start (rootsOf above) fl fh bl bh ml mh firsts seconds 0 tail →
+      JoinedUntil (RoundClosed n parents names numbers keys more) n start (rootsOf above′)

@@ -32,10 +32,10 @@ entry c = c .before .before .before .before .before .before .before .before .bef
 
 -- the loop's head, from where the forks are closed; and that place, from where the sweep is done
 abbrev head : tie.After-close-forks Inv-loop μ-loop → tie.At-loop Inv-loop μ-loop
-head c = c .before .before .before .before
+head c = c .before .before .before
 
 abbrev forked : tie.After-sweep Inv-loop μ-loop → tie.After-close-forks Inv-loop μ-loop
-forked c = c .before .before .before .before .before .before .before .before .before
+forked c = c .before .before .before .before .before .before .before
 
 -- the classes, by the number of states at the start
 classes-here :
@@ -103,35 +103,32 @@ loop-holds c =
 
 close-forks-requires : tie.Need-close-forks-requires Inv-loop μ-loop
 close-forks-requires c κs =
-    let here = c .before .before .before in
+    let here = c .before .before in
     let at = entry here in
     let size = sym (here .loop .inv .2 .labelled .size) in (
       subst (λ (k : ℕ). Arrays k (at .args .parents .now) (at .args .names .now)) size (at .pre .0 .arrays),
       (
         at .pre .1 .0 ∙ ap (λ (k : ℕ). numbersFrom k 0) size,
-        (
-          subst (λ (k : ℕ). Labelled k (here .loop .groups)) size (here .loop .inv .2 .labelled),
-          omega (arith, here .loop .inv .0, at .pre .1 .1 .1),
-        ),
+        subst (λ (k : ℕ). Labelled k (here .loop .groups)) size (here .loop .inv .2 .labelled),
       ),
     )
 
 array-share-prefix-classes : tie.Need-array-share-prefix-classes Inv-loop μ-loop
 array-share-prefix-classes c =
-    let cut = c .before .before .before .before .before .before .before .before .before .before in
+    let cut = c .before .before .before .before .before .before .before in
     let front = cut .suffix-classes .last .1 .1 .1 .0 in
     front-fits _ front front _ refl (classes-here cut .size)
 
 slice-aggregate-sweep : tie.Need-slice-aggregate-sweep Inv-loop μ-loop
 slice-aggregate-sweep c =
-    let cut = c .before .before .before .before .before .before .before .before .before .before .before in
+    let cut = c .before .before .before .before .before .before .before .before in
     let front = cut .suffix-classes .last .1 .1 .1 .0 in
     let size = classes-here cut .size in
     sym (ap length (front-again _ front front _ refl size) ∙ size)
 
 sweep-requires : tie.Need-sweep-requires Inv-loop μ-loop
 sweep-requires c κs =
-    let forks = c .before .before .before .before .before .before .before .before in
+    let forks = c .before .before .before .before .before .before in
     let here = head forks in
     let at = entry here in
     let cut = here .before .before in
@@ -148,7 +145,7 @@ sweep-requires c κs =
           (
             subst (λ (k : ℕ). Labelled k groups) size (done .labelled),
             (
-              omega (arith, forks .close-forks .kept .1 .1 .1 .1 .0, here .loop .inv .0, at .pre .1 .1 .1),
+              omega (arith, here .loop .inv .0, at .pre .1 .1 .1),
               (at .pre .0 .more-names, omega (arith, at .pre .0 .limit)),
             ),
           ),
@@ -163,7 +160,7 @@ loop-less c =
     let at = entry here in
     let cut = here .before .before in
     subst (λ (b : Bool). due (sweeps .sweep .last .1 .1 .1 .1 .1 .0) (sweeps .sweep .result) < due (here .loop .groups) b)
-    (sym (forked sweeps .before .before .before .loop-test .taken))
+    (sym (forked sweeps .before .before .loop-test .taken))
     (rounds-less (length (at .args .groups .now)) (at .args .h) (at .args .m) (at .args .parents .now) (at .args .names .now)
     (here .loop .before) (here .loop .groups) (forked sweeps .close-forks .last .1 .1 .1 .0) (here .loop .joined)
     (at .pre .0 .arrays) (at .pre .0 .some-names) (here .loop .inv .2) (forks-here (forked sweeps))
@@ -178,7 +175,7 @@ loop-again c =
     let at = entry here in
     let cut = here .before .before in
     let kept = sweeps .sweep .kept .1 .1 .1 .1 in (
-      kept .1 .1 .0 ∙ forks .close-forks .kept .1 .1 .1 .1 .0 ∙ here .loop .inv .0,
+      kept .1 .1 .0 ∙ here .loop .inv .0,
       kept .0 ∙ here .loop .inv .1,
       rounds-more (length (at .args .groups .now)) (at .args .h) (at .args .m) (at .args .parents .now) (at .args .names .now)
           (here .loop .before) (here .loop .groups) (forks .close-forks .last .1 .1 .1 .0) (here .loop .joined)
