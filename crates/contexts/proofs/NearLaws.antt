@@ -109,12 +109,14 @@ module _ {j : ℕ} {parents names classes old dist : List ℕ} where
           }
 
       module _ (in-links : i < length links) (here : Listed parents names classes old (getD classes i 0) i) where
+        -- the other links are as they were, and this one is the one put
         other-kept : (value v : ℕ) → (v ≡ i → ⊥) → getD (set links i value) v 0 ≡ getD links v 0
         other-kept value v other = getD-set-other links i v value 0 other
 
         this-put : (value : ℕ) → getD (set links i value) i 0 ≡ value
         this-put value = getD-set-same links i value 0 in-links
 
+        -- so what has a link or the mark has a class, and only far arcs have the mark
         listed-more :
             (value v : ℕ) → 0 < getD (set links i value) v 0 → Listed parents names classes old (getD classes v 0) v
         listed-more value v some = go (eq-dec v i)
@@ -168,6 +170,7 @@ module _ {j : ℕ} {parents names classes old dist : List ℕ} where
               waits = waits-more head (λ e. let z : ⊥ = omega (arith, so-far .chained .head-low b) in absurd z);
             }
 
+      -- whichever of these: what placing the arc makes of the links and heads
       pub arcs-placed :
           {links′ heads′ : List ℕ} → i < state-limit → length links ≡ state-limit → length heads ≡ state-limit → 0 < i →
           FirstArc parents names old i → Placed j i classes old dist links heads links′ heads′ →

@@ -27,6 +27,7 @@ module _ {n j : ℕ} {parents names classes groups dist next links heads work : 
       go (inl none) = absurd (on-none links (getD links v 0) w none on)
       go (inr some) = arcs .listed v inside (omega arith)
 
+  -- a far arc links to the head of its class
   far-link :
       (b v : ℕ) → v < n → Listed parents names classes groups b v → Far j groups dist v → getD links v 0 ≡ getD heads b 0
   far-link b v inside listed far =
@@ -71,6 +72,7 @@ module _ {n j : ℕ} {parents names classes groups dist next links heads work : 
       on-listed links (arcs .chained) (getD classes v 0) (getD links v 0)
       (link-from (getD classes v 0) v inside (paired-listed v w inside on)) w on
 
+  -- so all that is on the chain of an arc is a state's arc, and links down
   arcs-fall : (v : ℕ) → v < n → Falling links (getD links v 0) n
   arcs-fall v inside w on =
       chain-falls links (arcs .chained) (getD classes v 0) (getD links v 0)

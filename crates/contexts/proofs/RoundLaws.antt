@@ -58,6 +58,7 @@ module _ (n h m : ℕ) (parents names before groups forked : List ℕ) (was : Bo
   forked-agree : SuffixAgree n h parents names forked
   forked-agree = joined-suffix-agree n parents names arrays h m forked pos (forks .labelled .size) forked-sound
 
+  -- what was told before the forks were closed is joined still
   forked-tested : Tested n h m parents names before forked
   forked-tested = tested-coarser n h m parents names before groups forked (so-far .tested) (forks .coarser)
 

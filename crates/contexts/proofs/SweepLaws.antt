@@ -205,6 +205,7 @@ module _ {n j : ℕ} {parents names classes groups dist next links heads work : 
               (record { classed = class .0; class-is = sym (class .1); no-root = at-y .no-root; first = at-y .first }) suffix
               after (share-common labelled (arcs .linked) fork j p q after)
 
+          -- so the groups afterwards have joined what those at first tell
           now-tested : Tested n h (suc j) parents names groups groups′
           now-tested v w hv hw s shared =
               let at-x = first-of (shared .0) (shared .2) (shared .4) in
