@@ -56,35 +56,31 @@ module _ (links : List ℕ) where
       go zero here = omega (arith, here)
       go (suc k) later = omega (arith, later)
 
-  -- further down than arc v of a list are the arcs of the list that come before v
-  module _ {i : ℕ} {Listed : ℕ → ℕ → Type 0} {heads : List ℕ} (chained : Chained i Listed links heads) (b v : ℕ) (inside : v < i)
-      (listed-v : Listed b v) where
-    abbrev From : ℕ → Type 0
-    From at = (at ≤ v) × ((w : ℕ) → at ≡ suc w → Listed b w)
+  -- from a head or a link of a list down are the arcs of the list that come before
+  module _ {i : ℕ} {In : ℕ → ℕ → Type 0} {heads : List ℕ} (chained : Chained i In links heads) (b : ℕ) where
+    abbrev pub From : ℕ → Type 0
+    From at = (at ≤ i) × ((w : ℕ) → at ≡ suc w → In b w)
 
-    from-first : From (getD links v 0)
-    from-first = (chained .link-low b v inside listed-v, λ w e. chained .link-in b v w inside listed-v e)
+    pub from-head : From (getD heads b 0)
+    from-head = (chained .head-low b, λ w e. chained .head-in b w e)
 
-    from-link : (w : ℕ) → From (suc w) → From (getD links w 0)
-    from-link w from =
-        let listed : Listed b w = from .1 w refl in
-        let low : w < i = omega (arith, from .0) in
-        (omega (arith, chained .link-low b w low listed, from .0), λ u e. chained .link-in b w u low listed e)
+    pub from-link : (v : ℕ) → v < i → In b v → From (getD links v 0)
+    from-link v inside in-v = (omega (arith, chained .link-low b v inside in-v), λ w e. chained .link-in b v w inside in-v e)
 
-    pub on-listed : (w : ℕ) → OnChain links (getD links v 0) w → (w < v) × Listed b w
+    from-next : (w : ℕ) → From (suc w) → From (getD links w 0)
+    from-next w from = from-link w (omega (arith, from .0)) (from .1 w refl)
+
+    pub on-listed : (at : ℕ) → From at → (w : ℕ) → OnChain links at w → (w < i) × In b w
     unfolding linkDown
-    on-listed w on = go (on .0) (getD links v 0) from-first (on .1)
+    on-listed at from w on = go (on .0) at from (on .1)
       where
-        go : (k at : ℕ) → From at → linkDown links k at ≡ suc w → (w < v) × Listed b w
+        go : (k at : ℕ) → From at → linkDown links k at ≡ suc w → (w < i) × In b w
         go zero at from e = (omega (arith, from .0, e), from .1 w e)
         go (suc k) zero from e = let z : ⊥ = omega (arith, e) in absurd z
-        go (suc k) (suc u) from e = go k (getD links u 0) (from-link u from) e
+        go (suc k) (suc u) from e = go k (getD links u 0) (from-next u from) e
 
-    pub listed-on : (u : ℕ) → u < v → Listed b u → OnChain links (getD links v 0) u
-    listed-on u low listed =
-        let under : u < getD links v 0 =
-        not-above (getD links v 0) (λ above. chained .link-last b v u inside listed-v above low listed) in
-        go (getD links v 0) (getD links v 0) (omega arith) from-first under
+    pub listed-on : (u at : ℕ) → From at → u < at → In b u → OnChain links at u
+    listed-on u at from under in-u = go at at (omega arith) from under
       where
         not-above : (at : ℕ) → (at ≤ u → ⊥) → u < at
         not-above at none = omega arith
@@ -94,18 +90,17 @@ module _ (links : List ℕ) where
         go (suc fuel) zero enough from under = let z : ⊥ = omega arith in absurd z
         go (suc fuel) (suc w) enough from under =
             let low-w : w < i = omega (arith, from .0) in
-            let listed-w : Listed b w = from .1 w refl in
+            let in-w : In b w = from .1 w refl in
             ⊎-elim (λ e. on-here (suc w) u (ap suc (sym e)))
             (λ apart. on-later (suc w) w u refl
-            (go fuel (getD links w 0) (omega (arith, chained .link-low b w low-w listed-w)) (from-link w from)
+            (go fuel (getD links w 0) (omega (arith, chained .link-low b w low-w in-w)) (from-next w from)
             (not-above (getD links w 0)
-            (λ above. chained .link-last b w u low-w listed-w above (omega arith) listed)))) (eq-dec u w)
+            (λ above. chained .link-last b w u low-w in-w above (omega arith) in-u)))) (eq-dec u w)
 
-    pub chain-falls : Falling links (getD links v 0) v
-    chain-falls w on =
-        let at = on-listed w on in
-        let low : w < i = omega (arith, at .0) in
-        (at .0, chained .link-low b w low (at .1))
+    pub chain-falls : (at : ℕ) → From at → Falling links at i
+    chain-falls at from w on =
+        let here = on-listed at from w on in
+        (here .0, chained .link-low b w (here .0) (here .1))
 
 -- ---- one pair
 
@@ -169,12 +164,12 @@ module _ {n j : ℕ} {parents old next links work : List ℕ} {v : ℕ} {groups 
         some = λ e. absurd (false≢true e);
       }
 
-  module _ {at w : ℕ} {now-groups : List ℕ} {a : Bool} (falling : Falling links (getD links v 0) v) (at-is : at ≡ suc w)
+  module _ {at w : ℕ} {now-groups : List ℕ} {a : Bool} (falling : Falling links (getD links v 0) n) (at-is : at ≡ suc w)
       (chaining : Chaining n j parents old next links work v groups at now-groups a) where
     on-first : OnChain links (getD links v 0) w
     on-first = chaining .to-come w (on-here links at w at-is)
 
-    pub come-to : (w < v) × (getD links w 0 ≤ w)
+    pub come-to : (w < n) × (getD links w 0 ≤ w)
     come-to = falling w on-first
 
     pub chaining-more :
@@ -197,8 +192,7 @@ module _ {n j : ℕ} {parents old next links work : List ℕ} {v : ℕ} {groups 
         kept :
             (u : ℕ) → OnChain links (getD links v 0) u → ParentsJoined parents now-groups v u → ParentsJoined parents groups′ v u
         kept u on same =
-            let low : u < n = omega (arith, falling u on .0) in
-            pair .coarser (getD parents v 0) (getD parents u 0) (source-below v inside) (source-below u low) same
+            pair .coarser (getD parents v 0) (getD parents u 0) (source-below v inside) (source-below u (falling u on .0)) same
 
         here :
             (u : ℕ) → CommonAfter old next work j v u → OnChain links at u →
@@ -223,18 +217,4 @@ module _ {n j : ℕ} {parents old next links work : List ℕ} {v : ℕ} {groups 
             ⊎-elim (λ left. absurd (on-none links at w none left)) (λ same. same) (chaining .together w pair);
         none = chaining .none;
         some = chaining .some;
-      }
-
-  -- the arc has no pair: nothing is joined
-  pub chain-left :
-      Labelled n groups → ((w : ℕ) → Paired j old next links work v w → ⊥) →
-      ChainJoined n j parents old next links work v groups groups false
-  chain-left labelled alone =
-      record {
-        labelled = labelled;
-        coarser = λ u u′ hu hu′ same. same;
-        sound = λ others given refines. refines;
-        together = λ w pair. absurd (alone w pair);
-        none = λ _. refl;
-        some = λ e. absurd (false≢true e);
       }

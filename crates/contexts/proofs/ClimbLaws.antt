@@ -14,7 +14,7 @@ use Rattle.indexed.specs.Passes.{BySuffix, ContextJoined}
 use Rattle.indexed.proofs.Suffixes.{up-parent, parent-below, climb-sound, suffix-cast}
 use Rattle.indexed.proofs.Contexts.{suffix-closed, climbed-closed}
 use Rattle.partition.specs.Joins.{JoinedTwo}
-use Rattle.contexts.specs.Climbs.{Above, Upward, ParentsJoined, Climbed, ClimbedBelow}
+use Rattle.contexts.specs.Climbs.{Above, Upward, StepsJoined, ParentsJoined, Climbed, ClimbedBelow}
 
 -- what holds below i and at i holds below suc i
 pub below-suc : (P : ℕ → Type 0) (i : ℕ) → ((v : ℕ) → v < i → P v) → P i → (v : ℕ) → v < suc i → P v
@@ -29,7 +29,7 @@ pub record Climbing (n m : ℕ) (parents : List ℕ) (v w i a b : ℕ) (groups g
   pub labelled : Labelled n groups′
   pub coarser : Refines n groups groups′
   pub sound : (others : List ℕ) → Upward m parents others v w → Refines n groups others → Refines n groups′ others
-  pub first-step : 0 < i → ParentsJoined parents groups′ v w
+  pub steps : StepsJoined i parents groups′ v w
 
 module _ (n m : ℕ) (parents : List ℕ) (above : Above n parents) where
   pub climbing-none : (v w : ℕ) (groups : List ℕ) → v < n → w < n → Labelled n groups → Climbing n m parents v w 0 v w groups groups
@@ -43,8 +43,14 @@ module _ (n m : ℕ) (parents : List ℕ) (above : Above n parents) where
         labelled = labelled;
         coarser = λ x y hx hy e. e;
         sound = λ others upward refines. refines;
-        first-step = λ pos. let z : ⊥ = omega arith in absurd z;
+        steps = λ k pos le. let z : ⊥ = omega arith in absurd z;
       }
+
+  -- ancestors are states
+  up-inside : (i v : ℕ) → v < n → up parents i v < n
+  unfolding up
+  up-inside zero v h = h
+  up-inside (suc i) v h = up-inside i (getD parents v 0) (above .below v h)
 
   module _ (v w i a b x y : ℕ) (groups now-groups next-groups : List ℕ) (joined : Bool) (hv : v < n) (hw : w < n) (left : i < m)
       (x-is : x ≡ getD parents a 0) (y-is : y ≡ getD parents b 0) (climbing : Climbing n m parents v w i a b groups now-groups)
@@ -61,18 +67,14 @@ module _ (n m : ℕ) (parents : List ℕ) (above : Above n parents) where
         ap (λ (z : ℕ). getD others z 0) a-up ∙ upward (suc i) left ∙ ap (λ (z : ℕ). getD others z 0) (sym b-up) in
         two .sound others one (climbing .sound others upward refines)
 
-    -- the first step joins the parents; later ones keep them joined
-    more-first : (j : ℕ) → i ≡ j → ParentsJoined parents next-groups v w
-    unfolding up
-    more-first zero e =
-        let start-x : x ≡ getD parents v 0 = a-up ∙ ap (λ (j : ℕ). up parents (suc j) v) e in
-        let start-y : y ≡ getD parents w 0 = b-up ∙ ap (λ (j : ℕ). up parents (suc j) w) e in
-        ap (λ (z : ℕ). getD next-groups z 0) (sym start-x)
-        ∙ two .together
-        ∙ ap (λ (z : ℕ). getD next-groups z 0) start-y
-    more-first (suc j) e =
-        two .coarser (getD parents v 0) (getD parents w 0) (above .below v hv) (above .below w hw)
-        (climbing .first-step (omega arith))
+    -- this step joins its ancestors, and keeps those of the steps before joined
+    more-steps : StepsJoined (suc i) parents next-groups v w
+    more-steps k pos le =
+        ⊎-elim
+        (λ e. subst (λ (d : ℕ). getD next-groups (up parents d v) 0 ≡ getD next-groups (up parents d w) 0) (sym e)
+        (ap (λ (z : ℕ). getD next-groups z 0) (sym a-up) ∙ two .together ∙ ap (λ (z : ℕ). getD next-groups z 0) b-up))
+        (λ apart. two .coarser (up parents k v) (up parents k w) (up-inside k v hv) (up-inside k w hw)
+        (climbing .steps k pos (omega arith))) (eq-dec k (suc i))
 
     pub climbing-more : Climbing n m parents v w (suc i) x y groups next-groups
     climbing-more =
@@ -84,7 +86,7 @@ module _ (n m : ℕ) (parents : List ℕ) (above : Above n parents) where
           labelled = two .labelled;
           coarser = λ p q hp hq e. two .coarser p q hp hq (climbing .coarser p q hp hq e);
           sound = more-sound;
-          first-step = λ pos. more-first i refl;
+          steps = more-steps;
         }
 
   pub climbing-done :
@@ -94,7 +96,7 @@ module _ (n m : ℕ) (parents : List ℕ) (above : Above n parents) where
         labelled = climbing .labelled;
         coarser = climbing .coarser;
         sound = climbing .sound;
-        first-step = climbing .first-step;
+        steps = climbing .steps;
       }
 
   -- a state and itself: nothing is joined
@@ -104,7 +106,7 @@ module _ (n m : ℕ) (parents : List ℕ) (above : Above n parents) where
         labelled = labelled;
         coarser = λ x y hx hy same. same;
         sound = λ others upward refines. refines;
-        first-step = λ pos. ap (λ (x : ℕ). getD groups (getD parents x 0) 0) (sym e);
+        steps = λ k pos le. ap (λ (x : ℕ). getD groups (up parents k x) 0) (sym e);
       }
 
   module _ (starts : List ℕ) (starts-labelled : Labelled n starts) where
@@ -114,7 +116,7 @@ module _ (n m : ℕ) (parents : List ℕ) (above : Above n parents) where
           labelled = labelled;
           coarser = λ x y hx hy e. e;
           sound = λ others upward refines. refines;
-          first-step = λ pos v h. let z : ⊥ = omega arith in absurd z;
+          steps = λ v h. let z : ⊥ = omega arith in absurd z;
         }
 
     start-below : (v : ℕ) → v < n → getD starts v 0 < n
@@ -129,15 +131,14 @@ module _ (n m : ℕ) (parents : List ℕ) (above : Above n parents) where
           labelled = climbed .labelled;
           coarser = λ x y hx hy e. climbed .coarser x y hx hy (before .coarser x y hx hy e);
           sound = λ others upward refines. climbed .sound others (upward i inside) (before .sound others upward refines);
-          first-step = λ pos.
-              below-suc (λ (v : ℕ). ParentsJoined parents next-groups v (getD starts v 0)) i (earlier pos) (climbed .first-step pos);
+          steps = below-suc (λ (v : ℕ). StepsJoined m parents next-groups v (getD starts v 0)) i earlier (climbed .steps);
         }
       where
-        earlier : 0 < m → (v : ℕ) → v < i → ParentsJoined parents next-groups v (getD starts v 0)
-        earlier pos v h =
+        earlier : (v : ℕ) → v < i → StepsJoined m parents next-groups v (getD starts v 0)
+        earlier v h k pos le =
             let hv : v < n = omega arith in
-            climbed .coarser (getD parents v 0) (getD parents (getD starts v 0) 0) (above .below v hv)
-            (above .below (getD starts v 0) (start-below v hv)) (before .first-step pos v h)
+            climbed .coarser (up parents k v) (up parents k (getD starts v 0)) (up-inside k v hv)
+            (up-inside k (getD starts v 0) (start-below v hv)) (before .steps v h k pos le)
 
 -- what the climbs from states with the same last k names give
 module _ (n h m k : ℕ) (parents names starts groups : List ℕ) (arrays : Arrays n parents names) (pos : 0 < h) (sum-is : h + m ≡ k)
@@ -170,12 +171,19 @@ module _ (n h m k : ℕ) (parents names starts groups : List ℕ) (arrays : Arra
     climbs-sound others fork context =
         climbed .sound others (starts-upward others fork context) (starts-refine others fork context)
 
+    -- the ancestors of states with the same last k names are joined, from the first up to the m-th
+    pub climbs-steps : (v w : ℕ) → v < n → w < n → SameSuffix parents names k v w → StepsJoined m parents groups v w
+    climbs-steps v w hv hw s i pos le =
+        climbed .steps v hv i pos le
+        ∙ ap (λ (x : ℕ). getD groups (up parents i x) 0) (by .alike v w hv hw .1 (inr s))
+        ∙ sym (climbed .steps w hw i pos le)
+
     pub climbs-join :
         0 < m → (v w : ℕ) → v < n → w < n → SameSuffix parents names k v w → ParentsJoined parents groups v w
+    unfolding up
     climbs-join some v w hv hw s =
-        climbed .first-step some v hv
-        ∙ ap (λ (x : ℕ). getD groups (getD parents x 0) 0) (by .alike v w hv hw .1 (inr s))
-        ∙ sym (climbed .first-step some w hw)
+        let one : 1 ≤ m = omega arith in
+        climbs-steps v w hv hw s 1 (omega arith) one
 
 -- k = h + 1: the climbs leave nothing to join
 pub climbs-closed :

@@ -1,13 +1,16 @@
 -- Names in succession that lead out of two groups: the search for the first of them through the names that leave both, lowest
--- first; and that they lead out of each of the two, and out of the two the other way round. Assumes nothing.
-use mathlib.Core.Path.{_≡_, sym, subst, subst₂}
-use mathlib.Core.Logic.{⊎-elim}
+-- first; a single name; and that they lead out of the two the other way round. Assumes nothing.
+use mathlib.Core.Path.{_≡_, refl, sym, subst, subst₂}
+use mathlib.Core.Logic.{⊎-elim, _↔_}
+use mathlib.Core.Bool.{Bool, true, false, not, false≢true}
 use mathlib.Core.List.{List}
 use Prim.Native.Nat.{ℕ, zero, suc, _-_, _^_, _<_}
 use native.Mathlib.Omega.{arith}
 use lib.Bits.{bitAnd, and-le-l, and-le-r}
 use lib.Count.{trailingZeros}
+use lib.Dec.{eqb}
 use lib.ListN.{getD}
+use borrow.Author.Tests.{eqb-true, eqb-false}
 use Rattle.cells.specs.Cells.{cellAt}
 use Rattle.model.specs.Limits.{name-limit}
 use Rattle.indexed.proofs.Bits.{bit, bit-zero, bit-of-both, lowest-bit, without-lowest}
@@ -18,11 +21,6 @@ module _ (next work : List ℕ) where
   common-sym zero x y c = tt
   common-sym (suc j) x y c =
       (c .0, c .2, c .1, common-sym j (cellAt work x (c .0)) (cellAt work y (c .0)) (c .3))
-
-  pub common-first : (j x y : ℕ) → Common next work j x y → Common next work j x x
-  common-first zero x y c = tt
-  common-first (suc j) x y c =
-      (c .0, c .1, c .1, common-first j (cellAt work x (c .0)) (cellAt work y (c .0)) (c .3))
 
 -- of the names that leave both groups those left are still to try; after no other do j names more lead on
 pub record Trying (next work : List ℕ) (j x y left : ℕ) : Type 0 where
@@ -89,3 +87,34 @@ trying-none {next} {work} {j} {x} {y} {left} trying none k k-is leads =
         let set : bit (c .0) left ≡ 1 = trying .tried (c .0) (c .1) (c .2) (c .3) in
         let set-in-none : bit (c .0) 0 ≡ 1 = subst (λ (l : ℕ). bit (c .0) l ≡ 1) none set in
         omega (arith, bit-zero (c .0))
+
+-- no name at all leaves both groups
+pub common-apart :
+    {next work : List ℕ} (j x y : ℕ) → Targets next work → 0 < j → bitAnd (getD next x 0) (getD next y 0) ≡ 0 →
+    Common next work j x y → ⊥
+common-apart j x y targets some none leads = trying-none (trying-all (j - 1) x y targets) none j (omega arith) leads
+
+-- one name leads out of both groups exactly if some name is in both sets
+pub common-one :
+    {next work : List ℕ} (j x y : ℕ) → Targets next work → 0 < j → j < 2 →
+    (not (eqb (bitAnd (getD next x 0) (getD next y 0)) 0) ≡ true) ↔ Common next work j x y
+common-one {next} {work} j x y targets some few = go (eqb left 0) refl
+  where
+    left : ℕ
+    left = bitAnd (getD next x 0) (getD next y 0)
+
+    one : 1 ≡ j
+    one = omega arith
+
+    trying : Trying next work 0 x y left
+    trying = trying-all 0 x y targets
+
+    go : (b : Bool) → eqb left 0 ≡ b → (not b ≡ true) ↔ Common next work j x y
+    go true e = (
+      λ f. absurd (false≢true f),
+      λ leads. absurd (trying-none trying (eqb-true left 0 e) j one leads),
+    )
+    go false e =
+        let name = trailingZeros 64 left in
+        let some-left : 0 < left = omega (arith, eqb-false left 0 e) in
+        (λ _. trying-found trying some-left j (cellAt work x name) (cellAt work y name) one refl refl tt, λ _. refl)

@@ -1,11 +1,10 @@
--- The arcs out of the groups as sets of names, cells and chains: no arc yet, one more, all; and why names that lead out of two
+-- The arcs out of the groups as sets of names and cells: no arc yet, one more, all; and why names that lead out of two
 -- groups by sets and cells are those that lead out of them by arcs: always by arcs too, and where no fork is open the other way
 -- round. Assumes nothing.
 use mathlib.Core.Path.{_≡_, refl, sym, ap, _∙_, subst, subst₂}
 use mathlib.Core.Logic.{_⊎_, inl, inr, ⊎-elim}
 use mathlib.Core.List.{List}
-use Prim.Native.Nat.{ℕ, zero, suc, _+_, _^_, _<_, _≤_}
-use native.Mathlib.Numerals.{add-one}
+use Prim.Native.Nat.{ℕ, zero, suc, _^_, _<_, _≤_}
 use native.Mathlib.Omega.{arith}
 use lib.Bits.{bitOr, or-lt}
 use lib.ListN.{length, getD, set}
@@ -17,9 +16,8 @@ use Rattle.cells.specs.Cells.{work-bytes, cellAt, withCell}
 use Rattle.cells.proofs.CellLaws.{cell-same, cell-other}
 use Rattle.indexed.specs.Trees.{Arrays}
 use Rattle.indexed.specs.Partitions.{Labelled, ForkClosed, Share}
-use Rattle.indexed.proofs.Chains.{chained-none, chained-skip, chained-push}
 use Rattle.indexed.proofs.Bits.{bit, bit-zero, bit-set, bit-of-set, set-again}
-use Rattle.contexts.specs.Sweeps.{FirstArc, ArcOf, Linked, Listed, ArcsLinked, Targets, Common}
+use Rattle.contexts.specs.Sweeps.{FirstArc, ArcOf, Linked, Targets, Common}
 use Rattle.contexts.proofs.ClimbLaws.{below-suc}
 
 pub linked-none :
@@ -35,7 +33,7 @@ linked-none none =
     }
 
 -- one arc more, whose name leads out of its group already
-linked-known :
+pub linked-known :
     {i : ℕ} {parents names old next work : List ℕ} → Linked i parents names old next work →
     bit (getD names i 0) (getD next (getD old (getD parents i 0) 0) 0) ≡ 1 → Linked (suc i) parents names old next work
 linked-known {i} {parents} {names} {old} {next} {work} linked known =
@@ -164,78 +162,6 @@ module _ {n i : ℕ} {parents names old next work : List ℕ} (arrays : Arrays n
 
   pub linked-more : Linked (suc i) parents names old next′ work′
   linked-more = record { narrow = more-narrow; leaves = λ v some low. more-leaves v low some; arc = more-arc }
-
--- ---- the chains of the arcs
-
-module _ {parents names classes old : List ℕ} where
-  pub arcs-none :
-      {next links heads work : List ℕ} → ((x : ℕ) → getD next x 0 ≡ 0) → ((v : ℕ) → getD links v 0 ≡ 0) →
-      ((b : ℕ) → getD heads b 0 ≡ 0) → ArcsLinked 1 parents names classes old next links heads work
-  arcs-none {next} {links} {heads} {work} no-names no-links no-heads =
-      record {
-        linked = linked-none no-names;
-        chained =
-            chained-skip 0 (Listed parents names classes old) links heads
-            (λ b listed. let z : ⊥ = omega (arith, listed .no-root) in z)
-            (chained-none (Listed parents names classes old) links heads no-heads);
-        listed = λ v some. let z : ⊥ = omega (arith, no-links v) in absurd z;
-      }
-
-  module _ {i : ℕ} {next links heads work : List ℕ}
-      (so-far : ArcsLinked i parents names classes old next links heads work) where
-    -- arc i has a name that leads out of its group already
-    pub arcs-known :
-        bit (getD names i 0) (getD next (getD old (getD parents i 0) 0) 0) ≡ 1 →
-        ArcsLinked (i + 1) parents names classes old next links heads work
-    arcs-known known =
-        record {
-          linked = rw add-one (linked-known (so-far .linked) known);
-          chained =
-              chained-skip i (Listed parents names classes old) links heads
-              (λ b listed.
-              let arc = so-far .linked .arc (getD old (getD parents i 0) 0) (getD names i 0) known in
-              listed .first (arc .target) (arc .no-root) (arc .below) (arc .name-is) (arc .from-x)) (so-far .chained);
-          listed = so-far .listed;
-        }
-
-    -- arc i is the first of its name out of its group
-    module _ {next′ work′ : List ℕ} (linked : Linked (suc i) parents names old next′ work′) where
-      -- it has no class
-      pub arcs-short : state-limit ≤ getD classes i 0 → ArcsLinked (i + 1) parents names classes old next′ links heads work′
-      arcs-short short =
-          record {
-            linked = rw add-one linked;
-            chained =
-                chained-skip i (Listed parents names classes old) links heads
-                (λ b listed. let z : ⊥ = omega (arith, listed .classed, listed .class-is) in z) (so-far .chained);
-            listed = so-far .listed;
-          }
-
-      -- it is put into the chain of its class
-      pub arcs-listed :
-          (b head : ℕ) → i < length links → b < length heads → head ≡ i + 1 → b ≡ getD classes i 0 → b < state-limit → 0 < i →
-          FirstArc parents names old i →
-          ArcsLinked (i + 1) parents names classes old next′ (set links i (getD heads b 0)) (set heads b head) work′
-      arcs-listed b head in-links in-heads head-is class-is classed some first =
-          record {
-            linked = rw add-one linked;
-            chained =
-                chained-push i (Listed parents names classes old) links heads b head in-links in-heads head-is
-                (subst (λ (c : ℕ). Listed parents names classes old c i) (sym class-is) here)
-                (λ c in-c. sym (in-c .class-is) ∙ sym class-is) (so-far .chained);
-            listed = λ v linked-v. each v linked-v (eq-dec v i);
-          }
-        where
-          here : Listed parents names classes old (getD classes i 0) i
-          here = record { classed = omega arith; class-is = refl; no-root = some; first = first }
-
-          each :
-              (v : ℕ) → 0 < getD (set links i (getD heads b 0)) v 0 → (v ≡ i) ⊎ (v ≡ i → ⊥) →
-              Listed parents names classes old (getD classes v 0) v
-          each v linked-v (inl e) = subst (λ (u : ℕ). Listed parents names classes old (getD classes u 0) u) (sym e) here
-          each v linked-v (inr other) =
-              so-far .listed v
-              (subst (λ (l : ℕ). 0 < l) (getD-set-other links i v (getD heads b 0) 0 other) linked-v)
 
 -- ---- names in common
 

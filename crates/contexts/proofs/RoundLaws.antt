@@ -1,125 +1,81 @@
--- Laws of rounds: the states' own numbers, passes along the arcs until none joins, and rounds of forks and a sweep until a sweep
--- joins nothing. Assumes nothing.
+-- Laws of rounds: the states' own numbers, and rounds of forks and a sweep until a sweep joins nothing. Assumes nothing.
 use mathlib.Core.Path.{_≡_, sym, ap, _∙_, subst}
 use mathlib.Core.Bool.{Bool, true, false, true≢false}
 use mathlib.Core.List.{List}
 use Prim.Native.Nat.{ℕ, _+_, _<_, _≤_}
 use native.Mathlib.Omega.{arith}
-use lib.ListN.{length, getD, take}
+use lib.ListN.{length, take}
 use Rattle.model.specs.Lists.{numbersFrom}
 use Rattle.model.specs.Limits.{setting-limit}
 use Rattle.indexed.specs.Trees.{Arrays}
-use Rattle.indexed.specs.Partitions.{Refines, Labelled, ForkClosed, ContextClosed, SuffixAgree, sum}
-use Rattle.indexed.specs.Passes.{Passed, Swept, SuffixClasses, BySuffix, ContextJoined}
-use Rattle.indexed.proofs.Keys.{number-at, numbers-length, forks-keys, keys-forks}
-use Rattle.indexed.proofs.Suffixes.{parent-below}
+use Rattle.indexed.specs.Partitions.{Labelled, ForkClosed, ContextClosed, SuffixAgree}
+use Rattle.indexed.specs.Passes.{Swept, SuffixClasses, BySuffix, ContextJoined}
+use Rattle.indexed.proofs.Keys.{numbers-length}
 use Rattle.indexed.proofs.Contexts.{joined-suffix-agree}
-use Rattle.indexed.proofs.Rounds.{due, due-less, sum-fewer}
-use Rattle.partition.specs.Steps.{Ready}
+use Rattle.indexed.proofs.Rounds.{due, due-less}
 use Rattle.indexed.proofs.Fills.{front-length}
 use Rattle.contexts.specs.Climbs.{ClimbedBelow}
+use Rattle.contexts.specs.Distances.{Tested}
+use Rattle.contexts.specs.Sweeps.{SweptBy}
 use Rattle.contexts.specs.Rounds.{ContextSound, ForksJoined, RoundReady}
 use Rattle.contexts.proofs.ClimbLaws.{climbs-sound}
+use Rattle.contexts.proofs.FarLaws.{tested-coarser, tested-tree}
 
 -- the own numbers of a front
 pub own-front :
     (n : ℕ) (list out : List ℕ) → n ≤ length list → out ≡ numbersFrom (length (take n list)) 0 → out ≡ numbersFrom n 0
 own-front n list out fits own = own ∙ ap (λ (m : ℕ). numbersFrom m 0) (front-length n list fits)
 
--- passes so far: joined says whether another is due
-pub record ForksTo (n : ℕ) (parents names groups₀ groups : List ℕ) (joined : Bool) : Type 0 where
-  pub labelled : Labelled n groups
-  pub sound : (others : List ℕ) → ForkClosed n parents names others → Refines n groups₀ others → Refines n groups others
-  pub closed : joined ≡ false → ForkClosed n parents names groups
-  pub fewer : sum groups ≤ sum groups₀
-
-module _ (n : ℕ) (parents names : List ℕ) (arrays : Arrays n parents names) where
-  pub forks-ready :
-      (numbers groups : List ℕ) → numbers ≡ numbersFrom n 0 → Labelled n groups →
-      Ready (length groups) parents numbers names groups
-  forks-ready numbers groups own labelled =
-      subst (λ (m : ℕ). Ready m parents numbers names groups) (sym (labelled .size))
-      (record {
-        few = arrays .few-states;
-        ins-size = arrays .parents-size;
-        outs-size = ap length own ∙ numbers-length n 0;
-        keys-size = arrays .names-size;
-        ins-below = parent-below n parents names arrays;
-        outs-below = λ v h. subst (λ (x : ℕ). x < n) (sym (ap (λ (l : List ℕ). getD l v 0) own ∙ number-at n v h)) h;
-        labelled = labelled;
-      })
-
-  module _ (groups₀ : List ℕ) where
-    pub forks-none : Labelled n groups₀ → ForksTo n parents names groups₀ groups₀ true
-    forks-none labelled =
-        record {
-          labelled = labelled;
-          sound = λ others closed refines. refines;
-          closed = λ e. absurd (true≢false e);
-          fewer = omega arith;
-        }
-
-    pub forks-more :
-        (groups groups′ : List ℕ) (before joined : Bool) → ForksTo n parents names groups₀ groups before →
-        Passed n parents (numbersFrom n 0) names groups groups′ joined → ForksTo n parents names groups₀ groups′ joined
-    forks-more groups groups′ before joined so-far passed =
-        record {
-          labelled = passed .labelled;
-          sound = λ others closed refines.
-              passed .sound others (forks-keys n parents names others arrays closed) (so-far .sound others closed refines);
-          closed = λ e.
-              subst (λ (l : List ℕ). ForkClosed n parents names l) (sym (passed .none e .0))
-              (keys-forks n parents names groups arrays (passed .none e .1));
-          fewer = omega (arith, so-far .fewer, sum-fewer groups groups′ joined (λ e. passed .none e .0) (passed .some));
-        }
-
-    pub forks-all :
-        (groups : List ℕ) (joined : Bool) → joined ≡ false → ForksTo n parents names groups₀ groups joined →
-        ForksJoined n parents names groups₀ groups
-    forks-all groups joined done so-far =
-        record { labelled = so-far .labelled; sound = so-far .sound; closed = so-far .closed done; fewer = so-far .fewer }
-
--- a pass of a partition with as many states, with the states' own numbers
-pub pass-of :
-    (n : ℕ) (parents names numbers groups groups′ : List ℕ) (joined : Bool) → length groups ≡ n → numbers ≡ numbersFrom n 0 →
-    Passed (length groups) parents numbers names groups groups′ joined →
-    Passed n parents (numbersFrom n 0) names groups groups′ joined
-pass-of n parents names numbers groups groups′ joined size own passed =
-    subst (λ (l : List ℕ). Passed n parents l names groups groups′ joined) own
-    (subst (λ (m : ℕ). Passed m parents numbers names groups groups′ joined) size passed)
-
--- rounds so far: joined says whether another is due
-pub record RoundsTo (n h m : ℕ) (parents names groups : List ℕ) (joined : Bool) : Type 0 where
+-- rounds so far, the last sweep by `before`: joined says whether another is due
+pub record RoundsTo (n h m : ℕ) (parents names before groups : List ℕ) (joined : Bool) : Type 0 where
   pub labelled : Labelled n groups
   pub sound : ContextSound n h m parents names groups
+  pub before-size : length before ≡ n
+  pub tested : Tested n h m parents names before groups
   pub forks : joined ≡ false → ForkClosed n parents names groups
   pub contexts : joined ≡ false → ContextClosed n h m parents names groups
 
-pub rounds-none : (n h m : ℕ) (parents names groups : List ℕ) → RoundReady n h m parents names groups →
-    RoundsTo n h m parents names groups true
-rounds-none n h m parents names groups ready =
+pub rounds-none :
+    (n h m : ℕ) (parents names before groups : List ℕ) → RoundReady n h m parents names groups → before ≡ numbersFrom n 0 →
+    RoundsTo n h m parents names before groups true
+rounds-none n h m parents names before groups ready own =
     record {
       labelled = ready .labelled;
       sound = ready .sound;
+      before-size = ap length own ∙ numbers-length n 0;
+      tested = subst (λ (l : List ℕ). Tested n h m parents names l groups) (sym own) (ready .tested);
       forks = λ e. absurd (true≢false e);
       contexts = λ e. absurd (true≢false e);
     }
 
 -- one round: forks, then a sweep
-module _ (n h m : ℕ) (parents names groups forked : List ℕ) (before : Bool) (arrays : Arrays n parents names)
-    (so-far : RoundsTo n h m parents names groups before) (forks : ForksJoined n parents names groups forked) where
+module _ (n h m : ℕ) (parents names before groups forked : List ℕ) (was : Bool) (arrays : Arrays n parents names)
+    (pos : 0 < h) (so-far : RoundsTo n h m parents names before groups was)
+    (forks : ForksJoined n parents names groups forked) where
   forked-sound : ContextSound n h m parents names forked
   forked-sound others fork context = forks .sound others fork (so-far .sound others fork context)
 
-  pub forked-agree : 0 < h → SuffixAgree n h parents names forked
-  forked-agree pos = joined-suffix-agree n parents names arrays h m forked pos (forks .labelled .size) forked-sound
+  forked-agree : SuffixAgree n h parents names forked
+  forked-agree = joined-suffix-agree n parents names arrays h m forked pos (forks .labelled .size) forked-sound
 
-  module _ (groups′ : List ℕ) (joined : Bool) (swept : Swept n h m parents names forked groups′ joined) where
-    pub rounds-more : RoundsTo n h m parents names groups′ joined
+  -- what was told before the forks were closed is joined still
+  forked-tested : Tested n h m parents names before forked
+  forked-tested = tested-coarser n h m parents names before groups forked (so-far .tested) (forks .coarser)
+
+  module _ (classes before′ groups′ : List ℕ) (joined : Bool) (by : SuffixClasses n (h + 1) parents names classes)
+      (sweeps : SweptBy n m parents names classes before before′ forked groups′ joined) where
+    swept : Swept n h m parents names forked groups′ joined
+    swept = sweeps .swept h by forked-agree forked-tested
+
+    pub rounds-more : RoundsTo n h m parents names before′ groups′ joined
     rounds-more =
         record {
           labelled = swept .labelled;
           sound = λ others fork context. swept .sound others context (forked-sound others fork context);
+          before-size = ap length (sweeps .before-is) ∙ forks .labelled .size;
+          tested =
+              subst (λ (l : List ℕ). Tested n h m parents names l groups′) (sym (sweeps .before-is))
+              (sweeps .tested-after h by forked-agree forked-tested (forks .closed));
           forks = λ e.
               subst (λ (l : List ℕ). ForkClosed n parents names l) (sym (swept .none e (forks .closed) .0)) (forks .closed);
           contexts = λ e.
@@ -132,9 +88,10 @@ module _ (n h m : ℕ) (parents names groups forked : List ℕ) (before : Bool) 
         omega (arith, forks .fewer, due-less forked groups′ joined (λ e. swept .none e (forks .closed) .0) (swept .some))
 
 pub rounds-all :
-    (n h m : ℕ) (parents names groups : List ℕ) (joined : Bool) → joined ≡ false → RoundsTo n h m parents names groups joined →
+    (n h m : ℕ) (parents names before groups : List ℕ) (joined : Bool) → joined ≡ false →
+    RoundsTo n h m parents names before groups joined →
     ContextJoined n (h + m) h parents names groups
-rounds-all n h m parents names groups joined done so-far =
+rounds-all n h m parents names before groups joined done so-far =
     record {
       labelled = so-far .labelled;
       sound = λ j e others fork context.
@@ -161,7 +118,7 @@ classes-front n h list parents names classes fits by =
 
 -- the rounds start from the climbs
 pub climbs-ready :
-    (n h m k : ℕ) (parents names starts groups : List ℕ) → Arrays n parents names → 0 < h → 0 < m → h + m ≡ k →
+    (n h m k : ℕ) (parents names starts groups : List ℕ) → Arrays n parents names → 0 < h → 1 < m → h + m ≡ k →
     k ≤ setting-limit → BySuffix n k parents names starts → ClimbedBelow n n m parents starts starts groups →
     RoundReady (length groups) h m parents names groups
 climbs-ready n h m k parents names starts groups arrays some-names more-names sum-is limit by climbed =
@@ -173,6 +130,7 @@ climbs-ready n h m k parents names starts groups arrays some-names more-names su
       limit = omega arith;
       labelled = climbed .labelled;
       sound = climbs-sound n h m k parents names starts groups arrays some-names sum-is by climbed;
+      tested = tested-tree n parents names arrays h m k starts groups some-names (omega arith) sum-is by climbed;
     })
 
 pub rounds-joined :

@@ -1,5 +1,5 @@
--- Laws of the sweep: nothing compared yet, one arc more, which is compared with its chain; what the comparisons need; and what all
--- of them are: a sweep as the context rule asks for. Assumes nothing.
+-- Laws of the sweep: nothing compared yet, one arc more, which is compared with its chain; and what all comparisons are: a sweep
+-- as the context rule asks for. Assumes nothing.
 use mathlib.Core.Path.{_≡_, refl, sym, ap, _∙_, subst}
 use mathlib.Core.Logic.{_⊎_, inl, inr}
 use mathlib.Core.Bool.{Bool, false, _||_, false≢true}
@@ -14,12 +14,15 @@ use Rattle.indexed.specs.Partitions.{Refines, Labelled, Share, SuffixAgree, Con
 use Rattle.indexed.specs.Passes.{SuffixClasses, Swept}
 use Rattle.indexed.proofs.Suffixes.{parent-below, suffix-refl, suffix-sym, suffix-trans}
 use Rattle.contexts.specs.Climbs.{ParentsJoined}
-use Rattle.contexts.specs.Sweeps.{ArcOf, Listed, ArcsLinked, Sizes, CommonAfter, OnChain, Falling, Comparing}
+use Rattle.contexts.specs.Distances.{Tested, Spread, distanceOf}
+use Rattle.contexts.specs.Sweeps.{ArcOf, Listed, Near, Far, ArcsReady, CommonAfter, Comparing}
 use Rattle.contexts.specs.Sweeps.{Paired, ChainJoined, PairsJoined, SweptBy}
 use Rattle.contexts.proofs.ClimbLaws.{below-suc}
 use Rattle.contexts.proofs.CommonLaws.{common-sym}
-use Rattle.contexts.proofs.LinkLaws.{linked-targets, share-groups, common-share, share-common}
-use Rattle.contexts.proofs.ChainLaws.{both-none, both-some, on-none, on-listed, listed-on, chain-falls}
+use Rattle.contexts.proofs.LinkLaws.{share-groups, common-share, share-common}
+use Rattle.contexts.proofs.ChainLaws.{both-none, both-some}
+use Rattle.contexts.proofs.ReadyLaws.{paired-listed, paired-near, link-on}
+use Rattle.contexts.proofs.FarLaws.{tested-far, tested-closed}
 
 module _ {n j : ℕ} {parents old next links work : List ℕ} where
   pub pairs-none :
@@ -57,7 +60,7 @@ module _ {n j : ℕ} {parents old next links work : List ℕ} where
       kept : (v : ℕ) → v < i → (w : ℕ) → Paired j old next links work v w → ParentsJoined parents groups′ v w
       kept v low w pair =
           let in-v : v < n = omega arith in
-          let in-w : w < n = omega (arith, comparing .falling v in-v w (pair .0) .0) in
+          let in-w : w < n = comparing .falling v in-v w (pair .0) .0 in
           chain .coarser (getD parents v 0) (getD parents w 0) (source-below v in-v) (source-below w in-w)
           (so-far .complete v w low pair)
 
@@ -89,43 +92,9 @@ share-refines n parents names groups others arrays refines (suc j) v w hv hw s =
     )
 
 -- all pairs of arcs joined are a sweep, whatever number of last names the classes go by
-module _ {n : ℕ} {parents names classes groups next links heads work : List ℕ} (arrays : Arrays n parents names)
-    (labelled : Labelled n groups) (arcs : ArcsLinked n parents names classes groups next links heads work) where
-  -- an arc with others further down its chain is listed
-  paired-listed :
-      (v w : ℕ) → OnChain links (getD links v 0) w → Listed parents names classes groups (getD classes v 0) v
-  paired-listed v w on = go (eq-dec (getD links v 0) 0)
-    where
-      go :
-          (getD links v 0 ≡ 0) ⊎ (getD links v 0 ≡ 0 → ⊥) → Listed parents names classes groups (getD classes v 0) v
-      go (inl none) = absurd (on-none links (getD links v 0) w none on)
-      go (inr some) = arcs .listed v (omega arith)
-
-  arcs-fall : (v : ℕ) → v < n → Falling links (getD links v 0) v
-  arcs-fall v inside w on = chain-falls links (arcs .chained) (getD classes v 0) v inside (paired-listed v w on) w on
-
-  pub arcs-comparing : Sizes n classes next links heads work → Comparing n parents groups next links work
-  arcs-comparing sizes =
-      record {
-        few = arrays .few-states;
-        old-size = labelled .size;
-        links-size = omega (arith, arrays .few-states, sizes .links-size);
-        targets =
-            linked-targets labelled (arcs .linked) (omega (arith, arrays .few-states, sizes .next-size))
-            (omega (arith, sizes .next-size)) (sizes .room);
-        arcs = λ v inside.
-            record {
-              few = arrays .few-states;
-              inside = inside;
-              in-parents = omega (arith, arrays .parents-size);
-              in-old = omega (arith, labelled .size);
-              source-below = parent-below n parents names arrays v inside;
-              group-below = omega (arith, labelled .low v inside, arrays .few-states, sizes .next-size);
-            };
-        falling = arcs-fall;
-      }
-
-  module _ {j : ℕ} {groups′ : List ℕ} {joined : Bool}
+module _ {n j : ℕ} {parents names classes groups dist next links heads work : List ℕ} (arrays : Arrays n parents names)
+    (labelled : Labelled n groups) (arcs : ArcsReady n j parents names classes groups dist next links heads work) where
+  module _ {before groups′ : List ℕ} {joined : Bool} (spread : Spread n j parents before groups dist)
       (all : PairsJoined n n j parents groups next links work groups groups′ joined) where
     module _ (h : ℕ) (by : SuffixClasses n (suc h) parents names classes) (agree : SuffixAgree n h parents names groups) where
       -- what is joined has the same last h names, and the arcs' name and j more in common after them
@@ -133,10 +102,10 @@ module _ {n : ℕ} {parents names classes groups next links heads work : List �
           (others : List ℕ) → ContextClosed n h (suc j) parents names others → Refines n groups others → (v w : ℕ) → v < n →
           Paired j groups next links work v w → ParentsJoined parents others v w
       pair-closed others context refines v w hv pair =
-          let first = paired-listed v w (pair .0) in
-          let found = on-listed links (arcs .chained) (getD classes v 0) v hv first w (pair .0) in
-          let second = found .1 in
-          let hw : w < n = omega (arith, found .0) in
+          let first = paired-listed arcs v w hv (pair .0) in
+          let found = paired-near arcs v w hv (pair .0) in
+          let second = found .1 .listed in
+          let hw = found .0 in
           let suffix : SameSuffix parents names (suc h) v w = by .alike v w hv hw .0 (first .classed, sym (second .class-is)) in
           let own-v = labelled .own v hv in
           let own-w = labelled .own w hw in
@@ -164,81 +133,122 @@ module _ {n : ℕ} {parents names classes groups next links heads work : List �
       first-of x some low =
           arcs .linked .arc (getD groups (getD parents x 0) 0) (getD names x 0) (arcs .linked .leaves x some low)
 
-      -- arcs that the sweep compared, whichever comes first, or one arc
-      one-source :
-          (p q : ℕ) → p < n → q < n → Listed parents names classes groups (getD classes p 0) p →
-          Listed parents names classes groups (getD classes p 0) q → CommonAfter groups next work j p q →
-          ParentsJoined parents groups′ p q
-      one-source p q hp hq in-p in-q common = go (eq-dec p q) (decided (tells-ltb p q))
-        where
-          go : (p ≡ q) ⊎ (p ≡ q → ⊥) → (p < q) ⊎ (p < q → ⊥) → ParentsJoined parents groups′ p q
-          go (inl e) order = ap (λ (x : ℕ). getD groups′ (getD parents x 0) 0) e
-          go (inr apart) (inl before) =
-              sym
-              (all .complete q p hq (
-                listed-on links (arcs .chained) (getD classes p 0) q hq in-q p before in-p,
-                common-sym next work j (getD groups p 0) (getD groups q 0) common,
-              ))
-          go (inr apart) (inr after) =
-              all .complete p q hp (listed-on links (arcs .chained) (getD classes p 0) p hp in-p q (omega arith) in-q, common)
+      module _ (tested : Tested n h (suc j) parents names before groups) where
+        -- two arcs of a class: one arc, or compared from the later or from the far one, or both far and compared before
+        one-source :
+            (b p q : ℕ) → p < n → q < n → Listed parents names classes groups b p → Listed parents names classes groups b q →
+            SameSuffix parents names (suc h) p q → Share n parents names groups j p q → CommonAfter groups next work j p q →
+            ParentsJoined parents groups′ p q
+        one-source b p q hp hq in-p in-q suffix shared common =
+            go (eq-dec p q) (decided (tells-ltb (distanceOf groups dist p) j)) (decided (tells-ltb (distanceOf groups dist q) j))
+            (decided (tells-ltb p q))
+          where
+            -- from p down to q, and from q down to p
+            down : Near j groups dist q → Far j groups dist p ⊎ (q < p) → ParentsJoined parents groups′ p q
+            down near which =
+                all .complete p q hp (link-on arcs b p q hp hq in-p (record { listed = in-q; near = near }) which, common)
 
-      module _ (fork : ForkClosed n parents names groups) where
-        -- the first arcs by which two states that the rule joins share their names have one source afterwards
-        sources-one :
-            (v w : ℕ) → v < n → w < n → SameSuffix parents names h v w → (s : Share n parents names groups (suc j) v w) →
-            ParentsJoined parents groups′ (first-of (s .0) (s .2) (s .4) .target) (first-of (s .1) (s .3) (s .5) .target)
-        sources-one v w hv hw s shared =
-            let x = shared .0 in
-            let y = shared .1 in
-            let at-x = first-of x (shared .2) (shared .4) in
-            let at-y = first-of y (shared .3) (shared .5) in
-            let p = at-x .target in
-            let q = at-y .target in
-            let pp = parent-below n parents names arrays p (at-x .below) in
-            let pq = parent-below n parents names arrays q (at-y .below) in
-            let back = suffix-sym n parents names arrays h v w s in
-            let like-p = like (getD parents p 0) v w pp hv (at-x .from-x ∙ shared .7) s in
-            let like-q = like (getD parents q 0) w v pq hw (at-y .from-x ∙ shared .8) back in
-            let sources : SameSuffix parents names h (getD parents p 0) (getD parents q 0) =
-            suffix-trans n parents names arrays h (getD parents p 0) v (getD parents q 0) like-p
-            (suffix-trans n parents names arrays h v w (getD parents q 0) s
-            (suffix-sym n parents names arrays h (getD parents q 0) w like-q)) in
-            let one-name : getD names p 0 ≡ getD names q 0 = at-x .name-is ∙ shared .6 ∙ sym (at-y .name-is) in
-            let class = by .alike p q (at-x .below) (at-y .below) .1 (at-x .no-root, at-y .no-root, one-name, sources) in
-            let to-p : getD groups x 0 ≡ getD groups p 0 =
-            fork x p (shared .2) (at-x .no-root) (shared .4) (at-x .below) (sym (at-x .name-is)) (sym (at-x .from-x)) in
-            let to-q : getD groups y 0 ≡ getD groups q 0 =
-            fork y q (shared .3) (at-y .no-root) (shared .5) (at-y .below) (sym (at-y .name-is)) (sym (at-y .from-x)) in
-            let after : Share n parents names groups j p q =
-            share-groups labelled (arcs .linked) j x y p q to-p to-q (shared .9) in
-            one-source p q (at-x .below) (at-y .below)
-            (record { classed = class .0; class-is = refl; no-root = at-x .no-root; first = at-x .first })
-            (record { classed = class .0; class-is = sym (class .1); no-root = at-y .no-root; first = at-y .first })
-            (share-common labelled (arcs .linked) fork j p q after)
+            back : Near j groups dist p → Far j groups dist q ⊎ (p < q) → ParentsJoined parents groups′ p q
+            back near which =
+                sym
+                (all .complete q p hq (
+                  link-on arcs b q p hq hp in-q (record { listed = in-p; near = near }) which,
+                  common-sym next work j (getD groups p 0) (getD groups q 0) common,
+                ))
 
-        closed : joined ≡ false → ContextClosed n h (suc j) parents names groups
-        closed none v w hv hw s shared =
-            let at-x = first-of (shared .0) (shared .2) (shared .4) in
-            let at-y = first-of (shared .1) (shared .3) (shared .5) in
-            let one : ParentsJoined parents groups (at-x .target) (at-y .target) =
-            subst (λ (l : List ℕ). ParentsJoined parents l (at-x .target) (at-y .target)) (all .none none)
-            (sources-one v w hv hw s shared) in
-            sym (at-x .from-x ∙ shared .7) ∙ one ∙ at-y .from-x ∙ shared .8
+            go :
+                (p ≡ q) ⊎ (p ≡ q → ⊥) → Near j groups dist p ⊎ (Near j groups dist p → ⊥) →
+                Near j groups dist q ⊎ (Near j groups dist q → ⊥) → (p < q) ⊎ (p < q → ⊥) → ParentsJoined parents groups′ p q
+            go (inl e) near-p near-q order = ap (λ (x : ℕ). getD groups′ (getD parents x 0) 0) e
+            go (inr apart) (inl near-p) (inl near-q) (inl earlier) = back near-p (inr earlier)
+            go (inr apart) (inl near-p) (inl near-q) (inr later) = down near-q (inr (omega arith))
+            go (inr apart) (inl near-p) (inr far-q) order = back near-p (inl (omega arith))
+            go (inr apart) (inr far-p) (inl near-q) order = down near-q (inl (omega arith))
+            go (inr apart) (inr far-p) (inr far-q) order =
+                all .coarser (getD parents p 0) (getD parents q 0) (parent-below n parents names arrays p hp)
+                (parent-below n parents names arrays q hq)
+                (tested-far spread names arrays h p q tested suffix shared (omega arith) (omega arith) (in-p .no-root)
+                (in-q .no-root) hp hq)
 
-      all-swept : Swept n h (suc j) parents names groups groups′ joined
-      all-swept =
-          record {
-            labelled = all .labelled;
-            coarser = all .coarser;
-            sound = λ others context refines. all .sound others (pair-closed others context refines) refines;
-            none = λ none fork. (all .none none, closed fork none);
-            some = all .some;
-          }
+        module _ (fork : ForkClosed n parents names groups) where
+          -- the first arcs by which two states that the rule joins share their names have one source afterwards
+          sources-one :
+              (v w : ℕ) → v < n → w < n → SameSuffix parents names h v w → (s : Share n parents names groups (suc j) v w) →
+              ParentsJoined parents groups′ (first-of (s .0) (s .2) (s .4) .target) (first-of (s .1) (s .3) (s .5) .target)
+          sources-one v w hv hw s shared =
+              let x = shared .0 in
+              let y = shared .1 in
+              let at-x = first-of x (shared .2) (shared .4) in
+              let at-y = first-of y (shared .3) (shared .5) in
+              let p = at-x .target in
+              let q = at-y .target in
+              let pp = parent-below n parents names arrays p (at-x .below) in
+              let pq = parent-below n parents names arrays q (at-y .below) in
+              let back = suffix-sym n parents names arrays h v w s in
+              let like-p = like (getD parents p 0) v w pp hv (at-x .from-x ∙ shared .7) s in
+              let like-q = like (getD parents q 0) w v pq hw (at-y .from-x ∙ shared .8) back in
+              let sources : SameSuffix parents names h (getD parents p 0) (getD parents q 0) =
+              suffix-trans n parents names arrays h (getD parents p 0) v (getD parents q 0) like-p
+              (suffix-trans n parents names arrays h v w (getD parents q 0) s
+              (suffix-sym n parents names arrays h (getD parents q 0) w like-q)) in
+              let one-name : getD names p 0 ≡ getD names q 0 = at-x .name-is ∙ shared .6 ∙ sym (at-y .name-is) in
+              let suffix : SameSuffix parents names (suc h) p q = (at-x .no-root, at-y .no-root, one-name, sources) in
+              let class = by .alike p q (at-x .below) (at-y .below) .1 suffix in
+              let to-p : getD groups x 0 ≡ getD groups p 0 =
+              fork x p (shared .2) (at-x .no-root) (shared .4) (at-x .below) (sym (at-x .name-is)) (sym (at-x .from-x)) in
+              let to-q : getD groups y 0 ≡ getD groups q 0 =
+              fork y q (shared .3) (at-y .no-root) (shared .5) (at-y .below) (sym (at-y .name-is)) (sym (at-y .from-x)) in
+              let after : Share n parents names groups j p q =
+              share-groups labelled (arcs .linked) j x y p q to-p to-q (shared .9) in
+              one-source (getD classes p 0) p q (at-x .below) (at-y .below)
+              (record { classed = class .0; class-is = refl; no-root = at-x .no-root; first = at-x .first })
+              (record { classed = class .0; class-is = sym (class .1); no-root = at-y .no-root; first = at-y .first }) suffix
+              after (share-common labelled (arcs .linked) fork j p q after)
 
-    pub pairs-sweep : {m : ℕ} → suc j ≡ m → SweptBy n m parents names classes groups groups′ joined
-    pairs-sweep {m} m-is =
+          -- so the groups afterwards have joined what those at first tell
+          now-tested : Tested n h (suc j) parents names groups groups′
+          now-tested v w hv hw s shared =
+              let at-x = first-of (shared .0) (shared .2) (shared .4) in
+              let at-y = first-of (shared .1) (shared .3) (shared .5) in
+              let p = getD parents (at-x .target) 0 in
+              let q = getD parents (at-y .target) 0 in
+              let hp : p < n = parent-below n parents names arrays (at-x .target) (at-x .below) in
+              let hq : q < n = parent-below n parents names arrays (at-y .target) (at-y .below) in
+              all .coarser v p hv hp (sym (at-x .from-x ∙ shared .7))
+              ∙ sources-one v w hv hw s shared
+              ∙ all .coarser q w hq hw (at-y .from-x ∙ shared .8)
+
+          closed : joined ≡ false → ContextClosed n h (suc j) parents names groups
+          closed none =
+              tested-closed n h (suc j) parents names groups
+              (subst (λ (l : List ℕ). Tested n h (suc j) parents names groups l) (all .none none) now-tested)
+
+        all-swept : Swept n h (suc j) parents names groups groups′ joined
+        all-swept =
+            record {
+              labelled = all .labelled;
+              coarser = all .coarser;
+              sound = λ others context refines. all .sound others (pair-closed others context refines) refines;
+              none = λ none fork. (all .none none, closed fork none);
+              some = all .some;
+            }
+
+    pub pairs-sweep :
+        {m : ℕ} {before′ : List ℕ} → suc j ≡ m → before′ ≡ groups →
+        SweptBy n m parents names classes before before′ groups groups′ joined
+    pairs-sweep {m} {before′} m-is before-is =
         record {
-          swept = λ h by agree.
+          before-is = before-is;
+          swept = λ h by agree tested.
               subst (λ (i : ℕ). Swept n h i parents names groups groups′ joined) m-is
-              (all-swept h (subst (λ (i : ℕ). SuffixClasses n i parents names classes) (add-one h) by) agree);
+              (all-swept h (classes-of h by) agree (tested-of h tested));
+          tested-after = λ h by agree tested fork.
+              subst (λ (i : ℕ). Tested n h i parents names groups groups′) m-is
+              (now-tested h (classes-of h by) agree (tested-of h tested) fork);
         }
+      where
+        classes-of : (h : ℕ) → SuffixClasses n (h + 1) parents names classes → SuffixClasses n (suc h) parents names classes
+        classes-of h by = subst (λ (i : ℕ). SuffixClasses n i parents names classes) (add-one h) by
+
+        tested-of : (h : ℕ) → Tested n h m parents names before groups → Tested n h (suc j) parents names before groups
+        tested-of h tested = subst (λ (i : ℕ). Tested n h i parents names before groups) (sym m-is) tested

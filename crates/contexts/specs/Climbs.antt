@@ -21,12 +21,17 @@ Upward m parents others v w = (i : ℕ) → i ≤ m → getD others (up parents 
 abbrev pub ParentsJoined : List ℕ → List ℕ → ℕ → ℕ → Type 0
 ParentsJoined parents groups v w = getD groups (getD parents v 0) 0 ≡ getD groups (getD parents w 0) 0
 
+-- the ancestors of v and w from the first up to the m-th are in one group
+abbrev pub StepsJoined : ℕ → List ℕ → List ℕ → ℕ → ℕ → Type 0
+StepsJoined m parents groups v w =
+    (i : ℕ) → 0 < i → i ≤ m → getD groups (up parents i v) 0 ≡ getD groups (up parents i w) 0
+
 -- one climb from v and w
 pub record Climbed (n m : ℕ) (parents : List ℕ) (v w : ℕ) (groups groups′ : List ℕ) : Type 0 where
   pub labelled : Labelled n groups′
   pub coarser : Refines n groups groups′
   pub sound : (others : List ℕ) → Upward m parents others v w → Refines n groups others → Refines n groups′ others
-  pub first-step : 0 < m → ParentsJoined parents groups′ v w
+  pub steps : StepsJoined m parents groups′ v w
 
 -- the climbs of the first i states, each with its start
 pub record ClimbedBelow (n i m : ℕ) (parents starts groups groups′ : List ℕ) : Type 0 where
@@ -35,4 +40,4 @@ pub record ClimbedBelow (n i m : ℕ) (parents starts groups groups′ : List �
   pub sound :
       (others : List ℕ) → ((v : ℕ) → v < n → Upward m parents others v (getD starts v 0)) → Refines n groups others →
       Refines n groups′ others
-  pub first-step : 0 < m → (v : ℕ) → v < i → ParentsJoined parents groups′ v (getD starts v 0)
+  pub steps : (v : ℕ) → v < i → StepsJoined m parents groups′ v (getD starts v 0)

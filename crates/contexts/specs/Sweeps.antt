@@ -1,19 +1,21 @@
 -- The sweep over pairs of arcs, after which j names lead on in common. In order: the first arc of each group and name, as a set of
--- names for each group and a cell for each group and name; the chains of these arcs by class; names in succession that lead out of
--- two groups; the pairs of arcs that are compared; what joining one pair, one chain and all pairs promises; and the sweep. A group
--- goes by its label, an arc by the state that it leads into. Assumes nothing.
+-- names for each group and a cell for each group and name; the chains of the near ones among these arcs by class, and the links
+-- of the far ones; names in succession that lead out of two groups; the pairs of arcs that are compared; what joining one pair,
+-- one chain and all pairs promises; and the sweep. A group goes by its label, an arc by the state that it leads into.
+-- Assumes nothing.
 use mathlib.Core.Path.{_≡_}
 use mathlib.Core.Bool.{Bool, true, false}
 use mathlib.Core.List.{List}
 use Prim.Native.Nat.{ℕ, zero, suc, _+_, _^_, _<_, _≤_}
-use lib.ListN.{length, getD}
+use lib.ListN.{length, getD, set}
 use Rattle.cells.specs.Cells.{work-bytes, cellAt}
 use Rattle.model.specs.Limits.{name-limit, state-limit}
 use Rattle.indexed.specs.Chains.{Chained}
-use Rattle.indexed.specs.Partitions.{Refines, Labelled, SuffixAgree, sum}
+use Rattle.indexed.specs.Partitions.{Refines, Labelled, SuffixAgree, ForkClosed, sum}
 use Rattle.indexed.specs.Passes.{SuffixClasses, Swept}
 use Rattle.indexed.proofs.Bits.{bit}
 use Rattle.contexts.specs.Climbs.{ParentsJoined}
+use Rattle.contexts.specs.Distances.{Tested, distanceOf}
 
 -- no arc before v has its name and leaves its group
 abbrev pub FirstArc : List ℕ → List ℕ → List ℕ → ℕ → Type 0
@@ -37,18 +39,67 @@ pub record Linked (i : ℕ) (parents names old next work : List ℕ) : Type 0 wh
   pub leaves : (v : ℕ) → 0 < v → v < i → bit (getD names v 0) (getD next (getD old (getD parents v 0) 0) 0) ≡ 1
   pub arc : (x a : ℕ) → bit a (getD next x 0) ≡ 1 → ArcOf i parents names old work x a
 
--- arc v is in the chain of class b: it is the first of its name out of its group, and leads into a state of this class
+-- arc v is of class b: it is the first of its name out of its group, and leads into a state of this class
 pub record Listed (parents names classes old : List ℕ) (b v : ℕ) : Type 0 where
   pub classed : b < state-limit
   pub class-is : getD classes v 0 ≡ b
   pub no-root : 0 < v
   pub first : FirstArc parents names old v
 
--- the arcs into the states below i, as sets, cells and chains; what has a link is in a chain
-pub record ArcsLinked (i : ℕ) (parents names classes old next links heads work : List ℕ) : Type 0 where
+-- fewer than j arcs lead from where arc v leads to a group that has grown
+abbrev pub Near : ℕ → List ℕ → List ℕ → ℕ → Type 0
+Near j old dist v = distanceOf old dist v < j
+
+-- j arcs or more do
+abbrev pub Far : ℕ → List ℕ → List ℕ → ℕ → Type 0
+Far j old dist v = j ≤ distanceOf old dist v
+
+-- arc v is in the chain of class b: it is of this class, and near
+pub record ListedNear (j : ℕ) (parents names classes old dist : List ℕ) (b v : ℕ) : Type 0 where
+  pub listed : Listed parents names classes old b v
+  pub near : Near j old dist v
+
+-- the mark of a far arc until the chains are whole, instead of a link
+abbrev pub waiting : ℕ
+waiting = 513
+
+-- the links and heads after arc v, the first of its name out of its group, is put into its chain, if it is near, or marked, if it
+-- is far; one without a class is left alone
+pub record Placed (j v : ℕ) (classes old dist links heads links′ heads′ : List ℕ) : Type 0 where
+  pub short : state-limit ≤ getD classes v 0 → (links′ ≡ links) × (heads′ ≡ heads)
+  pub far : getD classes v 0 < state-limit → Far j old dist v → (links′ ≡ set links v waiting) × (heads′ ≡ heads)
+  pub near :
+      getD classes v 0 < state-limit → Near j old dist v →
+      (links′ ≡ set links v (getD heads (getD classes v 0) 0)) × (heads′ ≡ set heads (getD classes v 0) (v + 1))
+
+-- the arcs into the states below i, as sets, cells and chains of near arcs; far arcs are marked, and only they are; what has a
+-- link or the mark has a class
+pub record ArcsLinked (i j : ℕ) (parents names classes old dist next links heads work : List ℕ) : Type 0 where
   pub linked : Linked i parents names old next work
-  pub chained : Chained i (Listed parents names classes old) links heads
+  pub chained : Chained i (ListedNear j parents names classes old dist) links heads
   pub listed : (v : ℕ) → 0 < getD links v 0 → Listed parents names classes old (getD classes v 0) v
+  pub far :
+      (v : ℕ) → v < i → Listed parents names classes old (getD classes v 0) v → Far j old dist v → getD links v 0 ≡ waiting
+  pub waits : (v : ℕ) → getD links v 0 ≡ waiting → Far j old dist v
+
+-- a link in the end: instead of the mark the head of the class
+pub record Settled (link class : ℕ) (heads : List ℕ) (link′ : ℕ) : Type 0 where
+  pub marked : link ≡ waiting → link′ ≡ getD heads class 0
+  pub other : (link ≡ waiting → ⊥) → link′ ≡ link
+
+-- the links of n arcs in the end
+abbrev pub FarLinked : ℕ → List ℕ → List ℕ → List ℕ → List ℕ → Type 0
+FarLinked n classes heads links links′ =
+    (v : ℕ) → v < n → Settled (getD links v 0) (getD classes v 0) heads (getD links′ v 0)
+
+-- the arcs into n states, as sets, cells and chains of near arcs; far arcs link to the last near arc of their class
+pub record ArcsReady (n j : ℕ) (parents names classes old dist next links heads work : List ℕ) : Type 0 where
+  pub linked : Linked n parents names old next work
+  pub chained : Chained n (ListedNear j parents names classes old dist) links heads
+  pub listed : (v : ℕ) → v < n → 0 < getD links v 0 → Listed parents names classes old (getD classes v 0) v
+  pub far :
+      (v : ℕ) → v < n → Listed parents names classes old (getD classes v 0) v → Far j old dist v →
+      getD links v 0 ≡ getD heads (getD classes v 0) 0
 
 -- what linking needs of the sizes, for n states
 pub record Sizes (n : ℕ) (classes next links heads work : List ℕ) : Type 0 where
@@ -86,9 +137,9 @@ linkDown links (suc k) (suc v) = linkDown links k (getD links v 0)
 abbrev pub OnChain : List ℕ → ℕ → ℕ → Type 0
 OnChain links at y = (k : ℕ) × (linkDown links k at ≡ suc y)
 
--- the arcs on a chain come before v, and their links lead down
+-- the arcs on a chain lead into states below n, and their links lead down
 abbrev pub Falling : List ℕ → ℕ → ℕ → Type 0
-Falling links at v = (w : ℕ) → OnChain links at w → (w < v) × (getD links w 0 ≤ w)
+Falling links at n = (w : ℕ) → OnChain links at w → (w < n) × (getD links w 0 ≤ w)
 
 -- arc v leaves one of n states and leads into a group below k
 pub record ArcInside (n k : ℕ) (parents old : List ℕ) (v : ℕ) : Type 0 where
@@ -106,7 +157,7 @@ pub record Comparing (n : ℕ) (parents old next links work : List ℕ) : Type 0
   pub links-size : n ≤ length links
   pub targets : Targets next work
   pub arcs : (v : ℕ) → v < n → ArcInside n (length next) parents old v
-  pub falling : (v : ℕ) → v < n → Falling links (getD links v 0) v
+  pub falling : (v : ℕ) → v < n → Falling links (getD links v 0) n
 
 -- arc v is compared with arc w, and j names lead on after both
 abbrev pub Paired : ℕ → List ℕ → List ℕ → List ℕ → List ℕ → ℕ → ℕ → Type 0
@@ -147,8 +198,13 @@ pub record PairsJoined (n i j : ℕ) (parents old next links work groups groups�
   pub none : joined ≡ false → groups′ ≡ groups
   pub some : joined ≡ true → sum groups′ < sum groups
 
--- the sweep by classes of one name more, whatever number of last names
-pub record SweptBy (n m : ℕ) (parents names classes groups groups′ : List ℕ) (joined : Bool) : Type 0 where
+-- the sweep by classes of one name more, whatever number of last names, where what the partition before tells is joined already;
+-- the groups as they were take the place of that partition
+pub record SweptBy (n m : ℕ) (parents names classes before before′ groups groups′ : List ℕ) (joined : Bool) : Type 0 where
+  pub before-is : before′ ≡ groups
   pub swept :
       (h : ℕ) → SuffixClasses n (h + 1) parents names classes → SuffixAgree n h parents names groups →
-      Swept n h m parents names groups groups′ joined
+      Tested n h m parents names before groups → Swept n h m parents names groups groups′ joined
+  pub tested-after :
+      (h : ℕ) → SuffixClasses n (h + 1) parents names classes → SuffixAgree n h parents names groups →
+      Tested n h m parents names before groups → ForkClosed n parents names groups → Tested n h m parents names groups groups′

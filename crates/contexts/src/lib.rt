@@ -1,5 +1,6 @@
 // The joining of a book's prefix tree by the context rule: states with the same last h names out of whose groups k - h names lead
 // in common are in one group, and no group has arcs of one name to two groups.
+pub mod distances;
 pub mod forks;
 pub mod pairs;
 
@@ -86,18 +87,21 @@ fn climb_starts(m: usize, parents: &[u16], groups: &mut [u16])
     climb_all(m, parents, &starts[..n], groups);
 }
 
-// Rounds of forks and a sweep, until a sweep joins nothing. The sweep takes classes by one name more than h: that of an arc.
+// Rounds of forks and a sweep, until a sweep joins nothing. The sweep takes classes by one name more than h: that of an arc. The
+// first sweep compares what has grown since every state was by itself, in `before`, each other what has grown since the last.
 fn close_contexts(
     h: usize,
     m: usize,
     parents: &[u16],
     names: &[u8],
     numbers: &[u16],
+    before: &mut [u16],
     groups: &mut [u16],
     work: &mut [u8],
 )
     requires ready { ⌜ RoundReady (length (now groups)) h m (now parents) (now names) (now groups) ⌝ }
     requires own_numbers { ⌜ now numbers ≡ numbersFrom (length (now groups)) 0 ⌝ }
+    requires own_before { ⌜ now before ≡ numbersFrom (length (now groups)) 0 ⌝ }
     requires room { ⌜ work-bytes ≤ length (now work) ⌝ }
     ensures { λ _.
         ⌜ ContextJoined (length (now (groups .entry))) (h + m) h (now (parents .entry)) (now (names .entry)) (now (groups .exit)) ⌝ }
@@ -107,8 +111,8 @@ fn close_contexts(
     suffixes::suffix_classes(h + 1, parents, names, &mut classes[..n]);
     let mut joined = true;
     while joined {
-        forks::close_forks(parents, names, numbers, groups, work);
-        joined = pairs::sweep(m, parents, names, &classes[..n], groups, work);
+        forks::close_forks(parents, names, numbers, groups);
+        joined = pairs::sweep(m, parents, names, &classes[..n], before, groups, work);
     }
 }
 
@@ -129,7 +133,18 @@ fn run_rounds(
     let n = groups.len();
     let mut numbers = [0u16; STATE_LIMIT];
     partition::own(&mut numbers[..n]);
-    close_contexts(h, m, parents, names, &numbers[..n], groups, work);
+    let mut before = [0u16; STATE_LIMIT];
+    partition::own(&mut before[..n]);
+    close_contexts(
+        h,
+        m,
+        parents,
+        names,
+        &numbers[..n],
+        &mut before[..n],
+        groups,
+        work,
+    );
 }
 
 // Joins by the context rule until it applies no more. What the lent area holds at first is all the same.

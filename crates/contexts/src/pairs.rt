@@ -1,8 +1,12 @@
 // The sweep: groups with the same last names out of which m names in succession lead in common are joined. Arcs are compared, the
-// first of each name out of each group, each with the earlier ones of its class, which are a chain. The sources of two arcs of a
-// class have the same last names, and are joined where m - 1 names lead on after both arcs. An arc goes by the state that it leads
-// into.
+// first of each name out of each group, by classes. The sources of two arcs of a class have the same last names, and are joined
+// where m - 1 names lead on after both arcs. An arc goes by the state that it leads into.
+//
+// Most pairs are left out: an arc is near where fewer than m - 1 arcs lead on from where it leads to a group that has grown since
+// the last sweep, else far, and what leads on from two far arcs was compared by the last sweep. So the chain of a class has its
+// near arcs alone; each of them is compared with those before it, and each far arc with all of them.
 use crate::STATE_LIMIT;
+use crate::distances::distances;
 use cells::cell;
 use cells::numbers::narrow16;
 use cells::numbers::wide8;
@@ -10,25 +14,66 @@ use cells::numbers::wide16;
 ghost use mathlib.Core.Path.{_≡_};
 ghost use mathlib.Core.Bool.{true};
 ghost use mathlib.Core.Logic.{_↔_};
-ghost use Prim.Native.Nat.{_+_, _<_, _≤_};
-ghost use lib.ListN.{length};
+ghost use Prim.Native.Nat.{ℕ, _+_, _<_, _≤_};
+ghost use lib.ListN.{length, getD};
 ghost use Rattle.cells.specs.Cells.{work-bytes};
 ghost use Rattle.indexed.specs.Trees.{Arrays};
 ghost use Rattle.indexed.specs.Partitions.{Labelled};
-ghost use Rattle.contexts.specs.Sweeps.{Sizes, ArcsLinked, Targets, Common, ArcInside, Comparing};
-ghost use Rattle.contexts.specs.Sweeps.{PairJoined, ChainJoined, PairsJoined, SweptBy};
+ghost use Rattle.model.specs.Limits.{setting-limit, state-limit};
+ghost use Rattle.contexts.specs.Sweeps.{Sizes, Placed, ArcsLinked, waiting, Settled, FarLinked, Targets, Common};
+ghost use Rattle.contexts.specs.Sweeps.{ArcInside, Comparing, PairJoined, ChainJoined, PairsJoined, SweptBy};
 
 // The class of a state with too few names.
 const NONE: u16 = 512;
 
+// What a far arc has instead of a link until the chains are whole. No arc has this number.
+const WAITING: u16 = 513;
+
+// Puts arc v, the first of its name out of its group, into the chain of its class, if it has one and is near; marks it, if it is
+// far.
+fn place_arc(
+    j: usize,
+    v: usize,
+    classes: &[u16],
+    old: &[u16],
+    dist: &[u8; STATE_LIMIT],
+    links: &mut [u16],
+    heads: &mut [u16],
+)
+    requires classes_size { ⌜ length (now classes) ≡ length (now old) ⌝ }
+    requires inside { ⌜ v < length (now old) ⌝ }
+    requires few { ⌜ length (now old) ≤ state-limit ⌝ }
+    requires group_inside { ⌜ getD (now old) v 0 < state-limit ⌝ }
+    requires links_size { ⌜ length (now links) ≡ state-limit ⌝ }
+    requires heads_size { ⌜ length (now heads) ≡ state-limit ⌝ }
+    ensures { λ _.
+        ⌜ Placed j v (now (classes .entry)) (now (old .entry)) (now (dist .entry)) (now (links .entry)) (now (heads .entry))
+        (now (links .exit)) (now (heads .exit)) ⌝ }
+{
+    if NONE <= classes[v] {
+        return;
+    }
+    let group = wide16(old[v]);
+    if j <= wide8(dist[group]) {
+        links[v] = WAITING;
+        return;
+    }
+    let class = wide16(classes[v]);
+    let last = heads[class];
+    links[v] = last;
+    heads[class] = narrow16(v + 1);
+}
+
 // One arc more, linked where it is the first of its name out of its group: its name goes into the group's set, the group that it
-// leads to into a cell, and the arc into the chain of its class, if it has one.
+// leads to into a cell, and the arc into the chain of its class.
 fn link_arc(
+    j: usize,
     v: usize,
     parents: &[u16],
     names: &[u8],
     classes: &[u16],
     old: &[u16],
+    dist: &[u8; STATE_LIMIT],
     next: &mut [u64],
     links: &mut [u16],
     heads: &mut [u16],
@@ -39,10 +84,11 @@ fn link_arc(
     requires no_root { ⌜ 0 < v ⌝ }
     requires inside { ⌜ v < length (now old) ⌝ }
     requires sizes { ⌜ Sizes (length (now old)) (now classes) (now next) (now links) (now heads) (now work) ⌝ }
-    requires so_far { ⌜ ArcsLinked v (now parents) (now names) (now classes) (now old) (now next) (now links) (now heads) (now work) ⌝ }
+    requires so_far { ⌜ ArcsLinked v j (now parents) (now names) (now classes) (now old) (now dist) (now next)
+        (now links) (now heads) (now work) ⌝ }
     ensures { λ _.
-        ⌜ ArcsLinked (v + 1) (now (parents .entry)) (now (names .entry)) (now (classes .entry)) (now (old .entry))
-        (now (next .exit)) (now (links .exit)) (now (heads .exit)) (now (work .exit)) ⌝ }
+        ⌜ ArcsLinked (v + 1) j (now (parents .entry)) (now (names .entry)) (now (classes .entry)) (now (old .entry))
+        (now (dist .entry)) (now (next .exit)) (now (links .exit)) (now (heads .exit)) (now (work .exit)) ⌝ }
 {
     let from = suffixes::class_above(old, parents, v);
     let name = names[v];
@@ -53,21 +99,18 @@ fn link_arc(
     }
     next[from] = all;
     cells::set_cell(work, from, wide8(name), wide16(old[v]));
-    if NONE <= classes[v] {
-        return;
-    }
-    let class = wide16(classes[v]);
-    let last = heads[class];
-    links[v] = last;
-    heads[class] = narrow16(v + 1);
+    place_arc(j, v, classes, old, dist, links, heads);
 }
 
-// The set of names that lead out of each group, in `next`, the groups that they lead to, in the cells, and the chains of arcs.
+// The set of names that lead out of each group, in `next`, the groups that they lead to, in the cells, and the chains of near
+// arcs.
 fn link_arcs(
+    j: usize,
     parents: &[u16],
     names: &[u8],
     classes: &[u16],
     old: &[u16],
+    dist: &[u8; STATE_LIMIT],
     next: &mut [u64],
     links: &mut [u16],
     heads: &mut [u16],
@@ -76,29 +119,72 @@ fn link_arcs(
     requires arrays { ⌜ Arrays (length (now old)) (now parents) (now names) ⌝ }
     requires labelled { ⌜ Labelled (length (now old)) (now old) ⌝ }
     requires sizes { ⌜ Sizes (length (now old)) (now classes) (now next) (now links) (now heads) (now work) ⌝ }
-    requires none { ⌜ ArcsLinked 1 (now parents) (now names) (now classes) (now old) (now next) (now links) (now heads) (now work) ⌝ }
+    requires none { ⌜ ArcsLinked 1 j (now parents) (now names) (now classes) (now old) (now dist) (now next)
+        (now links) (now heads) (now work) ⌝ }
     ensures { λ _.
-        ⌜ ArcsLinked (length (now (old .entry))) (now (parents .entry)) (now (names .entry)) (now (classes .entry))
-        (now (old .entry)) (now (next .exit)) (now (links .exit)) (now (heads .exit)) (now (work .exit)) ⌝ }
+        ⌜ ArcsLinked (length (now (old .entry))) j (now (parents .entry)) (now (names .entry)) (now (classes .entry))
+        (now (old .entry)) (now (dist .entry)) (now (next .exit)) (now (links .exit)) (now (heads .exit)) (now (work .exit)) ⌝ }
 {
     let mut v = 1;
     while v < old.len() {
-        link_arc(v, parents, names, classes, old, next, links, heads, work);
+        link_arc(
+            j,
+            v,
+            parents,
+            names,
+            classes,
+            old,
+            dist,
+            next,
+            links,
+            heads,
+            work,
+        );
         v += 1;
     }
 }
 
-// Whether j names in succession lead out of both x and y.
+// The link of an arc in the end: a far arc leads to the last near arc of its class.
+fn settled(link: u16, class: u16, heads: &[u16]) -> u16
+    requires heads_size { ⌜ length (now heads) ≡ state-limit ⌝ }
+    requires classed { ⌜ (link ≡ waiting → class < state-limit) ⌝ }
+    ensures { λ r. ⌜ Settled link class (now (heads .entry)) r ⌝ }
+{
+    if link == WAITING {
+        return heads[wide16(class)];
+    }
+    link
+}
+
+// Links the far arcs, when all near arcs are in their chains.
+fn link_far(classes: &[u16], heads: &[u16], links: &mut [u16])
+    requires few { ⌜ length (now classes) ≤ state-limit ⌝ }
+    requires heads_size { ⌜ length (now heads) ≡ state-limit ⌝ }
+    requires links_size { ⌜ length (now links) ≡ state-limit ⌝ }
+    requires classed { ⌜ ((v : ℕ) → getD (now links) v 0 ≡ waiting → getD (now classes) v 0 < state-limit) ⌝ }
+    ensures { λ _.
+        ⌜ FarLinked (length (now (classes .entry))) (now (classes .entry)) (now (heads .entry)) (now (links .entry))
+        (now (links .exit)) ⌝ }
+{
+    let mut v = 0;
+    while v < classes.len() {
+        links[v] = settled(links[v], classes[v], heads);
+        v += 1;
+    }
+}
+
+// Whether j names in succession lead out of both x and y. At the last name the cells are not read.
 fn common(j: usize, x: usize, y: usize, next: &[u64], work: &[u8]) -> bool
     requires targets { ⌜ Targets (now next) (now work) ⌝ }
     requires x_inside { ⌜ x < length (now next) ⌝ }
     requires y_inside { ⌜ y < length (now next) ⌝ }
+    requires some { ⌜ 0 < j ⌝ }
     ensures { λ r. ⌜ (r ≡ true) ↔ Common (now (next .entry)) (now (work .entry)) j x y ⌝ }
 {
-    if j == 0 {
-        return true;
-    }
     let mut left = next[x] & next[y];
+    if j < 2 {
+        return left != 0;
+    }
     while left != 0 {
         let name = u64::trailing_zeros(left) as usize;
         if common(j - 1, cell(work, x, name), cell(work, y, name), next, work) {
@@ -124,16 +210,22 @@ fn join_pair(
     requires v_inside { ⌜ ArcInside (length (now groups)) (length (now next)) (now parents) (now old) v ⌝ }
     requires w_inside { ⌜ ArcInside (length (now groups)) (length (now next)) (now parents) (now old) w ⌝ }
     requires labelled { ⌜ Labelled (length (now groups)) (now groups) ⌝ }
+    requires some { ⌜ 0 < j ⌝ }
     ensures { λ r.
         ⌜ PairJoined (length (now (groups .entry))) j (now (parents .entry)) (now (old .entry)) (now (next .entry))
         (now (work .entry)) v w (now (groups .entry)) (now (groups .exit)) r ⌝ }
 {
+    let into = wide16(old[v]);
+    let other = wide16(old[w]);
+    if next[into] & next[other] == 0 {
+        return false;
+    }
     let x = wide16(parents[v]);
     let y = wide16(parents[w]);
     if groups[x] == groups[y] {
         return false;
     }
-    if common(j, wide16(old[v]), wide16(old[w]), next, work) {
+    if common(j, into, other, next, work) {
         return partition::join_states(groups, x, y);
     }
     false
@@ -154,6 +246,7 @@ fn join_chain(
     requires comparing { ⌜ Comparing (length (now groups)) (now parents) (now old) (now next) (now links) (now work) ⌝ }
     requires inside { ⌜ v < length (now groups) ⌝ }
     requires labelled { ⌜ Labelled (length (now groups)) (now groups) ⌝ }
+    requires some { ⌜ 0 < j ⌝ }
     ensures { λ r.
         ⌜ ChainJoined (length (now (groups .entry))) j (now (parents .entry)) (now (old .entry)) (now (next .entry))
         (now (links .entry)) (now (work .entry)) v (now (groups .entry)) (now (groups .exit)) r ⌝ }
@@ -169,34 +262,6 @@ fn join_chain(
     joined
 }
 
-// Compares arc v with its chain, where j names in succession lead on after it at all; true where anything was joined.
-fn sweep_arc(
-    j: usize,
-    v: usize,
-    parents: &[u16],
-    old: &[u16],
-    next: &[u64],
-    links: &[u16],
-    groups: &mut [u16],
-    work: &[u8],
-) -> bool
-    requires comparing { ⌜ Comparing (length (now groups)) (now parents) (now old) (now next) (now links) (now work) ⌝ }
-    requires inside { ⌜ v < length (now groups) ⌝ }
-    requires labelled { ⌜ Labelled (length (now groups)) (now groups) ⌝ }
-    ensures { λ r.
-        ⌜ ChainJoined (length (now (groups .entry))) j (now (parents .entry)) (now (old .entry)) (now (next .entry))
-        (now (links .entry)) (now (work .entry)) v (now (groups .entry)) (now (groups .exit)) r ⌝ }
-{
-    if links[v] == 0 {
-        return false;
-    }
-    let group = wide16(old[v]);
-    if common(j, group, group, next, work) {
-        return join_chain(j, v, parents, old, next, links, groups, work);
-    }
-    false
-}
-
 // Compares all arcs; true where anything was joined.
 fn sweep_pairs(
     j: usize,
@@ -209,6 +274,7 @@ fn sweep_pairs(
 ) -> bool
     requires comparing { ⌜ Comparing (length (now groups)) (now parents) (now old) (now next) (now links) (now work) ⌝ }
     requires labelled { ⌜ Labelled (length (now groups)) (now groups) ⌝ }
+    requires some { ⌜ 0 < j ⌝ }
     ensures { λ r.
         ⌜ PairsJoined (length (now (groups .entry))) (length (now (groups .entry))) j (now (parents .entry)) (now (old .entry))
         (now (next .entry)) (now (links .entry)) (now (work .entry)) (now (groups .entry)) (now (groups .exit)) r ⌝ }
@@ -216,46 +282,54 @@ fn sweep_pairs(
     let mut joined = false;
     let mut v = 0;
     while v < old.len() {
-        let joins = sweep_arc(j, v, parents, old, next, links, groups, work);
+        let joins = join_chain(j, v, parents, old, next, links, groups, work);
         joined = joined | joins;
         v += 1;
     }
     joined
 }
 
-// The sweep for m names, by the groups as they are at first; true where anything was joined.
+// The sweep for m names, by the groups as they are at first; true where anything was joined. `before` has the groups that the
+// last sweep went by, and gets those of this one.
 pub fn sweep(
     m: usize,
     parents: &[u16],
     names: &[u8],
     classes: &[u16],
+    before: &mut [u16],
     groups: &mut [u16],
     work: &mut [u8],
 ) -> bool
     requires arrays { ⌜ Arrays (length (now groups)) (now parents) (now names) ⌝ }
     requires classes_size { ⌜ length (now classes) ≡ length (now groups) ⌝ }
+    requires before_size { ⌜ length (now before) ≡ length (now groups) ⌝ }
     requires labelled { ⌜ Labelled (length (now groups)) (now groups) ⌝ }
     requires room { ⌜ work-bytes ≤ length (now work) ⌝ }
-    requires some { ⌜ 0 < m ⌝ }
+    requires some { ⌜ 1 < m ⌝ }
+    requires limit { ⌜ m ≤ setting-limit ⌝ }
     ensures { λ r.
         ⌜ SweptBy (length (now (groups .entry))) m (now (parents .entry)) (now (names .entry)) (now (classes .entry))
-        (now (groups .entry)) (now (groups .exit)) r ⌝ }
+        (now (before .entry)) (now (before .exit)) (now (groups .entry)) (now (groups .exit)) r ⌝ }
 {
-    let n = groups.len();
-    let mut old = [0u16; STATE_LIMIT];
-    suffixes::copy(groups, &mut old[..n]);
+    let j = m - 1;
+    let mut dist = [8u8; STATE_LIMIT];
+    distances(j, parents, before, groups, &mut dist);
+    suffixes::copy(groups, before);
     let mut next = [0u64; STATE_LIMIT];
     let mut links = [0u16; STATE_LIMIT];
     let mut heads = [0u16; STATE_LIMIT];
     link_arcs(
+        j,
         parents,
         names,
         classes,
-        &old[..n],
+        before,
+        &dist,
         &mut next,
         &mut links,
         &mut heads,
         work,
     );
-    sweep_pairs(m - 1, parents, &old[..n], &next, &links, groups, work)
+    link_far(classes, &heads, &mut links);
+    sweep_pairs(j, parents, before, &next, &links, groups, work)
 }

@@ -2,7 +2,7 @@
 use mathlib.Core.Path.{_≡_, refl, ap}
 use mathlib.Core.Bool.{Bool, true, false, cond}
 use mathlib.Core.List.{List}
-use Prim.Native.Nat.{ℕ, _+_, _<_, _≤_}
+use Prim.Native.Nat.{ℕ, _+_, _<_}
 use native.Mathlib.Omega.{arith}
 use Rattle.indexed.specs.Partitions.{sum}
 
@@ -15,13 +15,5 @@ pub due-less :
     due groups′ joined < due groups true
 due-less groups groups′ true none some = omega (arith, some refl)
 due-less groups groups′ false none some =
-    let same : sum groups′ ≡ sum groups = ap sum (none refl) in
-    omega arith
-
-pub sum-fewer :
-    (groups groups′ : List ℕ) (joined : Bool) → (joined ≡ false → groups′ ≡ groups) → (joined ≡ true → sum groups′ < sum groups) →
-    sum groups′ ≤ sum groups
-sum-fewer groups groups′ true none some = omega (arith, some refl)
-sum-fewer groups groups′ false none some =
     let same : sum groups′ ≡ sum groups = ap sum (none refl) in
     omega arith

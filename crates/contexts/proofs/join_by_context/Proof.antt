@@ -84,8 +84,8 @@ run-rounds-requires c κs =
     let sum-is : start .args .h + (start .args .k - start .args .h) ≡ start .args .k = omega arith in (
       climbs-ready (length (start .args .groups .now)) (start .args .h) (start .args .k - start .args .h) (start .args .k)
           (start .args .parents .now) (start .args .names .now) (by .last .1 .1 .1 .0) (climbs .climb-starts .last .1 .1 .0)
-          (start .pre .0) (start .pre .1 .0) (omega (arith, climbs .before .before .if1 .left)) sum-is (start .pre .1 .1 .1 .0)
-          (by .ensures) (climbed-here climbs),
+          (start .pre .0) (start .pre .1 .0) (omega (arith, climbs .before .before .if1 .left, c .before .before .if2 .left))
+          sum-is (start .pre .1 .1 .1 .0) (by .ensures) (climbed-here climbs),
       start .pre .1 .1 .1 .1,
     )
 

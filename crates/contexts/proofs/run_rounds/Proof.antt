@@ -31,25 +31,66 @@ own-requires c κs =
     let few = start .pre .0 .arrays .few-states in
     omega (arith, few, front-length (length (start .args .groups .now)) (replicate 512 0) few)
 
+array-borrow-prefix-before : tie.Need-array-borrow-prefix-before
+array-borrow-prefix-before c = search needs
+
+slice-aggregate-own-2 : tie.Need-slice-aggregate-own-2
+slice-aggregate-own-2 c =
+    sym (front-length _ _ (c .before .before .before .before .before .before .before .before .pre .0 .arrays .few-states))
+
+-- the same of the partition before the first sweep
+before-here :
+    (c : tie.After-own2) → let start = c .before .before .before .before .before .before .before .before .before in
+    c .own2 .last .0 ≡ numbersFrom (length (start .args .groups .now)) 0
+before-here c =
+    let start = c .before .before .before .before .before .before .before .before .before in
+    own-front (length (start .args .groups .now)) (replicate 512 0) (c .own2 .last .0) (start .pre .0 .arrays .few-states)
+    (c .own2 .ensures)
+
+own-requires-2 : tie.Need-own-requires-2
+own-requires-2 c κs =
+    let start = c .before .before .before .before .before .before .before .before in
+    let few = start .pre .0 .arrays .few-states in
+    omega (arith, few, front-length (length (start .args .groups .now)) (replicate 512 0) few)
+
 array-share-prefix-numbers : tie.Need-array-share-prefix-numbers
 array-share-prefix-numbers c =
-    let own = c .before in
+    let own = c .before .before .before .before in
     let n = length (own .before .before .before .before .before .before .args .groups .now) in
     front-fits n (numbersFrom n 0) (own .own .last .0) _ (own-here own) (numbers-length n 0)
 
 slice-aggregate-close-contexts : tie.Need-slice-aggregate-close-contexts
 slice-aggregate-close-contexts c =
-    let own = c .before .before in
+    let own = c .before .before .before .before .before in
     let n = length (own .before .before .before .before .before .before .args .groups .now) in
-    sym (ap length (front-again n (numbersFrom n 0) (own .own .last .0) _ (own-here own) (numbers-length n 0)) ∙ numbers-length n 0)
+    let size = numbers-length n 0 in
+    sym (ap length (front-again n (numbersFrom n 0) (own .own .last .0) _ (own-here own) size) ∙ size)
+
+array-borrow-prefix-before-2 : tie.Need-array-borrow-prefix-before-2
+array-borrow-prefix-before-2 c =
+    let own = c .before .before in
+    let n = length (own .before .before .before .before .before .before .before .before .before .args .groups .now) in
+    front-fits n (numbersFrom n 0) (own .own2 .last .0) _ (before-here own) (numbers-length n 0)
+
+slice-aggregate-close-contexts-2 : tie.Need-slice-aggregate-close-contexts-2
+slice-aggregate-close-contexts-2 c =
+    let own = c .before .before .before in
+    let n = length (own .before .before .before .before .before .before .before .before .before .args .groups .now) in
+    let size = numbers-length n 0 in
+    sym (ap length (front-again n (numbersFrom n 0) (own .own2 .last .0) _ (before-here own) size) ∙ size)
 
 close-contexts-requires : tie.Need-close-contexts-requires
 close-contexts-requires c κs =
-    let own = c .before .before .before .before in
+    let own-before = c .before .before .before .before .before in
+    let own = own-before .before .before .before in
     let start = own .before .before .before .before .before .before in
-    let n = length (start .args .groups .now) in (
+    let n = length (start .args .groups .now) in
+    let size = numbers-length n 0 in (
       start .pre .0,
-      (front-again n (numbersFrom n 0) (own .own .last .0) _ (own-here own) (numbers-length n 0), start .pre .1),
+      (
+        front-again n (numbersFrom n 0) (own .own .last .0) _ (own-here own) size,
+        (front-again n (numbersFrom n 0) (own-before .own2 .last .0) _ (before-here own-before) size, start .pre .1),
+      ),
     )
 
 same-length : tie.Need-same-length
@@ -68,8 +109,13 @@ run-rounds-spec =
     array-borrow-prefix-numbers
     slice-aggregate-own
     own-requires
+    array-borrow-prefix-before
+    slice-aggregate-own-2
+    own-requires-2
     array-share-prefix-numbers
     slice-aggregate-close-contexts
+    array-borrow-prefix-before-2
+    slice-aggregate-close-contexts-2
     close-contexts-requires
     same-length
     same-length-2

@@ -8,7 +8,7 @@ use lib.Count.{trailing-le, trailingZeros}
 use borrow.Fn.Kinds.{In}
 use borrow.Fn.PlainCycle.{Measures, is, falls, and}
 use Rattle.contexts.proofs.CommonLaws.{Trying, trying-all, name-low, name-leaves, trying-found, trying-more, left-less}
-use Rattle.contexts.proofs.CommonLaws.{trying-none}
+use Rattle.contexts.proofs.CommonLaws.{trying-none, common-one}
 use Rattle.contexts.proofs.pairs.common.Reads as common
 use Rattle.contexts.proofs.pairs.common.Kinds as common-kinds
 use Rattle.contexts.proofs.pairs.+common.Lts-common as common-lts
@@ -32,7 +32,7 @@ common-Inv-loop j x y next work left₀ left = Trying next work (j - 1) x y left
 abbrev common-μ-loop : common-lts.MeasureT-loop
 common-μ-loop j x y next work left₀ left = left
 
--- the function's entry from a turn of the loop, and what is known at a turn: a name is left, and j is not 0
+-- the function's entry from a turn of the loop, and what is known at a turn: a name is left, and there are two names or more
 abbrev entry : (t : ℕ) → common-lts.In-loop (
   cell-reads.Asked,
   cell-reads.Learnt,
@@ -62,16 +62,7 @@ one-more : (t : ℕ) (turn : common-lts.In-loop (
   common.Post,
 ) (common-at t) common.Post common-Inv-loop common-μ-loop)
     → suc (entry t turn .args .j - 1) ≡ entry t turn .args .j
-one-more t turn = omega (arith, turn .before .before .before .before .if1 .left)
-
-common-returns : (t : ℕ) → common-lts.Need-returns (
-  cell-reads.Asked,
-  cell-reads.Learnt,
-  common-below t,
-  common.Post,
-) (common-at t) common.Post common-Inv-loop common-μ-loop
-common-returns t c =
-    (λ e. rw (c .if1 .taken) tt, λ leads. refl)
+one-more t turn = omega (arith, turn .before .before .if1 .left)
 
 common-mul-left : (t : ℕ) → common-lts.Need-mul-left (
   cell-reads.Asked,
@@ -80,7 +71,7 @@ common-mul-left : (t : ℕ) → common-lts.Need-mul-left (
   common.Post,
 ) (common-at t) common.Post common-Inv-loop common-μ-loop
 common-mul-left t c =
-    let start = c .before .before .before in
+    let start = c .before .before in
     omega (arith, start .pre .1 .0 .few, start .pre .1 .1 .0)
 
 common-shared-slice-read-left : (t : ℕ) → common-lts.Need-shared-slice-read-left (
@@ -90,7 +81,7 @@ common-shared-slice-read-left : (t : ℕ) → common-lts.Need-shared-slice-read-
   common.Post,
 ) (common-at t) common.Post common-Inv-loop common-μ-loop
 common-shared-slice-read-left t c =
-    c .before .before .before .before .pre .1 .1 .0
+    c .before .before .before .pre .1 .1 .0
 
 common-mul-left-2 : (t : ℕ) → common-lts.Need-mul-left-2 (
   cell-reads.Asked,
@@ -99,8 +90,8 @@ common-mul-left-2 : (t : ℕ) → common-lts.Need-mul-left-2 (
   common.Post,
 ) (common-at t) common.Post common-Inv-loop common-μ-loop
 common-mul-left-2 t c =
-    let start = c .before .before .before .before in
-    omega (arith, start .pre .1 .0 .few, start .pre .1 .1 .1)
+    let start = c .before .before .before in
+    omega (arith, start .pre .1 .0 .few, start .pre .1 .1 .1 .0)
 
 common-shared-slice-read-left-2 : (t : ℕ) → common-lts.Need-shared-slice-read-left-2 (
   cell-reads.Asked,
@@ -109,7 +100,17 @@ common-shared-slice-read-left-2 : (t : ℕ) → common-lts.Need-shared-slice-rea
   common.Post,
 ) (common-at t) common.Post common-Inv-loop common-μ-loop
 common-shared-slice-read-left-2 t c =
-    c .before .before .before .before .before .pre .1 .1 .1
+    c .before .before .before .before .pre .1 .1 .1 .0
+
+common-returns : (t : ℕ) → common-lts.Need-returns (
+  cell-reads.Asked,
+  cell-reads.Learnt,
+  common-below t,
+  common.Post,
+) (common-at t) common.Post common-Inv-loop common-μ-loop
+common-returns t c =
+    let start = c .before .before .before .before .before in
+    common-one (start .args .j) (start .args .x) (start .args .y) (start .pre .1 .0) (start .pre .1 .1 .1 .1) (c .if1 .taken)
 
 common-loop-holds : (t : ℕ) → common-lts.Need-loop-holds (
   cell-reads.Asked,
@@ -160,7 +161,7 @@ common-cell-requires-2 t c κs =
     let turn = c .before in
     let start = entry t turn in
     let low = name-low (turn .before .loop .inv) (some-left t turn) in
-    (omega (arith, start .pre .1 .0 .few, start .pre .1 .1 .1), (low, start .pre .1 .0 .room))
+    (omega (arith, start .pre .1 .0 .few, start .pre .1 .1 .1 .0), (low, start .pre .1 .0 .room))
 
 common-common-requires : (t : ℕ) → common-lts.Need-common-requires (
   cell-reads.Asked,
@@ -179,7 +180,10 @@ common-common-requires t c κs =
         targets,
         (
           omega (arith, c .before .cell .ensures .value, targets .inside (start .args .x) name (leaves .0)),
-          omega (arith, c .cell2 .ensures .value, targets .inside (start .args .y) name (leaves .1)),
+          (
+            omega (arith, c .cell2 .ensures .value, targets .inside (start .args .y) name (leaves .1)),
+            omega (arith, turn .before .before .if1 .left),
+          ),
         ),
       ),
     )
@@ -241,7 +245,7 @@ common-returns-3 : (t : ℕ) → common-lts.Need-returns-3 (
 common-returns-3 t c =
     let start = c .before .before .before .before .before .before .before in
     let j = start .args .j in
-    let j-is : suc (j - 1) ≡ j = omega (arith, c .before .before .before .before .if1 .left) in (
+    let j-is : suc (j - 1) ≡ j = omega (arith, start .pre .1 .1 .1 .1) in (
       λ e. absurd (false≢true e),
       λ leads. absurd (trying-none (c .before .loop .inv) (c .loop-test .left) j j-is leads),
     )
@@ -257,11 +261,11 @@ pub +common-spec : {M : Type 1} → statement M
     common.Post
     common-Inv-loop
     common-μ-loop
-    (common-returns t)
     (common-mul-left t)
     (common-shared-slice-read-left t)
     (common-mul-left-2 t)
     (common-shared-slice-read-left-2 t)
+    (common-returns t)
     (common-loop-holds t)
     (common-cast-name t)
     (common-sub-common t)

@@ -25,11 +25,11 @@ entry c = c .before .before .before .before .before .before .before .before .bef
 head-is : (c : tie.In-loop Inv-loop μ-loop) → c .before .loop .at ≡ suc (c .before .loop .at - 1)
 head-is c = omega (arith, c .loop-test .taken)
 
--- which comes before v, and links to an earlier one
+-- which leads into a state, and links to an earlier one
 come :
     (c : tie.In-loop Inv-loop μ-loop) → let w = c .before .loop .at - 1 in
     let start = entry (c .before) in
-    (w < start .args .v) × (getD (start .args .links .now) w 0 ≤ w)
+    (w < length (start .args .groups .now)) × (getD (start .args .links .now) w 0 ≤ w)
 come c =
     let start = entry (c .before) in
     come-to (start .pre .0 .falling (start .args .v) (start .pre .1 .0)) (head-is c) (c .before .loop .inv .1)
@@ -48,7 +48,9 @@ wide16-requires : tie.Need-wide16-requires Inv-loop μ-loop
 wide16-requires c κs = tt
 
 loop-holds : tie.Need-loop-holds Inv-loop μ-loop
-loop-holds c = (refl, chaining-none (c .wide16 .ensures) (c .before .before .before .before .before .before .before .before .pre .1 .1))
+loop-holds c =
+    let start = c .before .before .before .before .before .before .before .before in
+    (refl, chaining-none (c .wide16 .ensures) (start .pre .1 .1 .0))
 
 sub-w : tie.Need-sub-w Inv-loop μ-loop
 sub-w c = omega arith
@@ -61,7 +63,6 @@ join-pair-requires c κs =
     let ready = start .pre .0 in
     let size = sym (loop .inv .0) in
     let w = loop .at - 1 in
-    let low : w < length (start .args .groups .now) = omega (arith, come turn .0, start .pre .1 .0) in
     let inside : (u : ℕ) → u < length (start .args .groups .now) →
     ArcInside (length (loop .groups)) (length (start .args .next .now)) (start .args .parents .now) (start .args .old .now) u =
     λ u below. subst (λ (k : ℕ). ArcInside k (length (start .args .next .now)) (start .args .parents .now) (start .args .old .now) u)
@@ -69,7 +70,10 @@ join-pair-requires c κs =
       ready .targets,
       (
         inside (start .args .v) (start .pre .1 .0),
-        (inside w low, subst (λ (k : ℕ). Labelled k (loop .groups)) size (loop .inv .1 .labelled)),
+        (
+          inside w (come turn .0),
+          (subst (λ (k : ℕ). Labelled k (loop .groups)) size (loop .inv .1 .labelled), start .pre .1 .1 .1),
+        ),
       ),
     )
 

@@ -12,7 +12,8 @@ use Rattle.cells.specs.Cells.{withCell}
 use Rattle.indexed.proofs.Bits.{bit}
 use Rattle.indexed.proofs.Suffixes.{parent-below}
 use Rattle.contexts.specs.Sweeps.{Linked}
-use Rattle.contexts.proofs.LinkLaws.{name-known, name-new, first-arc, linked-more, arcs-known, arcs-short, arcs-listed}
+use Rattle.contexts.proofs.LinkLaws.{name-known, name-new, first-arc, linked-more}
+use Rattle.contexts.proofs.NearLaws.{arcs-known, arcs-placed}
 use Rattle.contexts.proofs.pairs.link_arc.Statement.{statement}
 use Rattle.contexts.proofs.pairs.link_arc.Tie as tie
 
@@ -154,11 +155,15 @@ linked-here c =
     ∙ ap (λ (a : ℕ). withCell (start .args .work .now) from a (wide .result)) (c .before .before .before .wide8 .ensures))
     (new-name (c .before .before .before .before .before))
 
-mul-if2 : tie.Need-mul-if2
-mul-if2 c = search needs
-
-shared-slice-read-if2 : tie.Need-shared-slice-read-if2
-shared-slice-read-if2 c = search needs
+place-arc-requires : tie.Need-place-arc-requires
+place-arc-requires c κs =
+    let put = c .before .before .before .before in
+    let start = entry (put .before .before .before .before .before .before .before .before) in
+    let few = start .pre .0 .few-states in
+    let inside = start .pre .1 .1 .1 .0 in
+    let sizes = start .pre .1 .1 .1 .1 .0 in
+    let group-low = start .pre .1 .0 .low (start .args .v) inside in
+    (sizes .classes-size, (inside, (few, (omega (arith, group-low, inside, few), (sizes .links-size, sizes .heads-size)))))
 
 same-length : tie.Need-same-length
 same-length c = search needs
@@ -166,68 +171,23 @@ same-length c = search needs
 same-length-2 : tie.Need-same-length-2
 same-length-2 c = search needs
 
-returns-2 : tie.Need-returns-2
-returns-2 c =
-    let start = entry (c .before .before .before .before .before .before .before .before .before .before .before .before) in
-    arcs-short (start .pre .1 .1 .1 .1 .1) (linked-here (c .before .before .before .before)) (omega (arith, c .if2 .taken))
-
-mul-wide16-2 : tie.Need-mul-wide16-2
-mul-wide16-2 c = search needs
-
-shared-slice-read-wide16-2 : tie.Need-shared-slice-read-wide16-2
-shared-slice-read-wide16-2 c = search needs
-
-wide16-requires-2 : tie.Need-wide16-requires-2
-wide16-requires-2 c κs = search needs
-
-mul-last : tie.Need-mul-last
-mul-last c = search needs
-
-slice-read-last : tie.Need-slice-read-last
-slice-read-last c = search needs
-
-mul-links : tie.Need-mul-links
-mul-links c = search needs
-
-slice-write-links : tie.Need-slice-write-links
-slice-write-links c = search needs
-
-add-narrow16 : tie.Need-add-narrow16
-add-narrow16 c = search needs
-
-narrow16-requires : tie.Need-narrow16-requires
-narrow16-requires c κs = search needs
-
-mul-heads : tie.Need-mul-heads
-mul-heads c = search needs
-
-slice-write-heads : tie.Need-slice-write-heads
-slice-write-heads c = search needs
-
 same-length-3 : tie.Need-same-length-3
 same-length-3 c = search needs
 
 same-length-4 : tie.Need-same-length-4
 same-length-4 c = search needs
 
-same-length-5 : tie.Need-same-length-5
-same-length-5 c = search needs
-
-same-length-6 : tie.Need-same-length-6
-same-length-6 c = search needs
-
-returns-3 : tie.Need-returns-3
-returns-3 c =
-    let put = c .before .before .before .before .before .before .before .before in
+returns-2 : tie.Need-returns-2
+returns-2 c =
+    let placed = c .before .before .before .before in
+    let put = placed .before .before .before .before .before in
     let start = entry (put .before .before .before .before .before .before .before .before) in
-    let class = c .before .before .wide162 in
     let few = start .pre .0 .few-states in
+    let inside = start .pre .1 .1 .1 .0 in
     let sizes = start .pre .1 .1 .1 .1 .0 in
-    arcs-listed (start .pre .1 .1 .1 .1 .1) (linked-here put) (class .result) (c .narrow16 .result)
-    (omega (arith, start .pre .1 .1 .1 .0, few, sizes .links-size))
-    (omega (arith, class .ensures, c .before .before .before .before .if2 .left, sizes .heads-size)) (c .narrow16 .ensures) (class .ensures)
-    (omega (arith, class .ensures, c .before .before .before .before .if2 .left)) (start .pre .1 .1 .0)
-    (first-arc (start .pre .1 .1 .1 .1 .1 .linked) (new-name (put .before .before .before .before .before)))
+    arcs-placed (start .pre .1 .1 .1 .1 .1) (linked-here put) (omega (arith, inside, few)) (sizes .links-size) (sizes .heads-size)
+    (start .pre .1 .1 .0) (first-arc (start .pre .1 .1 .1 .1 .1 .linked) (new-name (put .before .before .before .before .before)))
+    (placed .place-arc .ensures)
 
 pub link-arc-spec : {M : Type 1} → statement M
 link-arc-spec =
@@ -247,24 +207,9 @@ link-arc-spec =
     shared-slice-read-wide16
     wide16-requires
     set-cell-requires
-    mul-if2
-    shared-slice-read-if2
+    place-arc-requires
     same-length
     same-length-2
-    returns-2
-    mul-wide16-2
-    shared-slice-read-wide16-2
-    wide16-requires-2
-    mul-last
-    slice-read-last
-    mul-links
-    slice-write-links
-    add-narrow16
-    narrow16-requires
-    mul-heads
-    slice-write-heads
     same-length-3
     same-length-4
-    same-length-5
-    same-length-6
-    returns-3)
+    returns-2)

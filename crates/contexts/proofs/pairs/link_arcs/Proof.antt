@@ -8,12 +8,12 @@ use Rattle.contexts.proofs.pairs.link_arcs.Statement.{statement}
 use Rattle.contexts.proofs.pairs.link_arcs.Tie as tie
 
 abbrev Inv-loop : tie.InvT-loop
-Inv-loop parents names classes old next₀ links₀ heads₀ work₀ v₀ next links heads work v =
+Inv-loop j parents names classes old dist next₀ links₀ heads₀ work₀ v₀ next links heads work v =
     (0 < v) × (v ≤ length old) × (length next ≡ length next₀) × (length links ≡ length links₀) × (length heads ≡ length heads₀)
-    × (length work ≡ length work₀) × ArcsLinked v parents names classes old next links heads work
+    × (length work ≡ length work₀) × ArcsLinked v j parents names classes old dist next links heads work
 
 abbrev μ-loop : tie.MeasureT-loop
-μ-loop parents names classes old next₀ links₀ heads₀ work₀ v₀ next links heads work v = length old - v
+μ-loop j parents names classes old dist next₀ links₀ heads₀ work₀ v₀ next links heads work v = length old - v
 
 -- the function's entry, from the loop's head
 abbrev entry : tie.At-loop Inv-loop μ-loop → tie.Start Inv-loop μ-loop
@@ -69,10 +69,10 @@ loop-again c =
     let arc = c .before .before .before .before .before .before .before .before .link-arc in (
       omega arith,
       omega (arith, turn .loop-test .taken),
-      arc .kept .1 .1 .1 .1 .1 .0 ∙ inv .2,
-      arc .kept .1 .1 .1 .1 .1 .1 .0 ∙ inv .3,
-      arc .kept .1 .1 .1 .1 .1 .1 .1 .0 ∙ inv .4,
-      arc .kept .1 .1 .1 .1 .1 .1 .1 .1 .0 ∙ inv .5,
+      arc .kept .1 .1 .1 .1 .1 .1 .1 .0 ∙ inv .2,
+      arc .kept .1 .1 .1 .1 .1 .1 .1 .1 .0 ∙ inv .3,
+      arc .kept .1 .1 .1 .1 .1 .1 .1 .1 .1 .0 ∙ inv .4,
+      arc .kept .1 .1 .1 .1 .1 .1 .1 .1 .1 .1 .0 ∙ inv .5,
       arc .ensures,
     )
 
@@ -93,8 +93,9 @@ returns c =
     let loop = c .before .loop in
     let start = entry (c .before) in
     let all : loop .v ≡ length (start .args .old .now) = omega (arith, c .loop-test .left, loop .inv .1) in
-    subst (λ (k : ℕ). ArcsLinked k (start .args .parents .now) (start .args .names .now) (start .args .classes .now)
-    (start .args .old .now) (loop .next) (loop .links) (loop .heads) (loop .work)) all (loop .inv .6)
+    subst (λ (k : ℕ). ArcsLinked k (start .args .j) (start .args .parents .now) (start .args .names .now)
+    (start .args .classes .now) (start .args .old .now) (start .args .dist .now) (loop .next) (loop .links) (loop .heads)
+    (loop .work)) all (loop .inv .6)
 
 pub link-arcs-spec : {M : Type 1} → statement M
 link-arcs-spec =

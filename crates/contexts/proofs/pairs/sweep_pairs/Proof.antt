@@ -22,10 +22,10 @@ abbrev entry : tie.At-loop Inv-loop μ-loop → tie.Start Inv-loop μ-loop
 entry c = c .before .before .before .before .before .before .before
 
 loop-holds : tie.Need-loop-holds Inv-loop μ-loop
-loop-holds c = (omega arith, refl, pairs-none (c .before .before .before .before .before .before .pre .1))
+loop-holds c = (omega arith, refl, pairs-none (c .before .before .before .before .before .before .pre .1 .0))
 
-sweep-arc-requires : tie.Need-sweep-arc-requires Inv-loop μ-loop
-sweep-arc-requires c κs =
+join-chain-requires : tie.Need-join-chain-requires Inv-loop μ-loop
+join-chain-requires c κs =
     let turn = c .before in
     let loop = turn .before .loop in
     let start = entry (turn .before) in
@@ -34,7 +34,7 @@ sweep-arc-requires c κs =
           (start .args .links .now) (start .args .work .now)) size (start .pre .0),
       (
         omega (arith, loop .inv .1, start .pre .0 .old-size, turn .loop-test .taken),
-        subst (λ (k : ℕ). Labelled k (loop .groups)) size (loop .inv .2 .labelled),
+        (subst (λ (k : ℕ). Labelled k (loop .groups)) size (loop .inv .2 .labelled), start .pre .1 .1),
       ),
     )
 
@@ -52,7 +52,7 @@ loop-again c =
     let turn = c .before .before .before .before in
     let loop = turn .before .loop in
     let start = entry (turn .before) in
-    let arc = c .before .before .sweep-arc in
+    let arc = c .before .before .join-chain in
     let inside : loop .v < length (start .args .groups .now) = omega (arith, turn .loop-test .taken, start .pre .0 .old-size) in
     let chain =
     subst (λ (k : ℕ). ChainJoined k (start .args .j) (start .args .parents .now) (start .args .old .now) (start .args .next .now)
@@ -82,7 +82,7 @@ sweep-pairs-spec =
     Inv-loop
     μ-loop
     loop-holds
-    sweep-arc-requires
+    join-chain-requires
     add-v
     loop-less
     loop-again
