@@ -11,3 +11,4 @@ pub mod KindLaws
 pub mod SettleLaws
 pub mod RootLaws
 pub mod PairLaws
+pub mod ForkLaws

@@ -1,0 +1,539 @@
+-- Laws of forks closed round by round: how a round starts, what a pair joined and a pair left behind keep, and that it ends closed
+-- with the lists kept. Assumes nothing.
+use mathlib.Core.Path.{_≡_, sym, ap, ap₂, _∙_, subst, subst₂}
+use mathlib.Core.Logic.{_⊎_, inl, inr}
+use mathlib.Core.List.{List}
+use Prim.Native.Nat.{ℕ, suc, _+_, _<_, _≤_}
+use native.Mathlib.Omega.{arith}
+use lib.ListN.{length, getD}
+use Rattle.model.specs.Limits.{state-limit}
+use Rattle.model.proofs.Tests.{eq-dec}
+use Rattle.indexed.specs.Partitions.{Refines, Labelled, KeyClosed}
+use Rattle.indexed.specs.Passes.{relabelled}
+use Rattle.indexed.proofs.Keys.{number-at, numbers-length, relabelled-labelled, relabelled-coarser, relabelled-refines}
+use Rattle.indexed.proofs.Keys.{relabelled-joins}
+use Rattle.partition.specs.Forests.{Forest, rootsOf}
+use Rattle.partition.proofs.ForestLaws.{flat-roots, root-up, roots-at, roots-length}
+use Rattle.worklist.specs.Lists.{pair-limit, Sorted, Filled, Merged}
+use Rattle.worklist.specs.Settling.{Joins, JoinedRoots}
+use Rattle.worklist.specs.Forks.{ForksReady, Nothing, Kept, Closing, JoinedPair, JoinedAll, SettledForks, KeptClosed}
+use Rattle.worklist.proofs.QueueLaws.{grew-none}
+use Rattle.worklist.proofs.KindLaws.{each-shorter, each-longer, each-later, each-first, kind-more, kind-filled}
+use Rattle.worklist.proofs.KindLaws.{kind-closed, kind-merged, filled-safe, merged-safe, filled-inside, merged-inside}
+use Rattle.worklist.proofs.SettleLaws.{One, merged-by-states}
+
+-- both states of a pair are states
+abbrev Two : ℕ → ℕ → ℕ → Type 0
+Two n x y = (x < n) × (y < n)
+
+-- labels of states are rows of lists
+label-row :
+    (n : ℕ) (groups : List ℕ) → n ≤ state-limit → Labelled n groups → (v : ℕ) → v < n → getD groups v 0 < state-limit
+label-row n groups few labelled v h =
+    let low : getD groups v 0 ≤ v = labelled .low v h in
+    omega arith
+
+module _ (n : ℕ) (parents names numbers : List ℕ) where
+  pub own-size : ForksReady n parents names numbers → length numbers ≡ n
+  own-size ready = ap length (ready .own) ∙ numbers-length n 0
+
+  pub own-below : ForksReady n parents names numbers → (v : ℕ) → v < n → getD numbers v 0 < n
+  own-below ready v h =
+      subst (λ (x : ℕ). x < n) (sym (ap (λ (l : List ℕ). getD l v 0) (ready .own) ∙ number-at n v h)) h
+
+  -- ---- how a round starts
+
+  -- the lists filled: every pair is pending
+  pub closing-filled :
+      (groups links heads firsts seconds firsts′ seconds′ : List ℕ) (tail : ℕ) → ForksReady n parents names numbers →
+      Labelled n groups → length firsts ≡ pair-limit → length seconds ≡ pair-limit →
+      Filled n parents numbers names groups links heads firsts seconds firsts′ seconds′ 0 tail →
+      Closing n parents names numbers groups groups links heads firsts′ seconds′ 0 tail
+  closing-filled groups links heads firsts seconds firsts′ seconds′ tail ready labelled firsts-size seconds-size filled =
+      let count = filled .counted in
+      let few : n ≤ state-limit = ready .few in
+      record {
+        rows = filled .rows;
+        ready = ready;
+        labelled = labelled;
+        kind =
+            kind-filled n parents numbers names groups links heads firsts seconds firsts′ seconds′ 0 tail
+            (Joins firsts′ seconds′ 0 tail) filled (λ others joins. joins);
+        safe = λ closed by refines. (
+          refines,
+          filled-safe n parents numbers names groups links heads firsts seconds firsts′ seconds′ 0 tail (ready .parents-below)
+              filled closed by refines,
+        );
+        inside =
+            filled-inside n parents numbers names groups links heads firsts seconds firsts′ seconds′ 0 tail (own-below ready)
+            filled;
+        order = omega arith;
+        room = omega arith;
+        firsts-size = filled .grew .firsts-size ∙ firsts-size;
+        seconds-size = filled .grew .seconds-size ∙ seconds-size;
+      }
+
+  -- lists kept: nothing is pending, and the round's start is a coarser partition
+  pub closing-kept :
+      (joined groups links heads firsts seconds : List ℕ) (tail : ℕ) → ForksReady n parents names numbers →
+      Kept n parents names numbers groups links heads firsts seconds tail → Refines n groups joined →
+      Closing n parents names numbers joined groups links heads firsts seconds tail tail
+  closing-kept joined groups links heads firsts seconds tail ready kept coarser =
+      record {
+        rows = kept .rows;
+        ready = ready;
+        labelled = kept .labelled;
+        kind =
+            kind-more n parents numbers names groups (kept .rows) links heads Nothing (Joins firsts seconds tail tail)
+            (λ others refines joins. Prim.tt) (kept .kind);
+        safe = λ closed by refines. (
+          λ x y hx hy e. refines x y hx hy (coarser x y hx hy e),
+          λ i low high. let z : ⊥ = omega arith in absurd z,
+        );
+        inside = λ i low high. let z : ⊥ = omega arith in absurd z;
+        order = omega arith;
+        room = kept .room;
+        firsts-size = kept .firsts-size;
+        seconds-size = kept .seconds-size;
+      }
+
+  -- a partition by labels, as a forest
+  pub closing-flat :
+      (start groups links heads firsts seconds : List ℕ) (done tail : ℕ) →
+      Closing n parents names numbers start groups links heads firsts seconds done tail →
+      Closing n parents names numbers start (rootsOf groups) links heads firsts seconds done tail
+  closing-flat start groups links heads firsts seconds done tail closing =
+      subst (λ (labels : List ℕ). Closing n parents names numbers start labels links heads firsts seconds done tail)
+      (sym (flat-roots n groups (closing .labelled))) closing
+
+  -- ---- how it ends
+
+  -- nothing pending: joined until closed, and the lists are kept
+  pub kept-closed :
+      (start groups links heads firsts seconds : List ℕ) (tail : ℕ) → Refines n start groups →
+      Closing n parents names numbers start groups links heads firsts seconds tail tail →
+      KeptClosed n parents names numbers start groups links heads firsts seconds tail
+  kept-closed start groups links heads firsts seconds tail coarser closing =
+      record {
+        until =
+            record {
+              labelled = closing .labelled;
+              coarser = coarser;
+              sound = λ others by refines. closing .safe others by refines .0;
+              closed =
+                  kind-closed n parents numbers names groups (closing .rows) links heads (Joins firsts seconds tail tail)
+                  (none groups)
+                  (λ v h.
+                  label-row n groups (closing .ready .few) (closing .labelled) (getD parents v 0)
+                  (closing .ready .parents-below v h))
+                  (closing .kind);
+            };
+        kept =
+            record {
+              rows = closing .rows;
+              labelled = closing .labelled;
+              kind =
+                  kind-more n parents numbers names groups (closing .rows) links heads (Joins firsts seconds tail tail) Nothing
+                  (λ others refines nothing. none others) (closing .kind);
+              room = closing .room;
+              firsts-size = closing .firsts-size;
+              seconds-size = closing .seconds-size;
+            };
+      }
+    where
+      none : (others : List ℕ) → Joins firsts seconds tail tail others
+      none others i low high = let z : ⊥ = omega arith in absurd z
+
+  -- ---- one pair
+
+  -- the pair at `done` is in one group: it is pending no more
+  closing-next :
+      (start groups links heads firsts seconds : List ℕ) (done tail : ℕ) → done < tail →
+      One groups (getD firsts done 0) (getD seconds done 0) →
+      Closing n parents names numbers start groups links heads firsts seconds done tail →
+      Closing n parents names numbers start groups links heads firsts seconds (suc done) tail
+  closing-next start groups links heads firsts seconds done tail due one closing =
+      record {
+        rows = closing .rows;
+        ready = closing .ready;
+        labelled = closing .labelled;
+        kind =
+            kind-more n parents numbers names groups (closing .rows) links heads (Joins firsts seconds done tail)
+            (Joins firsts seconds (suc done) tail) fewer (closing .kind);
+        safe = λ closed by refines.
+            let old = closing .safe closed by refines in
+            (old .0, each-later (One closed) firsts seconds done (suc done) tail (omega arith) (old .1));
+        inside = each-later (Two n) firsts seconds done (suc done) tail (omega arith) (closing .inside);
+        order = omega arith;
+        room = closing .room;
+        firsts-size = closing .firsts-size;
+        seconds-size = closing .seconds-size;
+      }
+    where
+      here : Two n (getD firsts done 0) (getD seconds done 0)
+      here = closing .inside done (omega arith) due
+
+      fewer :
+          (others : List ℕ) → Refines n groups others → Joins firsts seconds (suc done) tail others →
+          Joins firsts seconds done tail others
+      fewer others refines joins =
+          each-first (One others) firsts seconds done tail
+          (refines (getD firsts done 0) (getD seconds done 0) (here .0) (here .1) one) joins
+
+  -- two groups are made one and their lists are merged: a and b are states of them
+  module _ (start groups links heads firsts seconds : List ℕ) (done tail : ℕ)
+      (closing : Closing n parents names numbers start groups links heads firsts seconds done tail) (a b : ℕ) (below-a : a < n)
+      (below-b : b < n)
+      (pair : (closed : List ℕ) → KeyClosed n parents numbers names closed → Refines n start closed → One closed a b)
+      (lower : getD groups a 0 < getD groups b 0) (links′ heads′ firsts′ seconds′ : List ℕ) (tail′ : ℕ)
+      (merged : Merged n numbers names (closing .rows) (getD groups a 0) (getD groups b 0) links′ heads′ firsts seconds firsts′
+      seconds′ tail tail′) where
+    abbrev to : ℕ
+    to = getD groups a 0
+
+    abbrev from : ℕ
+    from = getD groups b 0
+
+    -- the partition with both groups one
+    abbrev united : List ℕ
+    united = relabelled to from groups
+
+    -- what is pending before and after
+    abbrev Before : List ℕ → Type 0
+    Before = Joins firsts seconds done tail
+
+    abbrev After : List ℕ → Type 0
+    After = Joins firsts′ seconds′ done tail′
+
+    low-to : to < state-limit
+    low-to = label-row n groups (closing .ready .few) (closing .labelled) a below-a
+
+    low-from : from < state-limit
+    low-from = label-row n groups (closing .ready .few) (closing .labelled) b below-b
+
+    labelled : Labelled n united
+    labelled =
+        let low : from ≤ b = closing .labelled .low b below-b in
+        relabelled-labelled n to from groups (closing .labelled) lower (omega arith) (closing .labelled .own a below-a)
+        (closing .labelled .own b below-b)
+
+    -- every closed partition that is coarser than the one at the start
+    safe :
+        (closed : List ℕ) → KeyClosed n parents numbers names closed → Refines n start closed →
+        Refines n united closed × After closed
+    safe closed by from-start =
+        let old = closing .safe closed by from-start in
+        let refines : Refines n united closed =
+        relabelled-refines n a b groups closed (closing .labelled .size) below-a below-b (old .0) (pair closed by from-start) in (
+          refines,
+          each-longer (One closed) firsts seconds firsts′ seconds′ done tail tail′ (merged .grew) (old .1)
+              (merged-safe n parents numbers names groups (closing .rows) links heads Before (closing .kind)
+              (closing .labelled .size) (closing .ready .parents-below) to from low-to low-from links′ heads′ firsts seconds
+              firsts′ seconds′ tail tail′ merged closed by refines),
+        )
+
+    closing-joined : Closing n parents names numbers start united links′ heads′ firsts′ seconds′ done tail′
+    closing-joined =
+        let order : done ≤ tail = closing .order in
+        let longer : tail ≤ tail′ = merged .grew .longer in
+        let count = merged .counted in
+        let room = closing .room in
+        record {
+          rows = merged .rows′;
+          ready = closing .ready;
+          labelled = labelled;
+          kind =
+              kind-merged n parents numbers names groups (closing .rows) links heads Before (closing .kind)
+              (closing .labelled .size) (closing .ready .parents-below) to from low-to low-from links′ heads′ firsts seconds
+              firsts′ seconds′ tail tail′ merged After
+              (λ others refines joins.
+              each-shorter (One others) firsts seconds firsts′ seconds′ done tail tail′ (merged .grew) joins)
+              (λ others joins. each-later (One others) firsts′ seconds′ done tail tail′ order joins);
+          safe = safe;
+          inside =
+              each-longer (Two n) firsts seconds firsts′ seconds′ done tail tail′ (merged .grew) (closing .inside)
+              (merged-inside n parents numbers names (closing .rows) to from links′ heads′ firsts seconds firsts′ seconds′ tail
+              tail′ (own-below (closing .ready)) merged);
+          order = omega arith;
+          room = omega arith;
+          firsts-size = merged .grew .firsts-size ∙ closing .firsts-size;
+          seconds-size = merged .grew .seconds-size ∙ closing .seconds-size;
+        }
+
+-- ---- two states joined, by their roots
+
+module _ (n : ℕ) (names numbers above above′ links heads firsts seconds : List ℕ) (v w to from tail : ℕ)
+    (roots : JoinedRoots n above above′ v w to from) where
+  -- the roots of two states, in either order
+  abbrev Ends : Type 0
+  Ends =
+      ((to ≡ getD (rootsOf above) v 0) × (from ≡ getD (rootsOf above) w 0))
+      ⊎ ((to ≡ getD (rootsOf above) w 0) × (from ≡ getD (rootsOf above) v 0))
+
+  -- both in one group: nothing to do
+  pub pair-skipped :
+      to ≡ from → JoinedPair n names numbers above above′ links heads links heads firsts seconds firsts seconds v w tail tail
+  pair-skipped same =
+      record {
+        forest = roots .forest;
+        coarser = λ x y hx hy e. subst (λ (l : List ℕ). One l x y) (sym (roots .kept same)) e;
+        one = subst (λ (l : List ℕ). One l v w) (sym (roots .kept same)) (one (roots .ends));
+        grew = grew-none firsts seconds tail;
+        closing = λ parents start done pair closing.
+            subst (λ (l : List ℕ). Closing n parents names numbers start l links heads firsts seconds done tail)
+            (sym (roots .kept same)) closing;
+      }
+    where
+      one : Ends → One (rootsOf above) v w
+      one (inl e) = sym (e .0) ∙ same ∙ e .1
+      one (inr e) = sym (e .1) ∙ sym same ∙ e .0
+
+  module _ (links′ heads′ firsts′ seconds′ : List ℕ) (tail′ : ℕ) (size : length above ≡ n) (below-v : v < n) (below-w : w < n)
+      (lower : to < from)
+      (merged : (rows : List ℕ) → Sorted (length names) names rows links heads →
+      Merged (length names) numbers names rows to from links′ heads′ firsts seconds firsts′ seconds′ tail tail′) where
+    -- how many roots there are
+    sizes : length (rootsOf above) ≡ n
+    sizes = roots-length above ∙ size
+
+    -- a and b are the two states, that of the lower root first
+    united-is :
+        (a b : ℕ) → to ≡ getD (rootsOf above) a 0 → from ≡ getD (rootsOf above) b 0 →
+        rootsOf above′ ≡ relabelled (getD (rootsOf above) a 0) (getD (rootsOf above) b 0) (rootsOf above)
+    united-is a b to-is from-is =
+        roots .joined lower ∙ ap₂ (λ (x y : ℕ). relabelled x y (rootsOf above)) to-is from-is
+
+    one-either :
+        (a b : ℕ) → a < n → b < n → to ≡ getD (rootsOf above) a 0 → from ≡ getD (rootsOf above) b 0 → One (rootsOf above′) a b
+    one-either a b below-a below-b to-is from-is =
+        subst (λ (l : List ℕ). One l a b) (sym (united-is a b to-is from-is))
+        (relabelled-joins n a b (rootsOf above) sizes below-a below-b)
+
+    closing-either :
+        (a b : ℕ) → a < n → b < n → to ≡ getD (rootsOf above) a 0 → from ≡ getD (rootsOf above) b 0 →
+        (parents start : List ℕ) (done : ℕ) →
+        ((closed : List ℕ) → KeyClosed n parents numbers names closed → Refines n start closed → One closed a b) →
+        Closing n parents names numbers start (rootsOf above) links heads firsts seconds done tail →
+        Closing n parents names numbers start (rootsOf above′) links′ heads′ firsts′ seconds′ done tail′
+    closing-either a b below-a below-b to-is from-is parents start done pair closing =
+        let all =
+        merged-by-states n numbers names (closing .rows) links heads to from links′ heads′ firsts seconds firsts′ seconds′ tail
+        tail′ (closing .kind .sorted) (merged (closing .rows)) in
+        let labels =
+        subst₂
+        (λ (x y : ℕ).
+        Merged n numbers names (closing .rows) x y links′ heads′ firsts seconds firsts′ seconds′ tail tail′)
+        to-is from-is all in
+        subst (λ (l : List ℕ). Closing n parents names numbers start l links′ heads′ firsts′ seconds′ done tail′)
+        (sym (united-is a b to-is from-is))
+        (closing-joined n parents names numbers start (rootsOf above) links heads firsts seconds done tail closing a b below-a
+        below-b pair (subst₂ _<_ to-is from-is lower) links′ heads′ firsts′ seconds′ tail′ labels)
+
+    -- two groups made one, and their lists merged
+    pub pair-joined :
+        (rows : List ℕ) → Sorted (length names) names rows links heads →
+        JoinedPair n names numbers above above′ links heads links′ heads′ firsts seconds firsts′ seconds′ v w tail tail′
+    pair-joined rows sorted =
+        record {
+          forest = roots .forest;
+          coarser = λ x y hx hy e.
+              subst (λ (l : List ℕ). One l x y) (sym (roots .joined lower))
+              (relabelled-coarser n to from (rootsOf above) sizes x y hx hy e);
+          one = one (roots .ends);
+          grew = merged rows sorted .grew;
+          closing = either (roots .ends);
+        }
+      where
+        one : Ends → One (rootsOf above′) v w
+        one (inl e) = one-either v w below-v below-w (e .0) (e .1)
+        one (inr e) = sym (one-either w v below-w below-v (e .0) (e .1))
+
+        either :
+            Ends → (parents start : List ℕ) (done : ℕ) →
+            ((closed : List ℕ) → KeyClosed n parents numbers names closed → Refines n start closed → One closed v w) →
+            Closing n parents names numbers start (rootsOf above) links heads firsts seconds done tail →
+            Closing n parents names numbers start (rootsOf above′) links′ heads′ firsts′ seconds′ done tail′
+        either (inl e) parents start done pair = closing-either v w below-v below-w (e .0) (e .1) parents start done pair
+        either (inr e) parents start done pair =
+            closing-either w v below-w below-v (e .0) (e .1) parents start done
+            (λ closed by refines. sym (pair closed by refines))
+
+-- a pair joined, by the number of states
+pair-by-states :
+    (n : ℕ) (names numbers above above′ links heads links′ heads′ firsts seconds firsts′ seconds′ : List ℕ) (v w tail tail′ : ℕ) →
+    length above ≡ n →
+    JoinedPair (length above) names numbers above above′ links heads links′ heads′ firsts seconds firsts′ seconds′ v w tail
+    tail′ →
+    JoinedPair n names numbers above above′ links heads links′ heads′ firsts seconds firsts′ seconds′ v w tail tail′
+pair-by-states n names numbers above above′ links heads links′ heads′ firsts seconds firsts′ seconds′ v w tail tail′ size pair =
+    subst
+    (λ (m : ℕ).
+    JoinedPair m names numbers above above′ links heads links′ heads′ firsts seconds firsts′ seconds′ v w tail tail′)
+    size pair
+
+-- ---- pair after pair of the queue
+
+module _ (n : ℕ) (names numbers above₀ links₀ heads₀ firsts₀ seconds₀ : List ℕ) (done₀ tail₀ : ℕ) where
+  pub settled-none :
+      Forest n above₀ →
+      SettledForks n names numbers above₀ above₀ links₀ heads₀ links₀ heads₀ firsts₀ seconds₀ firsts₀ seconds₀ done₀ tail₀ done₀
+      tail₀
+  settled-none forest =
+      record { forest = forest; coarser = λ x y hx hy e. e; closing = λ parents start closing. closing }
+
+  module _ (above links heads firsts seconds : List ℕ) (done tail : ℕ)
+      (so-far : SettledForks n names numbers above₀ above links₀ heads₀ links heads firsts₀ seconds₀ firsts seconds done₀ tail₀
+      done tail) where
+    pub settled-more :
+        (above′ links′ heads′ firsts′ seconds′ : List ℕ) (v w done′ tail′ : ℕ) → done < tail → done′ ≡ suc done →
+        v ≡ getD firsts done 0 → w ≡ getD seconds done 0 →
+        JoinedPair (length above) names numbers above above′ links heads links′ heads′ firsts seconds firsts′ seconds′ v w tail
+        tail′ →
+        SettledForks n names numbers above₀ above′ links₀ heads₀ links′ heads′ firsts₀ seconds₀ firsts′ seconds′ done₀ tail₀ done′
+        tail′
+    settled-more above′ links′ heads′ firsts′ seconds′ v w done′ tail′ due next first second joined =
+        subst
+        (λ (i : ℕ).
+        SettledForks n names numbers above₀ above′ links₀ heads₀ links′ heads′ firsts₀ seconds₀ firsts′ seconds′ done₀ tail₀ i
+        tail′)
+        (sym next)
+        (go
+        (pair-by-states n names numbers above above′ links heads links′ heads′ firsts seconds firsts′ seconds′ v w tail tail′
+        (so-far .forest .size) joined))
+      where
+        go :
+            JoinedPair n names numbers above above′ links heads links′ heads′ firsts seconds firsts′ seconds′ v w tail tail′ →
+            SettledForks n names numbers above₀ above′ links₀ heads₀ links′ heads′ firsts₀ seconds₀ firsts′ seconds′ done₀ tail₀
+            (suc done) tail′
+        go pair =
+            let longer : tail ≤ tail′ = pair .grew .longer in
+            record {
+              forest = pair .forest;
+              coarser = λ x y hx hy e. pair .coarser x y hx hy (so-far .coarser x y hx hy e);
+              closing = λ parents start before.
+                  let closing = so-far .closing parents start before in
+                  closing-next n parents names numbers start (rootsOf above′) links′ heads′ firsts′ seconds′ done tail′
+                  (omega arith)
+                  (subst₂ (One (rootsOf above′)) (first ∙ sym (pair .grew .firsts-kept done due))
+                  (second ∙ sym (pair .grew .seconds-kept done due)) (pair .one))
+                  (pair .closing parents start done
+                  (λ closed by refines.
+                  subst₂ (One closed) (sym first) (sym second) (closing .safe closed by refines .1 done (omega arith) due))
+                  closing);
+            }
+
+    -- none is left
+    pub settled-all :
+        tail ≤ done → done ≤ tail →
+        SettledForks n names numbers above₀ above links₀ heads₀ links heads firsts₀ seconds₀ firsts seconds done₀ tail₀ tail tail
+    settled-all over order =
+        subst
+        (λ (i : ℕ).
+        SettledForks n names numbers above₀ above links₀ heads₀ links heads firsts₀ seconds₀ firsts seconds done₀ tail₀ i tail)
+        (omega arith) so-far
+
+-- ---- state after state of another partition
+
+-- states before v joined with their labels in another partition
+pub record Joining
+    (n : ℕ) (names numbers joined above₀ above links₀ heads₀ links heads firsts₀ seconds₀ firsts seconds : List ℕ)
+    (tail end v : ℕ) : Type 0 where
+  pub forest : Forest n above
+  pub each : (x : ℕ) → x < n → x < v → One (rootsOf above) x (getD joined x 0)
+  pub closing :
+      (parents : List ℕ) →
+      Closing n parents names numbers joined (rootsOf above₀) links₀ heads₀ firsts₀ seconds₀ tail tail →
+      Closing n parents names numbers joined (rootsOf above) links heads firsts seconds tail end
+
+module _ (n : ℕ) (names numbers joined above₀ links₀ heads₀ firsts₀ seconds₀ : List ℕ) (tail : ℕ) where
+  pub joining-none :
+      Forest n above₀ →
+      Joining n names numbers joined above₀ above₀ links₀ heads₀ links₀ heads₀ firsts₀ seconds₀ firsts₀ seconds₀ tail tail 0
+  joining-none forest =
+      record {
+        forest = forest;
+        each = λ x h none. let z : ⊥ = omega arith in absurd z;
+        closing = λ parents closing. closing;
+      }
+
+  module _ (above links heads firsts seconds : List ℕ) (end v : ℕ) (labelled : Labelled n joined)
+      (so-far : Joining n names numbers joined above₀ above links₀ heads₀ links heads firsts₀ seconds₀ firsts seconds tail end v)
+      where
+    -- a label is a state
+    pub label-inside : v < n → getD joined v 0 < n
+    label-inside h =
+        let low : getD joined v 0 ≤ v = labelled .low v h in
+        omega arith
+
+    -- v stands right below its label already
+    pub joining-skipped :
+        v < n → getD above v 0 ≡ getD joined v 0 →
+        Joining n names numbers joined above₀ above links₀ heads₀ links heads firsts₀ seconds₀ firsts seconds tail end (v + 1)
+    joining-skipped inside same =
+        record {
+          forest = so-far .forest;
+          each = λ x h low. each x h low (eq-dec x v);
+          closing = so-far .closing;
+        }
+      where
+        here : One (rootsOf above) v (getD joined v 0)
+        here =
+            roots-at n above (so-far .forest) v inside ∙ root-up n above (so-far .forest) v inside
+            ∙ sym (roots-at n above (so-far .forest) (getD above v 0)
+            (subst (λ (x : ℕ). x < n) (sym same) (label-inside inside)))
+            ∙ ap (λ (x : ℕ). getD (rootsOf above) x 0) same
+
+        each :
+            (x : ℕ) → x < n → x < v + 1 → (x ≡ v) ⊎ (x ≡ v → ⊥) → One (rootsOf above) x (getD joined x 0)
+        each x h low (inl e) = subst (λ (y : ℕ). One (rootsOf above) y (getD joined y 0)) (sym e) here
+        each x h low (inr d) = so-far .each x h (omega arith)
+
+    -- v and its label are joined
+    pub joining-more :
+        (above′ links′ heads′ firsts′ seconds′ : List ℕ) (w end′ : ℕ) → v < n → w ≡ getD joined v 0 →
+        JoinedPair (length above) names numbers above above′ links heads links′ heads′ firsts seconds firsts′ seconds′ v w end
+        end′ →
+        Joining n names numbers joined above₀ above′ links₀ heads₀ links′ heads′ firsts₀ seconds₀ firsts′ seconds′ tail end′
+        (v + 1)
+    joining-more above′ links′ heads′ firsts′ seconds′ w end′ inside label pair₀ =
+        go
+        (pair-by-states n names numbers above above′ links heads links′ heads′ firsts seconds firsts′ seconds′ v w end end′
+        (so-far .forest .size) pair₀)
+      where
+        go :
+            JoinedPair n names numbers above above′ links heads links′ heads′ firsts seconds firsts′ seconds′ v w end end′ →
+            Joining n names numbers joined above₀ above′ links₀ heads₀ links′ heads′ firsts₀ seconds₀ firsts′ seconds′ tail end′
+            (v + 1)
+        go pair =
+            record {
+              forest = pair .forest;
+              each = λ x h low. each x h low (eq-dec x v);
+              closing = λ parents before.
+                  pair .closing parents joined tail
+                  (λ closed by refines.
+                  subst (One closed v) (sym label)
+                  (refines v (getD joined v 0) inside (label-inside inside) (sym (labelled .own v inside))))
+                  (so-far .closing parents before);
+            }
+          where
+            each :
+                (x : ℕ) → x < n → x < v + 1 → (x ≡ v) ⊎ (x ≡ v → ⊥) → One (rootsOf above′) x (getD joined x 0)
+            each x h low (inl e) =
+                subst (λ (y : ℕ). One (rootsOf above′) y (getD joined y 0)) (sym e)
+                (subst (One (rootsOf above′) v) label (pair .one))
+            each x h low (inr d) =
+                let label-low : getD joined x 0 ≤ x = labelled .low x h in
+                pair .coarser x (getD joined x 0) h (omega arith) (so-far .each x h (omega arith))
+
+    -- all states are joined with their labels
+    pub joining-all :
+        n ≤ v →
+        JoinedAll n names numbers joined above₀ above links₀ heads₀ links heads firsts₀ seconds₀ firsts seconds tail end
+    joining-all over =
+        record {
+          forest = so-far .forest;
+          coarser = λ x y hx hy e.
+              so-far .each x hx (omega arith) ∙ ap (λ (z : ℕ). getD (rootsOf above) z 0) e
+              ∙ sym (so-far .each y hy (omega arith));
+          closing = so-far .closing;
+        }
