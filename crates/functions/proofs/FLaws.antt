@@ -14,7 +14,8 @@ use Rattle.indexed.specs.Partitions.{Refines, KeyClosed, ForkClosed, EndsClosed
 use Rattle.indexed.specs.Passes.{BySuffix, ByEnds, NamesAbove, SeenSets, ByValue, KeysWhere, FJoined}
 use Rattle.indexed.proofs.Keys.{forks-keys, keys-forks}
 use Rattle.indexed.proofs.Functions.{last-forks, seen-forks, last-back, last-keys, seen-back, seen-keys}
-use Rattle.functions.specs.Rounds.{RoundClosed, JoinedUntil, Finished}
+use Rattle.worklist.specs.Settling.{RoundClosed, JoinedUntil}
+use Rattle.functions.specs.Rounds.{Finished}
 use Rattle.functions.specs.Results.{JoinedByLast, JoinedBySeen}
 
 module _ (n : ℕ) (parents names accepts classes : List ℕ) (arrays : Arrays n parents names) where

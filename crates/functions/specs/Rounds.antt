@@ -1,46 +1,13 @@
--- What rounds of passes need and promise. Joinings of any kind are stated over what it is to be closed. Assumes nothing.
+-- What joining until closed, from the partition by ends on, needs and promises. Assumes nothing.
 use mathlib.Core.Path.{_≡_}
-use mathlib.Core.Bool.{Bool, true, false}
 use mathlib.Core.List.{List}
-use Prim.Native.Nat.{ℕ, _<_, _≤_}
-use lib.ListN.{length, getD}
-use Rattle.model.specs.Limits.{state-limit}
+use Prim.Native.Nat.{ℕ}
+use lib.ListN.{length}
 use Rattle.model.specs.Lists.{numbersFrom}
 use Rattle.indexed.specs.Trees.{Arrays}
-use Rattle.indexed.specs.Partitions.{Refines, Labelled, KeyClosed, sum}
+use Rattle.indexed.specs.Partitions.{Labelled}
 use Rattle.indexed.specs.Passes.{ByEnds}
-
--- arrays of n states, at most 512, with the states' own numbers and two sets of keys
-pub record RoundReady (n : ℕ) (parents names numbers keys more groups : List ℕ) : Type 0 where
-  pub few : n ≤ state-limit
-  pub parents-size : length parents ≡ n
-  pub names-size : length names ≡ n
-  pub keys-size : length keys ≡ n
-  pub more-size : length more ≡ n
-  pub parents-below : (v : ℕ) → v < n → getD parents v 0 < n
-  pub own : numbers ≡ numbersFrom n 0
-  pub labelled : Labelled n groups
-
--- closed under forks and under both sets of keys against the arcs
-pub record RoundClosed (n : ℕ) (parents names numbers keys more groups : List ℕ) : Type 0 where
-  pub forks : KeyClosed n parents numbers names groups
-  pub backs : KeyClosed n numbers parents keys groups
-  pub others : KeyClosed n numbers parents more groups
-
--- some joins: only what every closed partition joins; where none was made, the partition is closed; where any was, a sum fell
-pub record Joining (Closed : List ℕ → Type 0) (n : ℕ) (groups groups′ : List ℕ) (joined : Bool) : Type 0 where
-  pub labelled : Labelled n groups′
-  pub coarser : Refines n groups groups′
-  pub sound : (others : List ℕ) → Closed others → Refines n groups others → Refines n groups′ others
-  pub none : joined ≡ false → (groups′ ≡ groups) × Closed groups
-  pub some : joined ≡ true → sum groups′ < sum groups
-
--- joined until closed
-pub record JoinedUntil (Closed : List ℕ → Type 0) (n : ℕ) (groups groups′ : List ℕ) : Type 0 where
-  pub labelled : Labelled n groups′
-  pub coarser : Refines n groups groups′
-  pub sound : (others : List ℕ) → Closed others → Refines n groups others → Refines n groups′ others
-  pub closed : Closed groups′
+use Rattle.worklist.specs.Settling.{RoundClosed, JoinedUntil}
 
 -- the tree's arrays, classes with labels, and two sets of keys
 pub record FinishReady (n : ℕ) (parents names accepts classes keys more : List ℕ) : Type 0 where

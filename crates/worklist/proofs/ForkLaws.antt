@@ -10,46 +10,28 @@ use Rattle.model.specs.Limits.{state-limit}
 use Rattle.model.proofs.Tests.{eq-dec}
 use Rattle.indexed.specs.Partitions.{Refines, Labelled, KeyClosed}
 use Rattle.indexed.specs.Passes.{relabelled}
-use Rattle.indexed.proofs.Keys.{number-at, numbers-length, relabelled-labelled, relabelled-coarser, relabelled-refines}
-use Rattle.indexed.proofs.Keys.{relabelled-joins}
+use Rattle.indexed.proofs.Keys.{relabelled-labelled, relabelled-coarser, relabelled-refines, relabelled-joins}
 use Rattle.partition.specs.Forests.{Forest, rootsOf}
 use Rattle.partition.proofs.ForestLaws.{flat-roots, root-up, roots-at, roots-length}
-use Rattle.worklist.specs.Lists.{pair-limit, Sorted, Filled, Merged}
-use Rattle.worklist.specs.Settling.{Joins, JoinedRoots}
+use Rattle.worklist.specs.Lists.{pair-limit, live, Sorted, Filled, Merged}
+use Rattle.worklist.specs.Settling.{Joins, QueueRoom, JoinedRoots}
 use Rattle.worklist.specs.Forks.{ForksReady, Nothing, Kept, Closing, JoinedPair, JoinedAll, SettledForks, KeptClosed}
 use Rattle.worklist.proofs.QueueLaws.{grew-none}
-use Rattle.worklist.proofs.KindLaws.{each-shorter, each-longer, each-later, each-first, kind-more, kind-filled}
-use Rattle.worklist.proofs.KindLaws.{kind-closed, kind-merged, filled-safe, merged-safe, filled-inside, merged-inside}
-use Rattle.worklist.proofs.SettleLaws.{One, merged-by-states}
-
--- both states of a pair are states
-abbrev Two : ℕ → ℕ → ℕ → Type 0
-Two n x y = (x < n) × (y < n)
-
--- labels of states are rows of lists
-label-row :
-    (n : ℕ) (groups : List ℕ) → n ≤ state-limit → Labelled n groups → (v : ℕ) → v < n → getD groups v 0 < state-limit
-label-row n groups few labelled v h =
-    let low : getD groups v 0 ≤ v = labelled .low v h in
-    omega arith
+use Rattle.worklist.proofs.KindLaws.{each-shorter, each-longer, each-later, each-first, queue-grew, kind-more}
+use Rattle.worklist.proofs.KindLaws.{kind-filled, kind-closed, kind-merged, filled-safe, merged-safe, filled-inside}
+use Rattle.worklist.proofs.KindLaws.{merged-inside, own-below, label-row}
+use Rattle.worklist.proofs.SettleLaws.{One, Two, merged-by-states}
 
 module _ (n : ℕ) (parents names numbers : List ℕ) where
-  pub own-size : ForksReady n parents names numbers → length numbers ≡ n
-  own-size ready = ap length (ready .own) ∙ numbers-length n 0
-
-  pub own-below : ForksReady n parents names numbers → (v : ℕ) → v < n → getD numbers v 0 < n
-  own-below ready v h =
-      subst (λ (x : ℕ). x < n) (sym (ap (λ (l : List ℕ). getD l v 0) (ready .own) ∙ number-at n v h)) h
-
   -- ---- how a round starts
 
   -- the lists filled: every pair is pending
   pub closing-filled :
       (groups links heads firsts seconds firsts′ seconds′ : List ℕ) (tail : ℕ) → ForksReady n parents names numbers →
-      Labelled n groups → length firsts ≡ pair-limit → length seconds ≡ pair-limit →
+      Labelled n groups → QueueRoom firsts seconds →
       Filled n parents numbers names groups links heads firsts seconds firsts′ seconds′ 0 tail →
       Closing n parents names numbers groups groups links heads firsts′ seconds′ 0 tail
-  closing-filled groups links heads firsts seconds firsts′ seconds′ tail ready labelled firsts-size seconds-size filled =
+  closing-filled groups links heads firsts seconds firsts′ seconds′ tail ready labelled queue filled =
       let count = filled .counted in
       let few : n ≤ state-limit = ready .few in
       record {
@@ -65,12 +47,11 @@ module _ (n : ℕ) (parents names numbers : List ℕ) where
               filled closed by refines,
         );
         inside =
-            filled-inside n parents numbers names groups links heads firsts seconds firsts′ seconds′ 0 tail (own-below ready)
+            filled-inside n parents numbers names groups links heads firsts seconds firsts′ seconds′ 0 tail (own-below n numbers (ready .own))
             filled;
         order = omega arith;
         room = omega arith;
-        firsts-size = filled .grew .firsts-size ∙ firsts-size;
-        seconds-size = filled .grew .seconds-size ∙ seconds-size;
+        queue = queue-grew firsts seconds firsts′ seconds′ 0 tail (filled .grew) queue;
       }
 
   -- lists kept: nothing is pending, and the round's start is a coarser partition
@@ -93,8 +74,7 @@ module _ (n : ℕ) (parents names numbers : List ℕ) where
         inside = λ i low high. let z : ⊥ = omega arith in absurd z;
         order = omega arith;
         room = kept .room;
-        firsts-size = kept .firsts-size;
-        seconds-size = kept .seconds-size;
+        queue = kept .queue;
       }
 
   -- a partition by labels, as a forest
@@ -105,6 +85,17 @@ module _ (n : ℕ) (parents names numbers : List ℕ) where
   closing-flat start groups links heads firsts seconds done tail closing =
       subst (λ (labels : List ℕ). Closing n parents names numbers start labels links heads firsts seconds done tail)
       (sym (flat-roots n groups (closing .labelled))) closing
+
+  -- the lists, by a forest's own length, and the room left
+  pub closing-sorted :
+      (above start groups links heads firsts seconds : List ℕ) (done tail : ℕ) → length above ≡ n →
+      Closing n parents names numbers start groups links heads firsts seconds done tail →
+      (rows : List ℕ) × Sorted (length above) names rows links heads × (tail + live rows ≤ pair-limit)
+  closing-sorted above start groups links heads firsts seconds done tail size closing = (
+    closing .rows,
+    subst (λ (m : ℕ). Sorted m names (closing .rows) links heads) (sym size) (closing .kind .sorted),
+    closing .room,
+  )
 
   -- ---- how it ends
 
@@ -136,8 +127,7 @@ module _ (n : ℕ) (parents names numbers : List ℕ) where
                   kind-more n parents numbers names groups (closing .rows) links heads (Joins firsts seconds tail tail) Nothing
                   (λ others refines nothing. none others) (closing .kind);
               room = closing .room;
-              firsts-size = closing .firsts-size;
-              seconds-size = closing .seconds-size;
+              queue = closing .queue;
             };
       }
     where
@@ -166,8 +156,7 @@ module _ (n : ℕ) (parents names numbers : List ℕ) where
         inside = each-later (Two n) firsts seconds done (suc done) tail (omega arith) (closing .inside);
         order = omega arith;
         room = closing .room;
-        firsts-size = closing .firsts-size;
-        seconds-size = closing .seconds-size;
+        queue = closing .queue;
       }
     where
       here : Two n (getD firsts done 0) (getD seconds done 0)
@@ -253,11 +242,10 @@ module _ (n : ℕ) (parents names numbers : List ℕ) where
           inside =
               each-longer (Two n) firsts seconds firsts′ seconds′ done tail tail′ (merged .grew) (closing .inside)
               (merged-inside n parents numbers names (closing .rows) to from links′ heads′ firsts seconds firsts′ seconds′ tail
-              tail′ (own-below (closing .ready)) merged);
+              tail′ (own-below n numbers (closing .ready .own)) merged);
           order = omega arith;
           room = omega arith;
-          firsts-size = merged .grew .firsts-size ∙ closing .firsts-size;
-          seconds-size = merged .grew .seconds-size ∙ closing .seconds-size;
+          queue = queue-grew firsts seconds firsts′ seconds′ tail tail′ (merged .grew) (closing .queue);
         }
 
 -- ---- two states joined, by their roots

@@ -11,11 +11,27 @@ use lib.ListN.{length, getD}
 use borrow.Author.Tests.{ltb-true, ltb-false}
 use Rattle.model.specs.Limits.{name-limit, state-limit}
 use Rattle.model.proofs.Tests.{eq-dec}
-use Rattle.indexed.specs.Partitions.{Refines, KeyClosed}
+use Rattle.model.specs.Lists.{numbersFrom}
+use Rattle.indexed.specs.Partitions.{Refines, Labelled, KeyClosed}
 use Rattle.indexed.specs.Passes.{relabelled}
-use Rattle.indexed.proofs.Keys.{Relabel, moved, kept, relabelled-cases, relabelled-coarser}
+use Rattle.indexed.proofs.Keys.{Relabel, moved, kept, relabelled-cases, relabelled-coarser, number-at, numbers-length}
 use Rattle.worklist.specs.Lists.{Queued, Grew, StandsFor, Filled, Merged}
-use Rattle.worklist.specs.Settling.{Joins, Covered, Kind}
+use Rattle.worklist.specs.Settling.{Joins, Covered, Kind, QueueRoom}
+
+-- the states' own numbers: how many they are, and that each is a state
+pub own-size : (n : ℕ) (numbers : List ℕ) → numbers ≡ numbersFrom n 0 → length numbers ≡ n
+own-size n numbers own = ap length own ∙ numbers-length n 0
+
+pub own-below : (n : ℕ) (numbers : List ℕ) → numbers ≡ numbersFrom n 0 → (v : ℕ) → v < n → getD numbers v 0 < n
+own-below n numbers own v h =
+    subst (λ (x : ℕ). x < n) (sym (ap (λ (l : List ℕ). getD l v 0) own ∙ number-at n v h)) h
+
+-- labels of states are rows of lists
+pub label-row :
+    (n : ℕ) (groups : List ℕ) → n ≤ state-limit → Labelled n groups → (v : ℕ) → v < n → getD groups v 0 < state-limit
+label-row n groups few labelled v h =
+    let low : getD groups v 0 ≤ v = labelled .low v h in
+    omega arith
 
 -- a place is in the shorter queue, or past it
 before-or-past : (i tail : ℕ) → (i < tail) ⊎ (tail ≤ i)
@@ -77,6 +93,15 @@ grew-twice f s f′ s′ f″ s″ t t′ t″ one two =
       seconds-size = two .seconds-size ∙ one .seconds-size;
       firsts-kept = λ i h. two .firsts-kept i (omega arith) ∙ one .firsts-kept i h;
       seconds-kept = λ i h. two .seconds-kept i (omega arith) ∙ one .seconds-kept i h;
+    }
+
+-- and keeps its arrays' lengths
+pub queue-grew :
+    (f s f′ s′ : List ℕ) (t t′ : ℕ) → Grew f s f′ s′ t t′ → QueueRoom f s → QueueRoom f′ s′
+queue-grew f s f′ s′ t t′ grew queue =
+    record {
+      firsts-size = grew .firsts-size ∙ queue .firsts-size;
+      seconds-size = grew .seconds-size ∙ queue .seconds-size;
     }
 
 -- a queued pair is joined

@@ -2,27 +2,50 @@
 -- closed. Assumes nothing.
 use mathlib.Core.Path.{_≡_, sym, ap, _∙_, subst}
 use mathlib.Core.List.{List}
-use Prim.Native.Nat.{ℕ, suc, _<_, _≤_}
+use Prim.Native.Nat.{ℕ, suc, _+_, _<_, _≤_}
 use native.Mathlib.Omega.{arith}
 use lib.ListN.{length, getD}
 use Rattle.model.specs.Limits.{state-limit}
 use Rattle.indexed.specs.Partitions.{Refines, Labelled}
 use Rattle.indexed.specs.Passes.{relabelled}
-use Rattle.indexed.proofs.Keys.{number-at, numbers-length, relabelled-labelled, relabelled-coarser, relabelled-refines}
-use Rattle.indexed.proofs.Keys.{relabelled-joins}
-use Rattle.worklist.specs.Lists.{Sorted, Grew, Merged}
-use Rattle.worklist.specs.Settling.{RoundReady, RoundClosed, JoinedUntil, Joins, FilledAll, MergedAll, Settling}
-use Rattle.worklist.proofs.KindLaws.{each-shorter, each-longer, each-later, each-first, grew-twice, kind-more}
-use Rattle.worklist.proofs.KindLaws.{kind-filled, kind-closed, kind-merged, filled-safe, merged-safe, filled-inside}
-use Rattle.worklist.proofs.KindLaws.{merged-inside}
+use Rattle.indexed.proofs.Keys.{relabelled-labelled, relabelled-coarser, relabelled-refines, relabelled-joins}
+use Rattle.worklist.specs.Lists.{pair-limit, Sorted, Grew, Merged}
+use Rattle.worklist.specs.Settling.{RoundReady, RoundClosed, JoinedUntil, Joins, NoLists, QueueRoom, FilledAll, MergedAll}
+use Rattle.worklist.specs.Settling.{Settling}
+use Rattle.worklist.proofs.KindLaws.{each-shorter, each-longer, each-later, each-first, grew-twice, queue-grew}
+use Rattle.worklist.proofs.KindLaws.{kind-more, kind-filled, kind-closed, kind-merged, filled-safe, merged-safe}
+use Rattle.worklist.proofs.KindLaws.{filled-inside, merged-inside, own-size, own-below, label-row}
 
 -- a partition has both states of a pair in one group
 abbrev pub One : List ℕ → ℕ → ℕ → Type 0
 One groups x y = getD groups x 0 ≡ getD groups y 0
 
 -- both states of a pair are states
-abbrev Two : ℕ → ℕ → ℕ → Type 0
+abbrev pub Two : ℕ → ℕ → ℕ → Type 0
 Two n x y = (x < n) × (y < n)
+
+-- what filling asks, in its order
+pub fill-asked :
+    (ins outs keys groups links heads firsts seconds : List ℕ) (tail : ℕ) → length groups ≤ state-limit →
+    length ins ≡ length groups → length outs ≡ length groups → length keys ≡ length groups →
+    ((v : ℕ) → v < length groups → getD ins v 0 < length groups) → Labelled (length groups) groups →
+    tail + length groups ≤ pair-limit → NoLists links heads → QueueRoom firsts seconds →
+    (length groups ≤ state-limit)
+    × ((length ins ≡ length groups)
+    × ((length outs ≡ length groups)
+    × ((length keys ≡ length groups)
+    × (((v : ℕ) → v < length groups → getD ins v 0 < length groups)
+    × (Labelled (length groups) groups
+    × (((g : ℕ) → getD heads g 0 ≡ 0)
+    × ((tail + length groups ≤ pair-limit)
+    × ((length links ≡ state-limit)
+    × ((length heads ≡ state-limit) × ((length firsts ≡ pair-limit) × (length seconds ≡ pair-limit)))))))))))
+fill-asked ins outs keys groups links heads firsts seconds tail few sized-ins sized-outs sized-keys below labelled room none queue =
+    let sizes : (length firsts ≡ pair-limit) × (length seconds ≡ pair-limit) = (queue .firsts-size, queue .seconds-size) in
+    let lists : (length links ≡ state-limit)
+    × ((length heads ≡ state-limit) × ((length firsts ≡ pair-limit) × (length seconds ≡ pair-limit))) =
+    (none .links-size, (none .heads-size, sizes)) in
+    (few, (sized-ins, (sized-outs, (sized-keys, (below, (labelled, (none .empty, (room, lists))))))))
 
 -- lists by the number of their keys
 pub sorted-by-keys :
@@ -43,12 +66,11 @@ merged-by-states n outs keys rows links heads to from links′ heads′ firsts s
 
 module _ (n : ℕ) (parents names numbers keys more : List ℕ) where
   pub numbers-size : (groups : List ℕ) → RoundReady n parents names numbers keys more groups → length numbers ≡ n
-  numbers-size groups ready = ap length (ready .own) ∙ numbers-length n 0
+  numbers-size groups ready = own-size n numbers (ready .own)
 
   pub numbers-below :
       (groups : List ℕ) → RoundReady n parents names numbers keys more groups → (v : ℕ) → v < n → getD numbers v 0 < n
-  numbers-below groups ready v h =
-      subst (λ (x : ℕ). x < n) (sym (ap (λ (l : List ℕ). getD l v 0) (ready .own) ∙ number-at n v h)) h
+  numbers-below groups ready = own-below n numbers (ready .own)
 
   -- ready at another partition
   pub ready-again :
@@ -67,20 +89,17 @@ module _ (n : ℕ) (parents names numbers keys more : List ℕ) where
       }
 
   -- labels are rows of lists
-  label-row :
+  ready-row :
       (groups : List ℕ) → RoundReady n parents names numbers keys more groups → (v : ℕ) → v < n → getD groups v 0 < state-limit
-  label-row groups ready v h =
-      let low : getD groups v 0 ≤ v = ready .labelled .low v h in
-      let few : n ≤ state-limit = ready .few in
-      omega arith
+  ready-row groups ready = label-row n groups (ready .few) (ready .labelled)
 
   -- all lists filled: every pair is pending
   pub settling-filled :
       (groups fl fh bl bh ml mh firsts seconds firsts′ seconds′ : List ℕ) (tail : ℕ) →
-      RoundReady n parents names numbers keys more groups →
+      RoundReady n parents names numbers keys more groups → QueueRoom firsts seconds →
       FilledAll n parents names numbers keys more groups fl fh bl bh ml mh firsts seconds firsts′ seconds′ 0 tail →
       Settling n parents names numbers keys more groups groups fl fh bl bh ml mh firsts′ seconds′ 0 tail
-  settling-filled groups fl fh bl bh ml mh f s f′ s′ tail ready all =
+  settling-filled groups fl fh bl bh ml mh f s f′ s′ tail ready queue all =
       let f₁ = all .firsts₁ in
       let s₁ = all .seconds₁ in
       let t₁ = all .tail₁ in
@@ -90,6 +109,7 @@ module _ (n : ℕ) (parents names numbers keys more : List ℕ) where
       let grew₂ : Grew f₁ s₁ f₂ s₂ t₁ t₂ = all .backs .grew in
       let grew₃ : Grew f₂ s₂ f′ s′ t₂ tail = all .others .grew in
       let after₁ : Grew f₁ s₁ f′ s′ t₁ tail = grew-twice f₁ s₁ f₂ s₂ f′ s′ t₁ t₂ tail grew₂ grew₃ in
+      let after₀ : Grew f s f′ s′ 0 tail = grew-twice f s f₁ s₁ f′ s′ 0 t₁ tail (all .forks .grew) after₁ in
       let count₁ = all .forks .counted in
       let count₂ = all .backs .counted in
       let count₃ = all .others .counted in
@@ -128,6 +148,7 @@ module _ (n : ℕ) (parents names numbers keys more : List ℕ) where
             (filled-inside n numbers parents keys groups bl bh f₁ s₁ f₂ s₂ t₁ t₂ (ready .parents-below) (all .backs)))
             (filled-inside n numbers parents more groups ml mh f₂ s₂ f′ s′ t₂ tail (ready .parents-below) (all .others));
         order = omega arith;
+        queue = queue-grew f s f′ s′ 0 tail after₀ queue;
         room = omega arith;
       }
 
@@ -145,15 +166,15 @@ module _ (n : ℕ) (parents names numbers keys more : List ℕ) where
             record {
               forks =
                   kind-closed n parents numbers names groups (settling .fork-rows) fl fh (Joins firsts seconds done tail) none
-                  (λ v h. label-row groups (settling .ready) (getD parents v 0) (settling .ready .parents-below v h))
+                  (λ v h. ready-row groups (settling .ready) (getD parents v 0) (settling .ready .parents-below v h))
                   (settling .forks);
               backs =
                   kind-closed n numbers parents keys groups (settling .back-rows) bl bh (Joins firsts seconds done tail) none
-                  (λ v h. label-row groups (settling .ready) (getD numbers v 0) (numbers-below groups (settling .ready) v h))
+                  (λ v h. ready-row groups (settling .ready) (getD numbers v 0) (numbers-below groups (settling .ready) v h))
                   (settling .backs);
               others =
                   kind-closed n numbers parents more groups (settling .more-rows) ml mh (Joins firsts seconds done tail) none
-                  (λ v h. label-row groups (settling .ready) (getD numbers v 0) (numbers-below groups (settling .ready) v h))
+                  (λ v h. ready-row groups (settling .ready) (getD numbers v 0) (numbers-below groups (settling .ready) v h))
                   (settling .others);
             };
       }
@@ -188,6 +209,7 @@ module _ (n : ℕ) (parents names numbers keys more : List ℕ) where
               (old .0, each-later (One closed) firsts seconds done (suc done) tail (omega arith) (old .1));
           inside = each-later (Two n) firsts seconds done (suc done) tail (omega arith) (settling .inside);
           order = omega arith;
+          queue = settling .queue;
           room = settling .room;
         }
       where
@@ -245,10 +267,10 @@ module _ (n : ℕ) (parents names numbers keys more : List ℕ) where
       from = getD groups b 0
 
       low-to : to < state-limit
-      low-to = label-row groups (settling .ready) a below-a
+      low-to = ready-row groups (settling .ready) a below-a
 
       low-from : from < state-limit
-      low-from = label-row groups (settling .ready) b below-b
+      low-from = ready-row groups (settling .ready) b below-b
 
       labelled : Labelled n joined
       labelled =
@@ -344,5 +366,6 @@ module _ (n : ℕ) (parents names numbers keys more : List ℕ) where
                 (merged-inside n numbers parents more (settling .more-rows) to from ml′ mh′ f₂ s₂ firsts′ seconds′ t₂ tail′
                 (settling .ready .parents-below) (all .others));
             order = omega arith;
+            queue = queue-grew firsts seconds firsts′ seconds′ tail tail′ after₀ (settling .queue);
             room = omega arith;
           }

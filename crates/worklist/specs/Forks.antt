@@ -9,7 +9,7 @@ use Rattle.model.specs.Lists.{numbersFrom}
 use Rattle.indexed.specs.Partitions.{Refines, Labelled, KeyClosed}
 use Rattle.partition.specs.Forests.{Forest, rootsOf}
 use Rattle.worklist.specs.Lists.{pair-limit, live, Grew}
-use Rattle.worklist.specs.Settling.{JoinedUntil, Joins, Kind}
+use Rattle.worklist.specs.Settling.{JoinedUntil, Joins, Kind, QueueRoom}
 
 -- a tree of n states, at most 512, with the states' own numbers
 pub record ForksReady (n : ℕ) (parents names numbers : List ℕ) : Type 0 where
@@ -29,8 +29,7 @@ pub record Kept (n : ℕ) (parents names numbers groups links heads firsts secon
   pub labelled : Labelled n groups
   pub kind : Kind n parents numbers names groups rows links heads Nothing
   pub room : tail + live rows ≤ pair-limit
-  pub firsts-size : length firsts ≡ pair-limit
-  pub seconds-size : length seconds ≡ pair-limit
+  pub queue : QueueRoom firsts seconds
 
 -- what holds while the pairs from `done` on are still to be joined: arcs are covered once they are; every closed partition that is
 -- coarser than the one at the start is coarser than this one and joins them; and the queue has room
@@ -46,8 +45,7 @@ pub record Closing
   pub inside : (i : ℕ) → done ≤ i → i < tail → (getD firsts i 0 < n) × (getD seconds i 0 < n)
   pub order : done ≤ tail
   pub room : tail + live rows ≤ pair-limit
-  pub firsts-size : length firsts ≡ pair-limit
-  pub seconds-size : length seconds ≡ pair-limit
+  pub queue : QueueRoom firsts seconds
 
 -- two states joined: what held before holds after, where every closed partition joins them
 pub record JoinedPair

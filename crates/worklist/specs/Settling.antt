@@ -53,8 +53,8 @@ pub record Covered
       (others : List ℕ) → Refines n groups others → Pending others →
       getD others (getD outs arc 0) 0 ≡ getD others (getD outs v 0) 0
 
--- arcs of one kind while pairs are pending: each listed arc is in the list of the group that ins lead into, and each arc with a key
--- is covered there
+-- arcs of one kind while pairs are pending: each listed arc is in the list of the group that ins lead into, and each arc with a
+-- key is covered there
 pub record Kind
     (n : ℕ) (ins outs keys groups rows links heads : List ℕ) (Pending : List ℕ → Type 0) : Type 0 where
   pub sorted : Sorted n keys rows links heads
@@ -62,6 +62,17 @@ pub record Kind
   pub covers :
       (v : ℕ) → v < n → getD keys v 0 < name-limit →
       Covered n outs keys groups rows Pending (getD groups (getD ins v 0) 0) v
+
+-- lists of one kind with no arc in any
+pub record NoLists (links heads : List ℕ) : Type 0 where
+  pub links-size : length links ≡ state-limit
+  pub heads-size : length heads ≡ state-limit
+  pub empty : (g : ℕ) → getD heads g 0 ≡ 0
+
+-- the arrays of the queue
+pub record QueueRoom (firsts seconds : List ℕ) : Type 0 where
+  pub firsts-size : length firsts ≡ pair-limit
+  pub seconds-size : length seconds ≡ pair-limit
 
 -- the arcs of all three kinds put into their lists, one kind after the other
 pub record FilledAll
@@ -131,6 +142,7 @@ pub record Settling
       Refines n groups closed × Joins firsts seconds done tail closed
   pub inside : (i : ℕ) → done ≤ i → i < tail → (getD firsts i 0 < n) × (getD seconds i 0 < n)
   pub order : done ≤ tail
+  pub queue : QueueRoom firsts seconds
   pub room : tail + live fork-rows + live back-rows + live more-rows ≤ pair-limit
 
 -- one pair joined: what held with it pending holds without it

@@ -1,5 +1,6 @@
-// Joins until closed, by a queue of pairs of states. For each group one arc of each key is kept, in lists by ascending key; where two
-// groups become one their lists are merged, and two arcs of one key put a pair into the queue.
+// Joins until closed, by a queue of pairs of states. For each group one arc of each key is kept, in lists by ascending key; where
+// two groups become one their lists are merged, and two arcs of one key put a pair into the queue. There are three kinds of arcs:
+// along the tree's arcs by their names, and two sets of keys against them; links1 and heads1 are the lists of the first, and so on.
 pub mod forks;
 pub mod lists;
 
@@ -8,11 +9,11 @@ use partition::forest;
 ghost use mathlib.Core.Path.{_≡_};
 ghost use mathlib.Core.List.{List};
 ghost use Prim.Native.Nat.{ℕ, _<_, _≤_};
-ghost use lib.ListN.{length, getD};
+ghost use lib.ListN.{length};
 ghost use Rattle.model.specs.Limits.{state-limit};
 ghost use Rattle.partition.specs.Forests.{Forest, rootsOf};
-ghost use Rattle.worklist.specs.Settling.{RoundReady, RoundClosed, JoinedUntil, FilledAll, ListedAll, MergedAll};
-ghost use Rattle.worklist.specs.Settling.{JoinedRoots, Settling, SettledAt, SettledAll};
+ghost use Rattle.worklist.specs.Settling.{RoundReady, RoundClosed, JoinedUntil, NoLists, QueueRoom, FilledAll, ListedAll};
+ghost use Rattle.worklist.specs.Settling.{MergedAll, JoinedRoots, Settling, SettledAt, SettledAll};
 
 // Puts all arcs of three kinds into their lists. Returns the queue's tail.
 fn fill_all(
@@ -32,9 +33,10 @@ fn fill_all(
     seconds: &mut [u16; 1536],
 ) -> usize
     requires ready { ⌜ RoundReady (length (now groups)) (now parents) (now names) (now numbers) (now keys) (now more) (now groups) ⌝ }
-    requires no_forks { ⌜ ((g : ℕ) → getD (now heads1) g 0 ≡ 0) ⌝ }
-    requires no_backs { ⌜ ((g : ℕ) → getD (now heads2) g 0 ≡ 0) ⌝ }
-    requires no_others { ⌜ ((g : ℕ) → getD (now heads3) g 0 ≡ 0) ⌝ }
+    requires no_forks { ⌜ NoLists (now links1) (now heads1) ⌝ }
+    requires no_backs { ⌜ NoLists (now links2) (now heads2) ⌝ }
+    requires no_others { ⌜ NoLists (now links3) (now heads3) ⌝ }
+    requires queue { ⌜ QueueRoom (now firsts) (now seconds) ⌝ }
     ensures { λ r.
         ⌜ FilledAll (length (now (groups .entry))) (now (parents .entry)) (now (names .entry)) (now (numbers .entry))
         (now (keys .entry)) (now (more .entry)) (now (groups .entry)) (now (links1 .exit)) (now (heads1 .exit))
@@ -98,6 +100,7 @@ fn merge_all(
     requires listed { ⌜ ((rows1 rows2 rows3 : List ℕ) ×
         ListedAll (length (now parents)) (now names) (now keys) (now more) rows1 rows2 rows3 (now links1)
         (now heads1) (now links2) (now heads2) (now links3) (now heads3) tail) ⌝ }
+    requires queue { ⌜ QueueRoom (now firsts) (now seconds) ⌝ }
     requires numbers_size { ⌜ length (now numbers) ≡ length (now parents) ⌝ }
     requires lower { ⌜ to < from ⌝ }
     requires inside { ⌜ from < state-limit ⌝ }

@@ -2,11 +2,11 @@
 use mathlib.Core.Path.{sym, subst}
 use mathlib.Core.List.{List}
 use Prim.Native.Nat.{ℕ}
-use lib.ListN.{length, replicate}
+use lib.ListN.{length, replicate, length-replicate}
 use Rattle.indexed.proofs.Chains.{heads-none}
 use Rattle.partition.specs.Forests.{rootsOf}
 use Rattle.partition.proofs.ForestLaws.{flat-forest}
-use Rattle.worklist.specs.Settling.{RoundClosed, JoinedUntil, Settling}
+use Rattle.worklist.specs.Settling.{RoundClosed, JoinedUntil, NoLists, QueueRoom, Settling}
 use Rattle.worklist.proofs.SettleLaws.{settling-filled}
 use Rattle.worklist.proofs.RootLaws.{forest-again}
 use Rattle.worklist.proofs.PairLaws.{settling-flat}
@@ -25,39 +25,44 @@ fills-of c = c .before .before .before .before .before .before .before .before .
 abbrev settles-of : tie.After-flatten-arg → tie.After-settle
 settles-of c = c .before .before .before
 
+-- the arrays at the start
+no-lists : NoLists (replicate 512 0) (replicate 512 0)
+no-lists =
+    record {
+      links-size = length-replicate {A = ℕ} 512 0;
+      heads-size = length-replicate {A = ℕ} 512 0;
+      empty = heads-none 512;
+    }
+
+no-pairs : QueueRoom (replicate 1536 0) (replicate 1536 0)
+no-pairs = record { firsts-size = length-replicate {A = ℕ} 1536 0; seconds-size = length-replicate {A = ℕ} 1536 0 }
+
 -- with all lists filled every pair is pending
 pending :
     (fills : tie.After-fill-all) → let at = entry (fills .before) in
+    let last = fills .fill-all .last in
     Settling (length (at .args .groups .now)) (at .args .parents .now) (at .args .names .now) (at .args .numbers .now)
-    (at .args .keys .now) (at .args .more .now) (at .args .groups .now)
-    (rootsOf (at .args .groups .now)) (fills .fill-all .last .1 .1 .1 .1 .1 .1 .0) (fills .fill-all .last .1 .1 .1 .1 .1 .1 .1 .0)
-    (fills .fill-all .last .1 .1 .1 .1 .1 .1 .1 .1 .0) (fills .fill-all .last .1 .1 .1 .1 .1 .1 .1 .1 .1 .0)
-    (fills .fill-all .last .1 .1 .1 .1 .1 .1 .1 .1 .1 .1 .0)
-    (fills .fill-all .last .1 .1 .1 .1 .1 .1 .1 .1 .1 .1 .1 .0)
-    (fills .fill-all .last .1 .1 .1 .1 .1 .1 .1 .1 .1 .1 .1 .1 .0)
-    (fills .fill-all .last .1 .1 .1 .1 .1 .1 .1 .1 .1 .1 .1 .1 .1 .0) 0 (fills .fill-all .result)
+    (at .args .keys .now) (at .args .more .now) (at .args .groups .now) (rootsOf (at .args .groups .now))
+    (last .1 .1 .1 .1 .1 .1 .0) (last .1 .1 .1 .1 .1 .1 .1 .0) (last .1 .1 .1 .1 .1 .1 .1 .1 .0)
+    (last .1 .1 .1 .1 .1 .1 .1 .1 .1 .0) (last .1 .1 .1 .1 .1 .1 .1 .1 .1 .1 .0) (last .1 .1 .1 .1 .1 .1 .1 .1 .1 .1 .1 .0)
+    (last .1 .1 .1 .1 .1 .1 .1 .1 .1 .1 .1 .1 .0) (last .1 .1 .1 .1 .1 .1 .1 .1 .1 .1 .1 .1 .1 .0) 0 (fills .fill-all .result)
 pending fills =
     let at = entry (fills .before) in
+    let last = fills .fill-all .last in
     settling-flat (length (at .args .groups .now)) (at .args .parents .now) (at .args .names .now) (at .args .numbers .now)
-    (at .args .keys .now) (at .args .more .now)
-    (at .args .groups .now) (at .args .groups .now) (fills .fill-all .last .1 .1 .1 .1 .1 .1 .0)
-    (fills .fill-all .last .1 .1 .1 .1 .1 .1 .1 .0) (fills .fill-all .last .1 .1 .1 .1 .1 .1 .1 .1 .0)
-    (fills .fill-all .last .1 .1 .1 .1 .1 .1 .1 .1 .1 .0) (fills .fill-all .last .1 .1 .1 .1 .1 .1 .1 .1 .1 .1 .0)
-    (fills .fill-all .last .1 .1 .1 .1 .1 .1 .1 .1 .1 .1 .1 .0)
-    (fills .fill-all .last .1 .1 .1 .1 .1 .1 .1 .1 .1 .1 .1 .1 .0)
-    (fills .fill-all .last .1 .1 .1 .1 .1 .1 .1 .1 .1 .1 .1 .1 .1 .0) 0 (fills .fill-all .result)
+    (at .args .keys .now) (at .args .more .now) (at .args .groups .now) (at .args .groups .now) (last .1 .1 .1 .1 .1 .1 .0)
+    (last .1 .1 .1 .1 .1 .1 .1 .0) (last .1 .1 .1 .1 .1 .1 .1 .1 .0) (last .1 .1 .1 .1 .1 .1 .1 .1 .1 .0)
+    (last .1 .1 .1 .1 .1 .1 .1 .1 .1 .1 .0) (last .1 .1 .1 .1 .1 .1 .1 .1 .1 .1 .1 .0)
+    (last .1 .1 .1 .1 .1 .1 .1 .1 .1 .1 .1 .1 .0) (last .1 .1 .1 .1 .1 .1 .1 .1 .1 .1 .1 .1 .1 .0) 0 (fills .fill-all .result)
     (settling-filled (length (at .args .groups .now)) (at .args .parents .now) (at .args .names .now) (at .args .numbers .now)
-    (at .args .keys .now) (at .args .more .now) (at .args .groups .now)
-    (fills .fill-all .last .1 .1 .1 .1 .1 .1 .0) (fills .fill-all .last .1 .1 .1 .1 .1 .1 .1 .0)
-    (fills .fill-all .last .1 .1 .1 .1 .1 .1 .1 .1 .0) (fills .fill-all .last .1 .1 .1 .1 .1 .1 .1 .1 .1 .0)
-    (fills .fill-all .last .1 .1 .1 .1 .1 .1 .1 .1 .1 .1 .0)
-    (fills .fill-all .last .1 .1 .1 .1 .1 .1 .1 .1 .1 .1 .1 .0) (replicate 1536 0) (replicate 1536 0)
-    (fills .fill-all .last .1 .1 .1 .1 .1 .1 .1 .1 .1 .1 .1 .1 .0)
-    (fills .fill-all .last .1 .1 .1 .1 .1 .1 .1 .1 .1 .1 .1 .1 .1 .0) (fills .fill-all .result) (at .pre)
-    (fills .fill-all .ensures))
+    (at .args .keys .now) (at .args .more .now) (at .args .groups .now) (last .1 .1 .1 .1 .1 .1 .0)
+    (last .1 .1 .1 .1 .1 .1 .1 .0) (last .1 .1 .1 .1 .1 .1 .1 .1 .0) (last .1 .1 .1 .1 .1 .1 .1 .1 .1 .0)
+    (last .1 .1 .1 .1 .1 .1 .1 .1 .1 .1 .0) (last .1 .1 .1 .1 .1 .1 .1 .1 .1 .1 .1 .0) (replicate 1536 0) (replicate 1536 0)
+    (last .1 .1 .1 .1 .1 .1 .1 .1 .1 .1 .1 .1 .0) (last .1 .1 .1 .1 .1 .1 .1 .1 .1 .1 .1 .1 .1 .0) (fills .fill-all .result)
+    (at .pre) no-pairs (fills .fill-all .ensures))
 
 fill-all-requires : tie.Need-fill-all-requires
-fill-all-requires c κs = (entry c .pre, (heads-none 512, (heads-none 512, heads-none 512)))
+fill-all-requires c κs = (entry c .pre, (no-lists, (no-lists, (no-lists, no-pairs))))
 
 settle-requires : tie.Need-settle-requires
 settle-requires c κs =

@@ -6,6 +6,7 @@ use native.Mathlib.Omega.{arith}
 use lib.ListN.{length}
 use Rattle.worklist.specs.Lists.{Merged}
 use Rattle.worklist.specs.Settling.{ListedAll}
+use Rattle.worklist.proofs.KindLaws.{grew-twice, queue-grew}
 use Rattle.worklist.proofs.SettleLaws.{sorted-by-keys, merged-by-states}
 use Rattle.worklist.proofs.merge_all.Statement.{statement}
 use Rattle.worklist.proofs.merge_all.Tie as tie
@@ -65,6 +66,7 @@ merge-requires : tie.Need-merge-requires
 merge-requires c κs =
     let at = from-first c in
     let n = length (at .args .parents .now) in
+    let queue = at .pre .1 .0 in
     let listed = at .pre .0 .3 in (
       (
         at .pre .0 .0,
@@ -72,8 +74,14 @@ merge-requires c κs =
         omega (arith, listed .room),
       ),
       (
-        at .pre .1 .0 ∙ sym (listed .forks .keys-size),
-        (omega (arith, at .pre .1 .1 .0, at .pre .1 .1 .1), (at .pre .1 .1 .1, λ e. omega (arith, e, at .pre .1 .1 .0))),
+        at .pre .1 .1 .0 ∙ sym (listed .forks .keys-size),
+        (
+          omega (arith, at .pre .1 .1 .1 .0, at .pre .1 .1 .1 .1),
+          (
+            at .pre .1 .1 .1 .1,
+            (λ e. omega (arith, e, at .pre .1 .1 .1 .0), (queue .firsts-size, queue .seconds-size)),
+          ),
+        ),
       ),
     )
 
@@ -82,15 +90,24 @@ merge-requires-2 c κs =
     let first = first-of c in
     let at = from-first (first .before) in
     let n = length (at .args .parents .now) in
-    let listed = at .pre .0 .3 in (
+    let listed = at .pre .0 .3 in
+    let merged = merged-first first (at .pre .0 .0) (at .pre .0 .1) (at .pre .0 .2) listed in
+    let queue = queue-grew (at .args .firsts .now) (at .args .seconds .now) (first .merge .last .1 .1 .1 .1 .0)
+    (first .merge .last .1 .1 .1 .1 .1 .0) (at .args .tail) (first .merge .result) (merged .grew) (at .pre .1 .0) in (
       (
         at .pre .0 .1,
         sorted-by-keys n (at .args .keys .now) (at .pre .0 .1) (at .args .links2 .now) (at .args .heads2 .now) (listed .backs),
-        omega (arith, listed .room, merged-first first (at .pre .0 .0) (at .pre .0 .1) (at .pre .0 .2) listed .counted),
+        omega (arith, listed .room, merged .counted),
       ),
       (
         sym (listed .backs .keys-size),
-        (omega (arith, at .pre .1 .1 .0, at .pre .1 .1 .1), (at .pre .1 .1 .1, λ e. omega (arith, e, at .pre .1 .1 .0))),
+        (
+          omega (arith, at .pre .1 .1 .1 .0, at .pre .1 .1 .1 .1),
+          (
+            at .pre .1 .1 .1 .1,
+            (λ e. omega (arith, e, at .pre .1 .1 .1 .0), (queue .firsts-size, queue .seconds-size)),
+          ),
+        ),
       ),
     )
 
@@ -100,20 +117,30 @@ merge-requires-3 c κs =
     let first = first-of (second .before) in
     let at = from-first (first .before) in
     let n = length (at .args .parents .now) in
-    let listed = at .pre .0 .3 in (
+    let listed = at .pre .0 .3 in
+    let merged₁ = merged-first first (at .pre .0 .0) (at .pre .0 .1) (at .pre .0 .2) listed in
+    let merged₂ = merged-second second (at .pre .0 .0) (at .pre .0 .1) (at .pre .0 .2) listed in
+    let grew =
+    grew-twice (at .args .firsts .now) (at .args .seconds .now) (first .merge .last .1 .1 .1 .1 .0)
+    (first .merge .last .1 .1 .1 .1 .1 .0) (second .merge2 .last .1 .1 .1 .1 .0) (second .merge2 .last .1 .1 .1 .1 .1 .0)
+    (at .args .tail) (first .merge .result) (second .merge2 .result) (merged₁ .grew) (merged₂ .grew) in
+    let queue =
+    queue-grew (at .args .firsts .now) (at .args .seconds .now) (second .merge2 .last .1 .1 .1 .1 .0)
+    (second .merge2 .last .1 .1 .1 .1 .1 .0) (at .args .tail) (second .merge2 .result) grew (at .pre .1 .0) in (
       (
         at .pre .0 .2,
         sorted-by-keys n (at .args .more .now) (at .pre .0 .2) (at .args .links3 .now) (at .args .heads3 .now) (listed .others),
-        omega (
-          arith,
-          listed .room,
-          merged-first first (at .pre .0 .0) (at .pre .0 .1) (at .pre .0 .2) listed .counted,
-          merged-second second (at .pre .0 .0) (at .pre .0 .1) (at .pre .0 .2) listed .counted,
-        ),
+        omega (arith, listed .room, merged₁ .counted, merged₂ .counted),
       ),
       (
         sym (listed .others .keys-size),
-        (omega (arith, at .pre .1 .1 .0, at .pre .1 .1 .1), (at .pre .1 .1 .1, λ e. omega (arith, e, at .pre .1 .1 .0))),
+        (
+          omega (arith, at .pre .1 .1 .1 .0, at .pre .1 .1 .1 .1),
+          (
+            at .pre .1 .1 .1 .1,
+            (λ e. omega (arith, e, at .pre .1 .1 .1 .0), (queue .firsts-size, queue .seconds-size)),
+          ),
+        ),
       ),
     )
 

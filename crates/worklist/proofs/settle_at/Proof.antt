@@ -90,8 +90,11 @@ merge-all-requires c κs =
     (at .args .keys .now) (at .args .more .now) (rootsOf (at .args .groups .now)) (settling .ready) in (
       (settling .fork-rows, settling .back-rows, settling .more-rows, listed),
       (
-        size ∙ sym (settling .ready .parents-size),
-        (lower-of two, omega (arith, joins .join-roots .ensures .inside, settling .ready .few)),
+        settling .queue,
+        (
+          size ∙ sym (settling .ready .parents-size),
+          (lower-of two, omega (arith, joins .join-roots .ensures .inside, settling .ready .few)),
+        ),
       ),
     )
 

@@ -1,4 +1,4 @@
--- `finish` meets its contract: own numbers, the partition by ends, and rounds. Assumes nothing.
+-- `finish` meets its contract: own numbers, the partition by ends, and joins until closed. Assumes nothing.
 use mathlib.Core.Path.{_≡_, ap, _∙_}
 use Prim.Native.Nat.{ℕ}
 use lib.ListN.{length}
@@ -26,15 +26,13 @@ by-ends-requires c κs = search needs
 
 close-requires : tie.Need-close-requires
 close-requires c κs =
-    let ends = c .before .before .before .before .before in
+    let ends = c .before .before .before .before in
     let own = ends .before .before .before .before in
-    let at = from-own own in (
-      finish-ready (length (at .args .groups .now)) (at .args .parents .now) (at .args .names .now) (at .args .accepts .now)
-          (at .args .classes .now) (at .args .keys .now) (at .args .more .now) (own .own .last .0) (ends .by-ends .last .1 .1 .0)
-          (at .pre .0)
-          (own-here own) (ends .by-ends .ensures .labelled),
-      at .pre .1 .1,
-    )
+    let at = from-own own in
+    finish-ready (length (at .args .groups .now)) (at .args .parents .now) (at .args .names .now) (at .args .accepts .now)
+    (at .args .classes .now) (at .args .keys .now) (at .args .more .now) (own .own .last .0) (ends .by-ends .last .1 .1 .0)
+    (at .pre .0)
+    (own-here own) (ends .by-ends .ensures .labelled)
 
 same-length : tie.Need-same-length
 same-length c = search needs
@@ -42,13 +40,10 @@ same-length c = search needs
 same-length-2 : tie.Need-same-length-2
 same-length-2 c = search needs
 
-same-length-3 : tie.Need-same-length-3
-same-length-3 c = search needs
-
 returns : tie.Need-returns
 returns c =
-    let closes = c .before .before .before .before in
-    let ends = closes .before .before .before .before .before .before in
+    let closes = c .before .before in
+    let ends = closes .before .before .before .before .before in
     let own = ends .before .before .before .before in
     let at = from-own own in
     finished (length (at .args .groups .now)) (at .args .parents .now) (at .args .names .now) (at .args .accepts .now)
@@ -64,5 +59,4 @@ finish-spec =
     close-requires
     same-length
     same-length-2
-    same-length-3
     returns)

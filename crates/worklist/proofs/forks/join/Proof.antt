@@ -27,7 +27,7 @@ lower-of c = omega (arith, c .if1 .left, joins-of (c .before) .join-roots .ensur
 join-roots-requires : tie.Need-join-roots-requires
 join-roots-requires c κs =
     let at = entry c in
-    (at .pre .0, (at .pre .1 .0 .1 .few, (at .pre .1 .1 .1 .1 .1 .0, at .pre .1 .1 .1 .1 .1 .1)))
+    (at .pre .0, (at .pre .1 .0 .1 .few, (at .pre .1 .1 .1 .1 .0, at .pre .1 .1 .1 .1 .1)))
 
 same-length : tie.Need-same-length
 same-length c = search needs
@@ -59,7 +59,7 @@ merge-requires c κs =
           omega (arith, lower-of two, joins .join-roots .ensures .inside, lists .1 .few),
           (
             omega (arith, joins .join-roots .ensures .inside, lists .1 .few),
-            (λ e. omega (arith, e, lower-of two), (at .pre .1 .1 .1 .0, at .pre .1 .1 .1 .1 .0)),
+            (λ e. omega (arith, e, lower-of two), (at .pre .1 .1 .1 .0 .firsts-size, at .pre .1 .1 .1 .0 .seconds-size)),
           ),
         ),
       ),
@@ -78,7 +78,7 @@ returns-2 c =
     (joins .join-roots .last .0) (at .args .links .now) (at .args .heads .now) (at .args .firsts .now) (at .args .seconds .now)
     (at .args .v) (at .args .w) (joins .join-roots .result .to) (joins .join-roots .result .from) (at .args .tail)
     (joins .join-roots .ensures) (c .merge .last .1 .1 .0) (c .merge .last .1 .1 .1 .0) (c .merge .last .1 .1 .1 .1 .0)
-    (c .merge .last .1 .1 .1 .1 .1 .0) (c .merge .result) refl (at .pre .1 .1 .1 .1 .1 .0) (at .pre .1 .1 .1 .1 .1 .1)
+    (c .merge .last .1 .1 .1 .1 .1 .0) (c .merge .result) refl (at .pre .1 .1 .1 .1 .0) (at .pre .1 .1 .1 .1 .1)
     (lower-of two) (c .merge .ensures) (lists .0)
     (sorted-by-keys (length (at .args .groups .now)) (at .args .names .now) (lists .0) (at .args .links .now)
     (at .args .heads .now) (lists .1))
