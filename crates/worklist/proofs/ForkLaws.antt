@@ -422,6 +422,12 @@ module _ (n : ℕ) (names numbers above₀ links₀ heads₀ firsts₀ seconds�
 
 -- ---- state after state of another partition
 
+-- a label is a state
+pub label-inside : (n : ℕ) (joined : List ℕ) (v : ℕ) → Labelled n joined → v < n → getD joined v 0 < n
+label-inside n joined v labelled h =
+    let low : getD joined v 0 ≤ v = labelled .low v h in
+    omega arith
+
 -- states before v joined with their labels in another partition
 pub record Joining
     (n : ℕ) (names numbers joined above₀ above links₀ heads₀ links heads firsts₀ seconds₀ firsts seconds : List ℕ)
@@ -447,12 +453,6 @@ module _ (n : ℕ) (names numbers joined above₀ links₀ heads₀ firsts₀ se
   module _ (above links heads firsts seconds : List ℕ) (end v : ℕ) (labelled : Labelled n joined)
       (so-far : Joining n names numbers joined above₀ above links₀ heads₀ links heads firsts₀ seconds₀ firsts seconds tail end v)
       where
-    -- a label is a state
-    pub label-inside : v < n → getD joined v 0 < n
-    label-inside h =
-        let low : getD joined v 0 ≤ v = labelled .low v h in
-        omega arith
-
     -- v stands right below its label already
     pub joining-skipped :
         v < n → getD above v 0 ≡ getD joined v 0 →
@@ -468,7 +468,7 @@ module _ (n : ℕ) (names numbers joined above₀ links₀ heads₀ firsts₀ se
         here =
             roots-at n above (so-far .forest) v inside ∙ root-up n above (so-far .forest) v inside
             ∙ sym (roots-at n above (so-far .forest) (getD above v 0)
-            (subst (λ (x : ℕ). x < n) (sym same) (label-inside inside)))
+            (subst (λ (x : ℕ). x < n) (sym same) (label-inside n joined v labelled inside)))
             ∙ ap (λ (x : ℕ). getD (rootsOf above) x 0) same
 
         each :
@@ -500,7 +500,7 @@ module _ (n : ℕ) (names numbers joined above₀ links₀ heads₀ firsts₀ se
                   pair .closing parents joined tail
                   (λ closed by refines.
                   subst (One closed v) (sym label)
-                  (refines v (getD joined v 0) inside (label-inside inside) (sym (labelled .own v inside))))
+                  (refines v (getD joined v 0) inside (label-inside n joined v labelled inside) (sym (labelled .own v inside))))
                   (so-far .closing parents before);
             }
           where
@@ -510,8 +510,7 @@ module _ (n : ℕ) (names numbers joined above₀ links₀ heads₀ firsts₀ se
                 subst (λ (y : ℕ). One (rootsOf above′) y (getD joined y 0)) (sym e)
                 (subst (One (rootsOf above′) v) label (pair .one))
             each x h low (inr d) =
-                let label-low : getD joined x 0 ≤ x = labelled .low x h in
-                pair .coarser x (getD joined x 0) h (omega arith) (so-far .each x h (omega arith))
+                pair .coarser x (getD joined x 0) h (label-inside n joined x labelled h) (so-far .each x h (omega arith))
 
     -- all states are joined with their labels
     pub joining-all :
