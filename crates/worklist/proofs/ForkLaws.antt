@@ -26,7 +26,7 @@ module _ (n : ℕ) (parents names numbers : List ℕ) where
   -- ---- how a round starts
 
   -- the lists filled: every pair is pending
-  pub closing-filled :
+  closing-filled :
       (groups links heads firsts seconds firsts′ seconds′ : List ℕ) (tail : ℕ) → ForksReady n parents names numbers →
       Labelled n groups → QueueRoom firsts seconds →
       Filled n parents numbers names groups links heads firsts seconds firsts′ seconds′ 0 tail →
@@ -55,7 +55,7 @@ module _ (n : ℕ) (parents names numbers : List ℕ) where
       }
 
   -- lists kept: nothing is pending, and the round's start is a coarser partition
-  pub closing-kept :
+  closing-kept :
       (joined groups links heads firsts seconds : List ℕ) (tail : ℕ) → ForksReady n parents names numbers →
       Kept n parents names numbers groups links heads firsts seconds tail → Refines n groups joined →
       Closing n parents names numbers joined groups links heads firsts seconds tail tail
@@ -78,13 +78,31 @@ module _ (n : ℕ) (parents names numbers : List ℕ) where
       }
 
   -- a partition by labels, as a forest
-  pub closing-flat :
+  closing-flat :
       (start groups links heads firsts seconds : List ℕ) (done tail : ℕ) →
       Closing n parents names numbers start groups links heads firsts seconds done tail →
       Closing n parents names numbers start (rootsOf groups) links heads firsts seconds done tail
   closing-flat start groups links heads firsts seconds done tail closing =
       subst (λ (labels : List ℕ). Closing n parents names numbers start labels links heads firsts seconds done tail)
       (sym (flat-roots n groups (closing .labelled))) closing
+
+  -- both as a forest
+  pub opening-filled :
+      (groups links heads firsts seconds firsts′ seconds′ : List ℕ) (tail : ℕ) → ForksReady n parents names numbers →
+      Labelled n groups → QueueRoom firsts seconds →
+      Filled n parents numbers names groups links heads firsts seconds firsts′ seconds′ 0 tail →
+      Closing n parents names numbers groups (rootsOf groups) links heads firsts′ seconds′ 0 tail
+  opening-filled groups links heads firsts seconds firsts′ seconds′ tail ready labelled queue filled =
+      closing-flat groups groups links heads firsts′ seconds′ 0 tail
+      (closing-filled groups links heads firsts seconds firsts′ seconds′ tail ready labelled queue filled)
+
+  pub opening-kept :
+      (joined groups links heads firsts seconds : List ℕ) (tail : ℕ) → ForksReady n parents names numbers →
+      Kept n parents names numbers groups links heads firsts seconds tail → Refines n groups joined →
+      Closing n parents names numbers joined (rootsOf groups) links heads firsts seconds tail tail
+  opening-kept joined groups links heads firsts seconds tail ready kept coarser =
+      closing-flat joined groups links heads firsts seconds tail tail
+      (closing-kept joined groups links heads firsts seconds tail ready kept coarser)
 
   -- the lists, by a forest's own length, and the room left
   pub closing-sorted :
@@ -97,10 +115,20 @@ module _ (n : ℕ) (parents names numbers : List ℕ) where
     closing .room,
   )
 
+  -- what is pending, by the forest's own length
+  pub closing-again :
+      (above start links heads firsts seconds : List ℕ) (done tail : ℕ) → length above ≡ n →
+      Closing n parents names numbers start (rootsOf above) links heads firsts seconds done tail →
+      Closing (length above) parents names numbers start (rootsOf above) links heads firsts seconds done tail
+  closing-again above start links heads firsts seconds done tail size closing =
+      subst
+      (λ (m : ℕ). Closing m parents names numbers start (rootsOf above) links heads firsts seconds done tail)
+      (sym size) closing
+
   -- ---- how it ends
 
   -- nothing pending: joined until closed, and the lists are kept
-  pub kept-closed :
+  kept-closed :
       (start groups links heads firsts seconds : List ℕ) (tail : ℕ) → Refines n start groups →
       Closing n parents names numbers start groups links heads firsts seconds tail tail →
       KeptClosed n parents names numbers start groups links heads firsts seconds tail
@@ -419,6 +447,38 @@ module _ (n : ℕ) (names numbers above₀ links₀ heads₀ firsts₀ seconds�
         (λ (i : ℕ).
         SettledForks n names numbers above₀ above links₀ heads₀ links heads firsts₀ seconds₀ firsts seconds done₀ tail₀ i tail)
         (omega arith) so-far
+
+-- a round ended: from its start all pairs joined, and the forest flattened
+pub round-ended :
+    (n : ℕ) (parents names numbers start above above′ links heads links′ heads′ firsts seconds firsts′ seconds′ groups′ : List ℕ)
+    (done tail tail′ : ℕ) → length above ≡ n → groups′ ≡ rootsOf above′ → Refines n start (rootsOf above) →
+    Closing n parents names numbers start (rootsOf above) links heads firsts seconds done tail →
+    SettledForks (length above) names numbers above above′ links heads links′ heads′ firsts seconds firsts′ seconds′ done tail
+    tail′ tail′ →
+    KeptClosed n parents names numbers start groups′ links′ heads′ firsts′ seconds′ tail′
+round-ended n parents names numbers start above above′ links heads links′ heads′ firsts seconds firsts′ seconds′ groups′ done tail
+    tail′ size flat coarser closing settled₀ =
+    subst
+    (λ (groups : List ℕ). KeptClosed n parents names numbers start groups links′ heads′ firsts′ seconds′ tail′)
+    (sym flat)
+    (go
+    (subst
+    (λ (m : ℕ).
+    SettledForks m names numbers above above′ links heads links′ heads′ firsts seconds firsts′ seconds′ done tail tail′ tail′)
+    size settled₀))
+  where
+    go :
+        SettledForks n names numbers above above′ links heads links′ heads′ firsts seconds firsts′ seconds′ done tail tail′
+        tail′ →
+        KeptClosed n parents names numbers start (rootsOf above′) links′ heads′ firsts′ seconds′ tail′
+    go settled =
+        kept-closed n parents names numbers start (rootsOf above′) links′ heads′ firsts′ seconds′ tail′
+        (λ x y hx hy e. settled .coarser x y hx hy (coarser x y hx hy e)) (settled .closing parents start closing)
+
+-- a partition and its forest
+pub flat-coarser : (n : ℕ) (groups : List ℕ) → Labelled n groups → Refines n groups (rootsOf groups)
+flat-coarser n groups labelled x y hx hy e =
+    subst (λ (l : List ℕ). One l x y) (sym (flat-roots n groups labelled)) e
 
 -- ---- state after state of another partition
 
