@@ -1,6 +1,6 @@
 -- Laws of settling, all three kinds of arcs together: how it starts, what a pair skipped and a pair joined keep, and that it ends
 -- closed. Assumes nothing.
-use mathlib.Core.Path.{_≡_, sym, ap, _∙_, subst}
+use mathlib.Core.Path.{_≡_, sym, subst}
 use mathlib.Core.List.{List}
 use Prim.Native.Nat.{ℕ, suc, _+_, _<_, _≤_}
 use native.Mathlib.Omega.{arith}

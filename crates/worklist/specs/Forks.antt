@@ -1,5 +1,5 @@
--- Forks closed again and again while groups are joined from outside, with lists of the tree's arcs by name that are kept in between.
--- The arcs of one kind: from parents, by names, to the states' own numbers. Assumes nothing.
+-- Forks closed again and again while groups are joined from outside, with lists of the tree's arcs by name that are kept in
+-- between. The arcs are of one kind: from parents, by names, to the states' own numbers. Assumes nothing.
 use mathlib.Core.Path.{_≡_}
 use mathlib.Core.List.{List}
 use Prim.Native.Nat.{ℕ, _+_, _<_, _≤_}
@@ -31,8 +31,8 @@ pub record Kept (n : ℕ) (parents names numbers groups links heads firsts secon
   pub room : tail + live rows ≤ pair-limit
   pub queue : QueueRoom firsts seconds
 
--- what holds while the pairs from `done` on are still to be joined: arcs are covered once they are; every closed partition that is
--- coarser than the one at the start is coarser than this one and joins them; and the queue has room
+-- what holds while the pairs from `done` on are still to be joined: arcs are covered once they are; every closed partition that
+-- is coarser than the one at the start is coarser than this one and joins them; and the queue has room
 pub record Closing
     (n : ℕ) (parents names numbers start groups links heads firsts seconds : List ℕ) (done tail : ℕ) : Type 0 where
   pub rows : List ℕ

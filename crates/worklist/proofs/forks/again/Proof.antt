@@ -8,7 +8,8 @@ use Rattle.partition.specs.Forests.{rootsOf}
 use Rattle.partition.proofs.ForestLaws.{flat-forest}
 use Rattle.worklist.specs.Forks.{ForksReady, Kept, Closing}
 use Rattle.worklist.proofs.RootLaws.{forest-again}
-use Rattle.worklist.proofs.ForkLaws.{opening-kept, closing-again, round-ended}
+use Rattle.worklist.proofs.ForkLaws.{opening-kept, closing-again}
+use Rattle.worklist.proofs.ForkRounds.{round-ended}
 use Rattle.worklist.proofs.forks.again.Statement.{statement}
 use Rattle.worklist.proofs.forks.again.Tie as tie
 

@@ -8,9 +8,9 @@ use Rattle.partition.specs.Forests.{rootsOf}
 use Rattle.worklist.specs.Forks.{Closing}
 use Rattle.worklist.proofs.RootLaws.{forest-again}
 use Rattle.worklist.proofs.KindLaws.{own-size}
-use Rattle.worklist.proofs.ForkLaws.{
+use Rattle.worklist.proofs.ForkLaws.{closing-sorted}
+use Rattle.worklist.proofs.ForkRounds.{
   Joining,
-  closing-sorted,
   label-inside,
   joining-none,
   joining-skipped,

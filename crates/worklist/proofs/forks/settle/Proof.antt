@@ -1,5 +1,5 @@
--- `forks::settle` meets its contract. The invariant of its loop: the pairs before `done` are joined. The measure is the room left in
--- the queue. Assumes nothing.
+-- `forks::settle` meets its contract. The invariant of its loop: the pairs before `done` are joined. The measure is the room left
+-- in the queue. Assumes nothing.
 use mathlib.Core.Path.{sym, _∙_}
 use Prim.Native.Nat.{_+_, _-_, _<_}
 use native.Mathlib.Numerals.{add-one}
@@ -10,7 +10,8 @@ use Rattle.worklist.specs.Lists.{pair-limit}
 use Rattle.worklist.specs.Forks.{Closing, SettledForks}
 use Rattle.worklist.proofs.RootLaws.{forest-again}
 use Rattle.worklist.proofs.KindLaws.{own-size}
-use Rattle.worklist.proofs.ForkLaws.{closing-sorted, settled-none, settled-more, settled-all}
+use Rattle.worklist.proofs.ForkLaws.{closing-sorted}
+use Rattle.worklist.proofs.ForkRounds.{settled-none, settled-more, settled-all}
 use Rattle.worklist.proofs.forks.settle.Statement.{statement}
 use Rattle.worklist.proofs.forks.settle.Tie as tie
 

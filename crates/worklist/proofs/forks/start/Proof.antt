@@ -9,7 +9,8 @@ use Rattle.worklist.specs.Forks.{Closing}
 use Rattle.worklist.proofs.KindLaws.{own-size}
 use Rattle.worklist.proofs.RootLaws.{forest-again}
 use Rattle.worklist.proofs.SettleLaws.{fill-asked}
-use Rattle.worklist.proofs.ForkLaws.{opening-filled, flat-coarser, round-ended}
+use Rattle.worklist.proofs.ForkLaws.{opening-filled}
+use Rattle.worklist.proofs.ForkRounds.{flat-coarser, round-ended}
 use Rattle.worklist.proofs.forks.start.Statement.{statement}
 use Rattle.worklist.proofs.forks.start.Tie as tie
 
