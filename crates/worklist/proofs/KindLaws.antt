@@ -218,6 +218,7 @@ module _ (n : ℕ) (ins outs keys : List ℕ) where
         subst (λ (x : ℕ). x < n) (sym (pair .8)) (below (pair .1) (pair .3)),
       )
 
+  -- so are those of the pairs that merging queues
   pub merged-inside :
       (rows : List ℕ) (to from : ℕ) (links′ heads′ firsts seconds firsts′ seconds′ : List ℕ) (tail tail′ : ℕ) →
       ((v : ℕ) → v < n → getD outs v 0 < n) →

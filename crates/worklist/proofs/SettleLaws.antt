@@ -65,6 +65,7 @@ merged-by-states n outs keys rows links heads to from links′ heads′ firsts s
     (sorted .keys-size) (merged (sorted-by-keys n keys rows links heads sorted))
 
 module _ (n : ℕ) (parents names numbers keys more : List ℕ) where
+  -- own numbers: as many as states, and each a state's
   pub numbers-size : (groups : List ℕ) → RoundReady n parents names numbers keys more groups → length numbers ≡ n
   numbers-size groups ready = own-size n numbers (ready .own)
 
@@ -253,13 +254,14 @@ module _ (n : ℕ) (parents names numbers keys more : List ℕ) where
       abbrev joined : List ℕ
       joined = relabelled (getD groups a 0) (getD groups b 0) groups
 
-      -- what is pending before and after
+      -- what is pending before, and what after
       abbrev Before : List ℕ → Type 0
       Before = Joins firsts seconds done tail
 
       abbrev After : List ℕ → Type 0
       After = Joins firsts′ seconds′ (suc done) tail′
 
+      -- the labels of both groups
       abbrev to : ℕ
       to = getD groups a 0
 
@@ -318,6 +320,7 @@ module _ (n : ℕ) (parents names numbers keys more : List ℕ) where
                 (all .others) closed (by .others) refines),
           )
 
+      -- the pair is no longer pending, and what the merges queued is
       pub settling-joined :
           Settling n parents names numbers keys more start joined fl′ fh′ bl′ bh′ ml′ mh′ firsts′ seconds′ (suc done) tail′
       settling-joined =
