@@ -204,6 +204,7 @@ module _ (n : ℕ) (parents names numbers : List ℕ) where
       (lower : getD groups a 0 < getD groups b 0) (links′ heads′ firsts′ seconds′ : List ℕ) (tail′ : ℕ)
       (merged : Merged n numbers names (closing .rows) (getD groups a 0) (getD groups b 0) links′ heads′ firsts seconds firsts′
       seconds′ tail tail′) where
+    -- the lower label and the higher
     abbrev to : ℕ
     to = getD groups a 0
 
@@ -221,12 +222,14 @@ module _ (n : ℕ) (parents names numbers : List ℕ) where
     abbrev After : List ℕ → Type 0
     After = Joins firsts′ seconds′ done tail′
 
+    -- both are rows of lists
     low-to : to < state-limit
     low-to = label-row n groups (closing .ready .few) (closing .labelled) a below-a
 
     low-from : from < state-limit
     low-from = label-row n groups (closing .ready .few) (closing .labelled) b below-b
 
+    -- groups still go by labels
     labelled : Labelled n united
     labelled =
         let low : from ≤ b = closing .labelled .low b below-b in
@@ -248,6 +251,7 @@ module _ (n : ℕ) (parents names numbers : List ℕ) where
               firsts′ seconds′ tail tail′ merged closed by refines),
         )
 
+    -- what held before holds with both groups one
     closing-joined : Closing n parents names numbers start united links′ heads′ firsts′ seconds′ done tail′
     closing-joined =
         let order : done ≤ tail = closing .order in
@@ -318,12 +322,14 @@ module _ (n : ℕ) (names numbers above above′ links heads firsts seconds : Li
     united-is a b to-is from-is =
         roots .joined lower ∙ ap₂ (λ (x y : ℕ). relabelled x y (rootsOf above)) to-is from-is
 
+    -- they are in one group then
     one-either :
         (a b : ℕ) → a < n → b < n → to ≡ getD (rootsOf above) a 0 → from ≡ getD (rootsOf above) b 0 → One (rootsOf above′) a b
     one-either a b below-a below-b to-is from-is =
         subst (λ (l : List ℕ). One l a b) (sym (united-is a b to-is from-is))
         (relabelled-joins n a b (rootsOf above) sizes below-a below-b)
 
+    -- and what held before holds then
     closing-either :
         (a b : ℕ) → a < n → b < n → to ≡ getD (rootsOf above) a 0 → from ≡ getD (rootsOf above) b 0 →
         (parents start : List ℕ) (done : ℕ) →

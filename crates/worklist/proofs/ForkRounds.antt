@@ -30,6 +30,7 @@ pair-by-states n names numbers above above′ links heads links′ heads′ firs
 -- ---- pair after pair of the queue
 
 module _ (n : ℕ) (names numbers above₀ links₀ heads₀ firsts₀ seconds₀ : List ℕ) (done₀ tail₀ : ℕ) where
+  -- none joined yet
   pub settled-none :
       Forest n above₀ →
       SettledForks n names numbers above₀ above₀ links₀ heads₀ links₀ heads₀ firsts₀ seconds₀ firsts₀ seconds₀ done₀ tail₀ done₀
@@ -40,6 +41,7 @@ module _ (n : ℕ) (names numbers above₀ links₀ heads₀ firsts₀ seconds�
   module _ (above links heads firsts seconds : List ℕ) (done tail : ℕ)
       (so-far : SettledForks n names numbers above₀ above links₀ heads₀ links heads firsts₀ seconds₀ firsts seconds done₀ tail₀
       done tail) where
+    -- the pair at `done` joined
     pub settled-more :
         (above′ links′ heads′ firsts′ seconds′ : List ℕ) (v w done′ tail′ : ℕ) → done < tail → done′ ≡ suc done →
         v ≡ getD firsts done 0 → w ≡ getD seconds done 0 →
@@ -115,7 +117,7 @@ round-ended n parents names numbers start above above′ links heads links′ he
         kept-closed n parents names numbers start (rootsOf above′) links′ heads′ firsts′ seconds′ tail′
         (λ x y hx hy e. settled .coarser x y hx hy (coarser x y hx hy e)) (settled .closing parents start closing)
 
--- a partition and its forest
+-- a partition is as coarse as its forest's roots
 pub flat-coarser : (n : ℕ) (groups : List ℕ) → Labelled n groups → Refines n groups (rootsOf groups)
 flat-coarser n groups labelled x y hx hy e =
     subst (λ (l : List ℕ). One l x y) (sym (flat-roots n groups labelled)) e
@@ -140,6 +142,7 @@ pub record Joining
       Closing n parents names numbers joined (rootsOf above) links heads firsts seconds tail end
 
 module _ (n : ℕ) (names numbers joined above₀ links₀ heads₀ firsts₀ seconds₀ : List ℕ) (tail : ℕ) where
+  -- none joined yet
   pub joining-none :
       Forest n above₀ →
       Joining n names numbers joined above₀ above₀ links₀ heads₀ links₀ heads₀ firsts₀ seconds₀ firsts₀ seconds₀ tail tail 0
