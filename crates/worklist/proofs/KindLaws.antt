@@ -11,11 +11,27 @@ use lib.ListN.{length, getD}
 use borrow.Author.Tests.{ltb-true, ltb-false}
 use Rattle.model.specs.Limits.{name-limit, state-limit}
 use Rattle.model.proofs.Tests.{eq-dec}
-use Rattle.indexed.specs.Partitions.{Refines, KeyClosed}
+use Rattle.model.specs.Lists.{numbersFrom}
+use Rattle.indexed.specs.Partitions.{Refines, Labelled, KeyClosed}
 use Rattle.indexed.specs.Passes.{relabelled}
-use Rattle.indexed.proofs.Keys.{Relabel, moved, kept, relabelled-cases, relabelled-coarser}
+use Rattle.indexed.proofs.Keys.{Relabel, moved, kept, relabelled-cases, relabelled-coarser, number-at, numbers-length}
 use Rattle.worklist.specs.Lists.{Queued, Grew, StandsFor, Filled, Merged}
 use Rattle.worklist.specs.Settling.{Joins, Covered, Kind, QueueRoom}
+
+-- the states' own numbers: how many they are, and that each is a state
+pub own-size : (n : ℕ) (numbers : List ℕ) → numbers ≡ numbersFrom n 0 → length numbers ≡ n
+own-size n numbers own = ap length own ∙ numbers-length n 0
+
+pub own-below : (n : ℕ) (numbers : List ℕ) → numbers ≡ numbersFrom n 0 → (v : ℕ) → v < n → getD numbers v 0 < n
+own-below n numbers own v h =
+    subst (λ (x : ℕ). x < n) (sym (ap (λ (l : List ℕ). getD l v 0) own ∙ number-at n v h)) h
+
+-- labels of states are rows of lists
+pub label-row :
+    (n : ℕ) (groups : List ℕ) → n ≤ state-limit → Labelled n groups → (v : ℕ) → v < n → getD groups v 0 < state-limit
+label-row n groups few labelled v h =
+    let low : getD groups v 0 ≤ v = labelled .low v h in
+    omega arith
 
 -- a place is in the shorter queue, or past it
 before-or-past : (i tail : ℕ) → (i < tail) ⊎ (tail ≤ i)

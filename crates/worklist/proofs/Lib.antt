@@ -1,5 +1,5 @@
 -- Why heads and links give lists of arcs by ascending key, and what the queue holds; why joining its pairs until none is left
--- ends closed. Assumes nothing.
+-- ends closed, in one go and round by round. Assumes nothing.
 pub mod ListLaws
 pub mod PlaceLaws
 pub mod PutLaws
@@ -11,3 +11,5 @@ pub mod KindLaws
 pub mod SettleLaws
 pub mod RootLaws
 pub mod PairLaws
+pub mod ForkLaws
+pub mod ForkRounds

@@ -1,6 +1,6 @@
 -- Laws of settling, all three kinds of arcs together: how it starts, what a pair skipped and a pair joined keep, and that it ends
 -- closed. Assumes nothing.
-use mathlib.Core.Path.{_≡_, sym, ap, _∙_, subst}
+use mathlib.Core.Path.{_≡_, sym, subst}
 use mathlib.Core.List.{List}
 use Prim.Native.Nat.{ℕ, suc, _+_, _<_, _≤_}
 use native.Mathlib.Omega.{arith}
@@ -8,21 +8,20 @@ use lib.ListN.{length, getD}
 use Rattle.model.specs.Limits.{state-limit}
 use Rattle.indexed.specs.Partitions.{Refines, Labelled}
 use Rattle.indexed.specs.Passes.{relabelled}
-use Rattle.indexed.proofs.Keys.{number-at, numbers-length, relabelled-labelled, relabelled-coarser, relabelled-refines}
-use Rattle.indexed.proofs.Keys.{relabelled-joins}
+use Rattle.indexed.proofs.Keys.{relabelled-labelled, relabelled-coarser, relabelled-refines, relabelled-joins}
 use Rattle.worklist.specs.Lists.{pair-limit, Sorted, Grew, Merged}
 use Rattle.worklist.specs.Settling.{RoundReady, RoundClosed, JoinedUntil, Joins, NoLists, QueueRoom, FilledAll, MergedAll}
 use Rattle.worklist.specs.Settling.{Settling}
 use Rattle.worklist.proofs.KindLaws.{each-shorter, each-longer, each-later, each-first, grew-twice, queue-grew}
 use Rattle.worklist.proofs.KindLaws.{kind-more, kind-filled, kind-closed, kind-merged, filled-safe, merged-safe}
-use Rattle.worklist.proofs.KindLaws.{filled-inside, merged-inside}
+use Rattle.worklist.proofs.KindLaws.{filled-inside, merged-inside, own-size, own-below, label-row}
 
 -- a partition has both states of a pair in one group
 abbrev pub One : List ℕ → ℕ → ℕ → Type 0
 One groups x y = getD groups x 0 ≡ getD groups y 0
 
 -- both states of a pair are states
-abbrev Two : ℕ → ℕ → ℕ → Type 0
+abbrev pub Two : ℕ → ℕ → ℕ → Type 0
 Two n x y = (x < n) × (y < n)
 
 -- what filling asks, in its order
@@ -68,12 +67,11 @@ merged-by-states n outs keys rows links heads to from links′ heads′ firsts s
 module _ (n : ℕ) (parents names numbers keys more : List ℕ) where
   -- own numbers: as many as states, and each a state's
   pub numbers-size : (groups : List ℕ) → RoundReady n parents names numbers keys more groups → length numbers ≡ n
-  numbers-size groups ready = ap length (ready .own) ∙ numbers-length n 0
+  numbers-size groups ready = own-size n numbers (ready .own)
 
   pub numbers-below :
       (groups : List ℕ) → RoundReady n parents names numbers keys more groups → (v : ℕ) → v < n → getD numbers v 0 < n
-  numbers-below groups ready v h =
-      subst (λ (x : ℕ). x < n) (sym (ap (λ (l : List ℕ). getD l v 0) (ready .own) ∙ number-at n v h)) h
+  numbers-below groups ready = own-below n numbers (ready .own)
 
   -- ready at another partition
   pub ready-again :
@@ -92,12 +90,9 @@ module _ (n : ℕ) (parents names numbers keys more : List ℕ) where
       }
 
   -- labels are rows of lists
-  label-row :
+  ready-row :
       (groups : List ℕ) → RoundReady n parents names numbers keys more groups → (v : ℕ) → v < n → getD groups v 0 < state-limit
-  label-row groups ready v h =
-      let low : getD groups v 0 ≤ v = ready .labelled .low v h in
-      let few : n ≤ state-limit = ready .few in
-      omega arith
+  ready-row groups ready = label-row n groups (ready .few) (ready .labelled)
 
   -- all lists filled: every pair is pending
   pub settling-filled :
@@ -172,15 +167,15 @@ module _ (n : ℕ) (parents names numbers keys more : List ℕ) where
             record {
               forks =
                   kind-closed n parents numbers names groups (settling .fork-rows) fl fh (Joins firsts seconds done tail) none
-                  (λ v h. label-row groups (settling .ready) (getD parents v 0) (settling .ready .parents-below v h))
+                  (λ v h. ready-row groups (settling .ready) (getD parents v 0) (settling .ready .parents-below v h))
                   (settling .forks);
               backs =
                   kind-closed n numbers parents keys groups (settling .back-rows) bl bh (Joins firsts seconds done tail) none
-                  (λ v h. label-row groups (settling .ready) (getD numbers v 0) (numbers-below groups (settling .ready) v h))
+                  (λ v h. ready-row groups (settling .ready) (getD numbers v 0) (numbers-below groups (settling .ready) v h))
                   (settling .backs);
               others =
                   kind-closed n numbers parents more groups (settling .more-rows) ml mh (Joins firsts seconds done tail) none
-                  (λ v h. label-row groups (settling .ready) (getD numbers v 0) (numbers-below groups (settling .ready) v h))
+                  (λ v h. ready-row groups (settling .ready) (getD numbers v 0) (numbers-below groups (settling .ready) v h))
                   (settling .others);
             };
       }
@@ -274,10 +269,10 @@ module _ (n : ℕ) (parents names numbers keys more : List ℕ) where
       from = getD groups b 0
 
       low-to : to < state-limit
-      low-to = label-row groups (settling .ready) a below-a
+      low-to = ready-row groups (settling .ready) a below-a
 
       low-from : from < state-limit
-      low-from = label-row groups (settling .ready) b below-b
+      low-from = ready-row groups (settling .ready) b below-b
 
       labelled : Labelled n joined
       labelled =

@@ -1,3 +1,4 @@
--- What the lists of arcs promise, and what joining until closed does. Assumes nothing.
+-- What the lists of arcs promise, and what joining until closed does, in one go and round by round. Assumes nothing.
 pub mod Lists
 pub mod Settling
+pub mod Forks

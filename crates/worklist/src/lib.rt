@@ -1,6 +1,7 @@
 // Joins until closed, by a queue of pairs of states. For each group one arc of each key is kept, in lists by ascending key; where
 // two groups become one their lists are merged, and two arcs of one key put a pair into the queue. There are three kinds of arcs:
 // along the tree's arcs by their names, and two sets of keys against them; links1 and heads1 are the lists of the first, and so on.
+pub mod forks;
 pub mod lists;
 
 use cells::numbers::wide16;

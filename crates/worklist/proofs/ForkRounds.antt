@@ -1,0 +1,229 @@
+-- Laws of a round of closing forks: pair after pair of the queue joined, until none is left; and state after state of a coarser
+-- partition joined with its label. Assumes nothing.
+use mathlib.Core.Path.{_≡_, sym, ap, _∙_, subst, subst₂}
+use mathlib.Core.Logic.{_⊎_, inl, inr}
+use mathlib.Core.List.{List}
+use Prim.Native.Nat.{ℕ, suc, _+_, _<_, _≤_}
+use native.Mathlib.Omega.{arith}
+use lib.ListN.{length, getD}
+use Rattle.model.proofs.Tests.{eq-dec}
+use Rattle.indexed.specs.Partitions.{Refines, Labelled}
+use Rattle.partition.specs.Forests.{Forest, rootsOf}
+use Rattle.partition.proofs.ForestLaws.{flat-roots, root-up, roots-at}
+use Rattle.worklist.specs.Forks.{Closing, JoinedPair, JoinedAll, SettledForks, KeptClosed}
+use Rattle.worklist.proofs.SettleLaws.{One}
+use Rattle.worklist.proofs.ForkLaws.{closing-next, kept-closed}
+
+-- a pair joined, by the number of states
+pair-by-states :
+    (n : ℕ) (names numbers above above′ links heads links′ heads′ firsts seconds firsts′ seconds′ : List ℕ) (v w tail tail′ : ℕ) →
+    length above ≡ n →
+    JoinedPair (length above) names numbers above above′ links heads links′ heads′ firsts seconds firsts′ seconds′ v w tail
+    tail′ →
+    JoinedPair n names numbers above above′ links heads links′ heads′ firsts seconds firsts′ seconds′ v w tail tail′
+pair-by-states n names numbers above above′ links heads links′ heads′ firsts seconds firsts′ seconds′ v w tail tail′ size pair =
+    subst
+    (λ (m : ℕ).
+    JoinedPair m names numbers above above′ links heads links′ heads′ firsts seconds firsts′ seconds′ v w tail tail′)
+    size pair
+
+-- ---- pair after pair of the queue
+
+module _ (n : ℕ) (names numbers above₀ links₀ heads₀ firsts₀ seconds₀ : List ℕ) (done₀ tail₀ : ℕ) where
+  -- none joined yet
+  pub settled-none :
+      Forest n above₀ →
+      SettledForks n names numbers above₀ above₀ links₀ heads₀ links₀ heads₀ firsts₀ seconds₀ firsts₀ seconds₀ done₀ tail₀ done₀
+      tail₀
+  settled-none forest =
+      record { forest = forest; coarser = λ x y hx hy e. e; closing = λ parents start closing. closing }
+
+  module _ (above links heads firsts seconds : List ℕ) (done tail : ℕ)
+      (so-far : SettledForks n names numbers above₀ above links₀ heads₀ links heads firsts₀ seconds₀ firsts seconds done₀ tail₀
+      done tail) where
+    -- the pair at `done` joined
+    pub settled-more :
+        (above′ links′ heads′ firsts′ seconds′ : List ℕ) (v w done′ tail′ : ℕ) → done < tail → done′ ≡ suc done →
+        v ≡ getD firsts done 0 → w ≡ getD seconds done 0 →
+        JoinedPair (length above) names numbers above above′ links heads links′ heads′ firsts seconds firsts′ seconds′ v w tail
+        tail′ →
+        SettledForks n names numbers above₀ above′ links₀ heads₀ links′ heads′ firsts₀ seconds₀ firsts′ seconds′ done₀ tail₀ done′
+        tail′
+    settled-more above′ links′ heads′ firsts′ seconds′ v w done′ tail′ due next first second joined =
+        subst
+        (λ (i : ℕ).
+        SettledForks n names numbers above₀ above′ links₀ heads₀ links′ heads′ firsts₀ seconds₀ firsts′ seconds′ done₀ tail₀ i
+        tail′)
+        (sym next)
+        (go
+        (pair-by-states n names numbers above above′ links heads links′ heads′ firsts seconds firsts′ seconds′ v w tail tail′
+        (so-far .forest .size) joined))
+      where
+        go :
+            JoinedPair n names numbers above above′ links heads links′ heads′ firsts seconds firsts′ seconds′ v w tail tail′ →
+            SettledForks n names numbers above₀ above′ links₀ heads₀ links′ heads′ firsts₀ seconds₀ firsts′ seconds′ done₀ tail₀
+            (suc done) tail′
+        go pair =
+            let longer : tail ≤ tail′ = pair .grew .longer in
+            record {
+              forest = pair .forest;
+              coarser = λ x y hx hy e. pair .coarser x y hx hy (so-far .coarser x y hx hy e);
+              closing = λ parents start before.
+                  let closing = so-far .closing parents start before in
+                  closing-next n parents names numbers start (rootsOf above′) links′ heads′ firsts′ seconds′ done tail′
+                  (omega arith)
+                  (subst₂ (One (rootsOf above′)) (first ∙ sym (pair .grew .firsts-kept done due))
+                  (second ∙ sym (pair .grew .seconds-kept done due)) (pair .one))
+                  (pair .closing parents start done
+                  (λ closed by refines.
+                  subst₂ (One closed) (sym first) (sym second) (closing .safe closed by refines .1 done (omega arith) due))
+                  closing);
+            }
+
+    -- none is left
+    pub settled-all :
+        tail ≤ done → done ≤ tail →
+        SettledForks n names numbers above₀ above links₀ heads₀ links heads firsts₀ seconds₀ firsts seconds done₀ tail₀ tail tail
+    settled-all over order =
+        subst
+        (λ (i : ℕ).
+        SettledForks n names numbers above₀ above links₀ heads₀ links heads firsts₀ seconds₀ firsts seconds done₀ tail₀ i tail)
+        (omega arith) so-far
+
+-- a round ended: from its start all pairs joined, and the forest flattened
+pub round-ended :
+    (n : ℕ) (parents names numbers start above above′ links heads links′ heads′ firsts seconds firsts′ seconds′ groups′ : List ℕ)
+    (done tail tail′ : ℕ) → length above ≡ n → groups′ ≡ rootsOf above′ → Refines n start (rootsOf above) →
+    Closing n parents names numbers start (rootsOf above) links heads firsts seconds done tail →
+    SettledForks (length above) names numbers above above′ links heads links′ heads′ firsts seconds firsts′ seconds′ done tail
+    tail′ tail′ →
+    KeptClosed n parents names numbers start groups′ links′ heads′ firsts′ seconds′ tail′
+round-ended n parents names numbers start above above′ links heads links′ heads′ firsts seconds firsts′ seconds′ groups′ done tail
+    tail′ size flat coarser closing settled₀ =
+    subst
+    (λ (groups : List ℕ). KeptClosed n parents names numbers start groups links′ heads′ firsts′ seconds′ tail′)
+    (sym flat)
+    (go
+    (subst
+    (λ (m : ℕ).
+    SettledForks m names numbers above above′ links heads links′ heads′ firsts seconds firsts′ seconds′ done tail tail′ tail′)
+    size settled₀))
+  where
+    go :
+        SettledForks n names numbers above above′ links heads links′ heads′ firsts seconds firsts′ seconds′ done tail tail′
+        tail′ →
+        KeptClosed n parents names numbers start (rootsOf above′) links′ heads′ firsts′ seconds′ tail′
+    go settled =
+        kept-closed n parents names numbers start (rootsOf above′) links′ heads′ firsts′ seconds′ tail′
+        (λ x y hx hy e. settled .coarser x y hx hy (coarser x y hx hy e)) (settled .closing parents start closing)
+
+-- a partition is as coarse as its forest's roots
+pub flat-coarser : (n : ℕ) (groups : List ℕ) → Labelled n groups → Refines n groups (rootsOf groups)
+flat-coarser n groups labelled x y hx hy e =
+    subst (λ (l : List ℕ). One l x y) (sym (flat-roots n groups labelled)) e
+
+-- ---- state after state of another partition
+
+-- a label is a state
+pub label-inside : (n : ℕ) (joined : List ℕ) (v : ℕ) → Labelled n joined → v < n → getD joined v 0 < n
+label-inside n joined v labelled h =
+    let low : getD joined v 0 ≤ v = labelled .low v h in
+    omega arith
+
+-- states before v joined with their labels in another partition
+pub record Joining
+    (n : ℕ) (names numbers joined above₀ above links₀ heads₀ links heads firsts₀ seconds₀ firsts seconds : List ℕ)
+    (tail end v : ℕ) : Type 0 where
+  pub forest : Forest n above
+  pub each : (x : ℕ) → x < n → x < v → One (rootsOf above) x (getD joined x 0)
+  pub closing :
+      (parents : List ℕ) →
+      Closing n parents names numbers joined (rootsOf above₀) links₀ heads₀ firsts₀ seconds₀ tail tail →
+      Closing n parents names numbers joined (rootsOf above) links heads firsts seconds tail end
+
+module _ (n : ℕ) (names numbers joined above₀ links₀ heads₀ firsts₀ seconds₀ : List ℕ) (tail : ℕ) where
+  -- none joined yet
+  pub joining-none :
+      Forest n above₀ →
+      Joining n names numbers joined above₀ above₀ links₀ heads₀ links₀ heads₀ firsts₀ seconds₀ firsts₀ seconds₀ tail tail 0
+  joining-none forest =
+      record {
+        forest = forest;
+        each = λ x h none. let z : ⊥ = omega arith in absurd z;
+        closing = λ parents closing. closing;
+      }
+
+  module _ (above links heads firsts seconds : List ℕ) (end v : ℕ) (labelled : Labelled n joined)
+      (so-far : Joining n names numbers joined above₀ above links₀ heads₀ links heads firsts₀ seconds₀ firsts seconds tail end v)
+    where
+      -- v stands right below its label already
+      pub joining-skipped :
+          v < n → getD above v 0 ≡ getD joined v 0 →
+          Joining n names numbers joined above₀ above links₀ heads₀ links heads firsts₀ seconds₀ firsts seconds tail end (v + 1)
+      joining-skipped inside same =
+          record {
+            forest = so-far .forest;
+            each = λ x h low. each x h low (eq-dec x v);
+            closing = so-far .closing;
+          }
+        where
+          here : One (rootsOf above) v (getD joined v 0)
+          here =
+              roots-at n above (so-far .forest) v inside ∙ root-up n above (so-far .forest) v inside
+              ∙ sym (roots-at n above (so-far .forest) (getD above v 0)
+              (subst (λ (x : ℕ). x < n) (sym same) (label-inside n joined v labelled inside)))
+              ∙ ap (λ (x : ℕ). getD (rootsOf above) x 0) same
+
+          each :
+              (x : ℕ) → x < n → x < v + 1 → (x ≡ v) ⊎ (x ≡ v → ⊥) → One (rootsOf above) x (getD joined x 0)
+          each x h low (inl e) = subst (λ (y : ℕ). One (rootsOf above) y (getD joined y 0)) (sym e) here
+          each x h low (inr d) = so-far .each x h (omega arith)
+
+      -- v and its label are joined
+      pub joining-more :
+          (above′ links′ heads′ firsts′ seconds′ : List ℕ) (w end′ : ℕ) → v < n → w ≡ getD joined v 0 →
+          JoinedPair (length above) names numbers above above′ links heads links′ heads′ firsts seconds firsts′ seconds′ v w end
+          end′ →
+          Joining n names numbers joined above₀ above′ links₀ heads₀ links′ heads′ firsts₀ seconds₀ firsts′ seconds′ tail end′
+          (v + 1)
+      joining-more above′ links′ heads′ firsts′ seconds′ w end′ inside label pair₀ =
+          go
+          (pair-by-states n names numbers above above′ links heads links′ heads′ firsts seconds firsts′ seconds′ v w end end′
+          (so-far .forest .size) pair₀)
+        where
+          go :
+              JoinedPair n names numbers above above′ links heads links′ heads′ firsts seconds firsts′ seconds′ v w end end′ →
+              Joining n names numbers joined above₀ above′ links₀ heads₀ links′ heads′ firsts₀ seconds₀ firsts′ seconds′ tail end′
+              (v + 1)
+          go pair =
+              record {
+                forest = pair .forest;
+                each = λ x h low. each x h low (eq-dec x v);
+                closing = λ parents before.
+                    pair .closing parents joined tail
+                    (λ closed by refines.
+                    subst (One closed v) (sym label)
+                    (refines v (getD joined v 0) inside (label-inside n joined v labelled inside) (sym (labelled .own v inside))))
+                    (so-far .closing parents before);
+              }
+            where
+              each :
+                  (x : ℕ) → x < n → x < v + 1 → (x ≡ v) ⊎ (x ≡ v → ⊥) → One (rootsOf above′) x (getD joined x 0)
+              each x h low (inl e) =
+                  subst (λ (y : ℕ). One (rootsOf above′) y (getD joined y 0)) (sym e)
+                  (subst (One (rootsOf above′) v) label (pair .one))
+              each x h low (inr d) =
+                  pair .coarser x (getD joined x 0) h (label-inside n joined x labelled h) (so-far .each x h (omega arith))
+
+      -- all states are joined with their labels
+      pub joining-all :
+          n ≤ v →
+          JoinedAll n names numbers joined above₀ above links₀ heads₀ links heads firsts₀ seconds₀ firsts seconds tail end
+      joining-all over =
+          record {
+            forest = so-far .forest;
+            coarser = λ x y hx hy e.
+                so-far .each x hx (omega arith) ∙ ap (λ (z : ℕ). getD (rootsOf above) z 0) e
+                ∙ sym (so-far .each y hy (omega arith));
+            closing = so-far .closing;
+          }
