@@ -11,19 +11,11 @@ use lib.Bits.{bitOr}
 use lib.ListN.{length, getD}
 use Rattle.model.specs.Limits.{name-limit, state-limit}
 use Rattle.indexed.specs.Trees.{SameSuffix, up}
-use Rattle.indexed.specs.Partitions.{Refines, Labelled, KeyClosed, ForkClosed, ContextClosed, EndsClosed, BackClosed, sum}
+use Rattle.indexed.specs.Partitions.{Refines, Labelled, ForkClosed, ContextClosed, EndsClosed, BackClosed, sum}
 
 -- every state of group y put into group x
 unfoldable pub relabelled : ℕ → ℕ → List ℕ → List ℕ
 relabelled x y groups = map (λ (g : ℕ). cond (eqb g y) x g) groups
-
--- a pass along arcs with keys
-pub record Passed (n : ℕ) (ins outs keys groups groups′ : List ℕ) (joined : Bool) : Type 0 where
-  pub labelled : Labelled n groups′
-  pub coarser : Refines n groups groups′
-  pub sound : (others : List ℕ) → KeyClosed n ins outs keys others → Refines n groups others → Refines n groups′ others
-  pub none : joined ≡ false → (groups′ ≡ groups) × KeyClosed n ins outs keys groups
-  pub some : joined ≡ true → sum groups′ < sum groups
 
 -- a sweep over pairs of groups that m names leave in common
 pub record Swept (n h m : ℕ) (parents names groups groups′ : List ℕ) (joined : Bool) : Type 0 where
