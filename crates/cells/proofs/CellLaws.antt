@@ -67,18 +67,8 @@ pub cell-other-row : (work : List ℕ) (row column value row' column' : ℕ) →
     → cellAt (withCell work row column value) row' column' ≡ cellAt work row' column'
 cell-other-row work row column value row' column' c c' h = cell-other work row column value row' column' c c' (λ e _. h e)
 
-pub cell-other-column : (work : List ℕ) (row column value row' column' : ℕ) → column < column-count → column' < column-count
-    → (column' ≡ column → ⊥)
-    → cellAt (withCell work row column value) row' column' ≡ cellAt work row' column'
-cell-other-column work row column value row' column' c c' h = cell-other work row column value row' column' c c' (λ _ e. h e)
-
 -- a byte of an area of zeros, and past its end, is 0
 byte-zeros : (n k : ℕ) → getD (zeros n) k 0 ≡ 0
 byte-zeros zero k = refl
 byte-zeros (suc n) zero = refl
 byte-zeros (suc n) (suc k) = byte-zeros n k
-
-pub cell-zeros : (n row column : ℕ) → cellAt (zeros n) row column ≡ 0
-unfolding cellAt
-cell-zeros n row column =
-    ap₂ (λ (a b : ℕ). 256 * a + b) (byte-zeros n (128 * row + 2 * column)) (byte-zeros n (128 * row + 2 * column + 1))

@@ -12,7 +12,6 @@ use lib.Seq.{getD-set-same, getD-set-other}
 use Rattle.model.proofs.Tests.{eq-dec}
 use Rattle.model.specs.Limits.{state-limit}
 use Rattle.indexed.specs.Partitions.{Labelled, sum}
-use Rattle.contexts.specs.Climbs.{Above}
 use Rattle.contexts.specs.Distances.{UnchangedAt, SpreadAt, SpreadFrom, Spread, Marking, Lowering, Fallen}
 use Rattle.contexts.specs.Distances.{MarkedAt, MarkedBelow, Lowered}
 use Rattle.contexts.proofs.ChainLaws.{both-none, both-some}
@@ -218,17 +217,3 @@ replicate-low : (k d x : ℕ) → getD (replicate k d) x 0 ≤ d
 replicate-low zero d x = omega arith
 replicate-low (suc k) d zero = omega arith
 replicate-low (suc k) d (suc x) = replicate-low k d x
-
--- what marking needs, of an array of 8s
-pub marking-start :
-    (n : ℕ) (before groups : List ℕ) → n ≤ state-limit → length before ≡ n → Labelled n groups →
-    Marking n before groups (replicate 512 8)
-marking-start n before groups few before-size labelled =
-    record { few = few; before-size = before-size; labelled = labelled; size = refl }
-
--- what the passes need, of an array of 8s
-pub lowering-start :
-    (n : ℕ) (parents groups : List ℕ) → n ≤ state-limit → Above n parents → Labelled n groups →
-    Lowering n parents groups (replicate 512 8)
-lowering-start n parents groups few above labelled =
-    record { few = few; above = above; labelled = labelled; size = refl; limit = replicate-low 512 8 }

@@ -3,7 +3,6 @@
 use crate::STATE_LIMIT;
 use cells::numbers::narrow8;
 use cells::numbers::wide16;
-ghost use mathlib.Core.Path.{_≡_};
 ghost use Prim.Native.Nat.{_<_, _≤_};
 ghost use lib.ListN.{length};
 ghost use Rattle.contexts.specs.Distances.{Spread, SpreadAt, SpreadFrom, Marking, MarkedAt, MarkedBelow, Lowering, Lowered};

@@ -65,16 +65,3 @@ last-more d (y ∷ xs) x = last-more y xs x
 
 -- going through n fields by their offsets: with i of them passed and the next at offset a, what is left is that field and the rest
 module _ (s : List ℕ) (a n i : ℕ) (h : i < n) where
-  one-left : n - i ≡ suc (n - (i + 1))
-  one-left = omega arith
-
-  pub fields-left : fieldsAt s a (n - i) ≡ bodyAt s a ∷ fieldsAt s (nextAt s a) (n - (i + 1))
-  unfolding fieldsAt
-  fields-left = rw one-left
-
-  pub offset-left : offsetAt s a (n - i) ≡ offsetAt s (nextAt s a) (n - (i + 1))
-  unfolding offsetAt
-  offset-left = rw one-left
-
-  pub left-within : nextAt s a ≤ offsetAt s a (n - i)
-  left-within = rw offset-left (offset-above s (nextAt s a) (n - (i + 1)))

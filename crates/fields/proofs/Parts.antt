@@ -16,22 +16,13 @@ module _ (s : List ℕ) (p : Place) (sound : Sound s p) where
   pub length-names : length (fileOf s p .names) ≡ p .names
   length-names = length-fields s 0 (p .names)
 
-  pub length-items : length (fileOf s p .items) ≡ p .items
-  length-items = length-fields s (p .start) (p .items)
-
   -- the i-th name, and the i-th row or state, is the body at its offset
   pub name-at : (i : ℕ) → i < p .names → getD (fileOf s p .names) i [] ≡ bodyAt s (offsetAt s 0 i)
   name-at i h = field-at s 0 (p .names) i h
 
-  pub item-at : (i : ℕ) → i < p .items → getD (fileOf s p .items) i [] ≡ bodyAt s (offsetAt s (p .start) i)
-  item-at i h = field-at s (p .start) (p .items) i h
-
   -- and lies within the input, as offsets::body, body_len and next_field require
   pub name-within : (i : ℕ) → i < p .names → nextAt s (offsetAt s 0 i) ≤ length s
   name-within i h = omega (arith, field-within s 0 (p .names) i h, sound .names-within, sound .within)
-
-  pub item-within : (i : ℕ) → i < p .items → nextAt s (offsetAt s (p .start) i) ≤ length s
-  item-within i h = omega (arith, field-within s (p .start) (p .items) i h, sound .items-end, sound .within)
 
 -- the definition's answer, by the code's
 pub accepted-number : (class : Class) (kind : FileKind) (s : List ℕ) (p : Place) → ReadAs class kind s (Accepted p)

@@ -5,7 +5,6 @@ use Prim.Native.Nat.{ℕ}
 use lib.ListN.{length}
 use Rattle.model.specs.Lists.{numbersFrom}
 use Rattle.indexed.specs.Trees.{Arrays}
-use Rattle.indexed.specs.Partitions.{Labelled}
 use Rattle.indexed.specs.Passes.{ByEnds}
 use Rattle.worklist.specs.Settling.{RoundClosed, JoinedUntil}
 

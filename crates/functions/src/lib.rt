@@ -37,26 +37,11 @@ fn join_last_in(
         (now (groups .exit)) ⌝ }
 {
     suffixes::codes_and_names_above(j, parents, names, codes, keys);
-    rounds::finish(
-        parents,
-        names,
-        accepts,
-        codes,
-        keys,
-        none,
-        numbers,
-        groups,
-    );
+    rounds::finish(parents, names, accepts, codes, keys, none, numbers, groups);
 }
 
 // Joins by the last j names.
-pub fn join_by_last(
-    j: usize,
-    parents: &[u16],
-    names: &[u8],
-    accepts: &[u8],
-    groups: &mut [u16],
-)
+pub fn join_by_last(j: usize, parents: &[u16], names: &[u8], accepts: &[u8], groups: &mut [u16])
     requires few { ⌜ j ≤ setting-limit ⌝ }
     requires ready { ⌜ JoinReady (length (now groups)) (now parents) (now names) (now accepts) ⌝ }
     ensures { λ _.
@@ -116,12 +101,7 @@ fn join_seen_in(
 }
 
 // Joins by the set of names seen.
-pub fn join_by_seen(
-    parents: &[u16],
-    names: &[u8],
-    accepts: &[u8],
-    groups: &mut [u16],
-)
+pub fn join_by_seen(parents: &[u16], names: &[u8], accepts: &[u8], groups: &mut [u16])
     requires ready { ⌜ JoinReady (length (now groups)) (now parents) (now names) (now accepts) ⌝ }
     ensures { λ _.
         ⌜ JoinedBySeen (length (now (groups .entry))) (now (parents .entry)) (now (names .entry)) (now (accepts .entry))

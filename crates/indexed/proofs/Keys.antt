@@ -61,15 +61,6 @@ keys-forks n parents names groups arrays closed v w pv pw hv hw same-name one =
     let at-w : getD (numbersFrom n 0) w 0 ≡ w = number-at n w hw in
     rw (at-v, at-w) at (closed v w hv hw (arrays .name-below v pv hv) same-name one)
 
--- each state by itself
-pub apart-labelled : (n : ℕ) → Labelled n (numbersFrom n 0)
-apart-labelled n =
-    record {
-      size = numbers-length n 0;
-      low = λ v h. omega (arith, number-at n v h);
-      own = λ v h. ap (λ (x : ℕ). getD (numbersFrom n 0) x 0) (number-at n v h);
-    }
-
 pub relabelled-length : (x y : ℕ) (groups : List ℕ) → length (relabelled x y groups) ≡ length groups
 unfolding relabelled
 relabelled-length x y groups = length-map groups (λ (g : ℕ). cond (eqb g y) x g)

@@ -7,9 +7,8 @@ use mathlib.Core.List.{List, [], _∷_}
 use Prim.Native.Nat.{ℕ, zero, suc, _+_, _<_, _≤_}
 use native.Mathlib.Nat.{not-suc-le-zero}
 use native.Mathlib.Omega.{arith}
-use lib.ListN.{length, getD}
+use lib.ListN.{getD}
 use Rattle.model.proofs.Tests.{Tells}
-use Rattle.indexed.specs.Partitions.{Labelled}
 
 -- the first of n numbers from i that passes the test
 first : (ℕ → Bool) → ℕ → ℕ → ℕ
@@ -47,11 +46,6 @@ first-same test test′ (suc n) i agree =
 listed : (ℕ → ℕ) → ℕ → ℕ → List ℕ
 listed f zero i = []
 listed f (suc n) i = f i ∷ listed f n (suc i)
-
-listed-length : (f : ℕ → ℕ) (n i : ℕ) → length (listed f n i) ≡ n
-unfolding listed
-listed-length f zero i = refl
-listed-length f (suc n) i = ap suc (listed-length f n (suc i))
 
 listed-at : (f : ℕ → ℕ) (n i v : ℕ) → v < n → getD (listed f n i) v 0 ≡ f (i + v)
 unfolding listed
@@ -111,20 +105,3 @@ module _ (n : ℕ) (test : ℕ → ℕ → Bool) (R : ℕ → ℕ → Type 0) (e
           (λ t. equivalence .told w u .test (equivalence .transitive w v u back-r (equivalence .told v u .fact t)))
           (λ t. equivalence .told v u .test (equivalence .transitive v w u r (equivalence .told w u .fact t))) in
           label-at v hv ∙ first-same (test v) (test w) n 0 agree ∙ sym (label-at w hw)
-
-  pub labels-labelled : Labelled n (labels test n)
-  unfolding labels
-  labels-labelled =
-      record {
-        size = listed-length (λ (v : ℕ). first (test v) n 0) n 0;
-        low = λ v h. label-found v h .0;
-        own = own;
-      }
-    where
-      own : (v : ℕ) → v < n → getD (labels test n) (getD (labels test n) v 0) 0 ≡ getD (labels test n) v 0
-      own v h =
-          let found = label-found v h in
-          let low : getD (labels test n) v 0 ≤ v = found .0 in
-          let below : getD (labels test n) v 0 < n = omega arith in
-          labels-alike (getD (labels test n) v 0) v below h .1
-          (equivalence .symmetric v (getD (labels test n) v 0) (found .1))

@@ -125,10 +125,6 @@ mergedTo-cases x y g h e = go (decided (told-either x y g)) (decided (told-eithe
     go (inr p) (inl q) = inr (of-two g (sym (merged-neither x y g p) ∙ e ∙ merged-either x y h q), q)
     go (inr p) (inr q) = inl (sym (merged-neither x y g p) ∙ e ∙ merged-neither x y h q)
 
--- a merge makes x and y one, and keeps what was one
-pub mergedTo-joins : (x y : ℕ) → mergedTo x y x ≡ mergedTo x y y
-mergedTo-joins x y = merged-either x y x (inl refl) ∙ sym (merged-either x y y (inr refl))
-
 -- ---- groups are those of nodes
 
 -- the group of a node is one of the groups

@@ -11,10 +11,10 @@ use lib.ListN.{length}
 use Rattle.model.specs.Fields.{Class}
 use Rattle.model.specs.Classes.{Word}
 use Rattle.model.specs.Joinings.{Transition, transition, transitionsOf, groupsIn, forks, intoOne, byContext, fOfGroup}
-use Rattle.model.specs.Joinings.{byF, byRule, groupAccepts, Step, step, isOpen, stepsBetween, openSteps, isFull}
+use Rattle.model.specs.Joinings.{byF, byRule, groupAccepts, step, isOpen, stepsBetween, openSteps, isFull}
 use Rattle.model.proofs.Tests.{Tells, tells-eqb, tells-same, tells-and, tells-or, tells-not, tells-by, tells-anyTwo}
 use Rattle.model.proofs.Tests.{tells-isIn, tells-itself, eq-dec}
-use Rattle.model.proofs.Lists.{in-flatMap, in-filterBy, filterBy-in}
+use Rattle.model.proofs.Lists.{in-flatMap, in-filterBy}
 use Rattle.model.proofs.Groups.{in-groupsIn, groupsIn-in}
 use Rattle.model.proofs.Contexts.{paths-from}
 pub use Rattle.model.proofs.Contexts.{TwoPaths, tells-context}
@@ -184,14 +184,6 @@ in-openSteps c rows nodes groups x y o =
     (in-stepsBetween (groupsIn groups) (groupsIn groups) x y
     (in-groupsIn groups x (o .left-in)) (in-groupsIn groups y (o .right-in)))
     (tells-open c rows nodes groups x y .test o)
-
-pub openSteps-in :
-    (c : Class) (rows nodes : List Word) (groups : List ℕ) (s : Step) → In s (openSteps c rows nodes groups) →
-    Open c rows nodes groups (s .left) (s .right)
-unfolding openSteps
-openSteps-in c rows nodes groups s m =
-    tells-open c rows nodes groups (s .left) (s .right) .fact
-    (filterBy-in (isOpen c rows nodes groups) (stepsBetween (groupsIn groups) (groupsIn groups)) m .1)
 
 -- a list of length 0 has no element
 none-in : {A : Type 0} {x : A} (xs : List A) → In x xs → length xs ≡ 0 → ⊥

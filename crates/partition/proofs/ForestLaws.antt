@@ -75,11 +75,6 @@ module _ (n : ℕ) (above : List ℕ) (forest : Forest n above) where
       by-ways (λ (w : ℕ). rootOf above w ≡ f w) (λ w hw e. root-own above w e ∙ sym (own w hw e))
       (λ w hw lower rest. root-up w hw ∙ rest ∙ same w hw) (suc v) v (omega arith) h
 
-  pub root-low : (v : ℕ) → v < n → rootOf above v ≤ v
-  root-low v h =
-      by-ways (λ (w : ℕ). rootOf above w ≤ w) (λ w hw e. omega (arith, root-own above w e))
-      (λ w hw lower rest. omega (arith, root-up w hw)) (suc v) v (omega arith) h
-
   -- a root is above itself
   pub root-root : (v : ℕ) → v < n → getD above (rootOf above v) 0 ≡ rootOf above v
   root-root v h =
@@ -101,19 +96,6 @@ module _ (n : ℕ) (above : List ℕ) (forest : Forest n above) where
       ext-getD 0 (rootsOf above) list (same ∙ sym size)
       (λ v h. let inside : v < n = omega arith in
       roots-at v inside ∙ each v inside)
-
-  pub roots-labelled : Labelled n (rootsOf above)
-  roots-labelled =
-      record {
-        size = roots-length above ∙ forest .size;
-        low = λ v h. omega (arith, roots-at v h, root-low v h);
-        own = own;
-      }
-    where
-      own : (v : ℕ) → v < n → getD (rootsOf above) (getD (rootsOf above) v 0) 0 ≡ getD (rootsOf above) v 0
-      own v h =
-          let inside : rootOf above v < n = omega (arith, root-low v h) in
-          rw (roots-at v h) (roots-at (rootOf above v) inside ∙ root-own above (rootOf above v) (root-root v h))
 
 -- another forest in which each state stands below a state of the same root, and no state is a root that was none
 pub same-roots :

@@ -80,9 +80,6 @@ module _ {n : ℕ} {met numbers : List ℕ} {count target : ℕ} {after : List �
   pub meet-room : getD numbers target 0 ≡ state-limit → count < n
   meet-room h = omega (arith, after-length h, r .fits)
 
-  pub meet-target : target < n
-  meet-target = r .target-low
-
   pub meet-new :
       getD numbers target 0 ≡ state-limit → (t k : ℕ) → t ≡ target → k ≡ count →
       MetAs n (set met count t) (set numbers target k) (count + 1) after

@@ -4,7 +4,7 @@ use mathlib.Core.Path.{_≡_, refl, sym, ap, _∙_}
 use mathlib.Core.List.{List, [], _∷_, _++_, flatMap, append-nil, append-assoc}
 use Prim.Native.Nat.{ℕ, _+_, _*_, _/_, _%_}
 use native.Mathlib.Omega.{arith}
-use lib.ListN.{length, take}
+use lib.ListN.{length}
 use Rattle.model.specs.Fields.{Class}
 use Rattle.model.specs.Tables.{Arc, State, fieldBytes, classField, arcBytes, stateBody, stateFields}
 use Rattle.model.proofs.StateBodies.{body-length}
@@ -15,9 +15,6 @@ unfolding fieldBytes stateBody
 state-bytes s =
     let size : length (stateBody s) ≡ 1 + 3 * length (s .arcs) = omega (arith, body-length s) in
     ap (λ (n : ℕ). 4 ∷ (n / 256 ∷ (n % 256 ∷ stateBody s))) size
-
-pub state-head : (s : State) → take 4 (fieldBytes 4 (stateBody s)) ≡ stateHead (s .accepts) (length (s .arcs))
-state-head s = ap (take 4) (state-bytes s)
 
 pub state-bytes-length : (s : State) → length (fieldBytes 4 (stateBody s)) ≡ 4 + 3 * length (s .arcs)
 unfolding fieldBytes
