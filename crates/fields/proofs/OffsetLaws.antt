@@ -62,6 +62,3 @@ pub last-more : (d : List ℕ) (xs : List (List ℕ)) (x : List ℕ) → lastOr 
 unfolding lastOr
 last-more d [] x = refl
 last-more d (y ∷ xs) x = last-more y xs x
-
--- going through n fields by their offsets: with i of them passed and the next at offset a, what is left is that field and the rest
-module _ (s : List ℕ) (a n i : ℕ) (h : i < n) where
