@@ -1,5 +1,5 @@
 -- Fields by their offsets: what the code reads at an offset; offsets rise; a run of fields has its number of fields, and the i-th is
--- the one at the i-th offset; a run grows at its end, and is gone through from its front. Assumes nothing.
+-- the one at the i-th offset; a run grows at its end. Assumes nothing.
 use mathlib.Core.Path.{_≡_, refl, ap}
 use mathlib.Core.List.{List, [], _∷_, _++_}
 use Prim.Native.Nat.{ℕ, zero, suc, _+_, _*_, _-_, _≤_, _<_}

@@ -1,6 +1,6 @@
--- What the passes of a joining promise, each by itself: it joins only what every closed partition joins; where it joined
--- nothing, the partition is closed; where it joined, a sum fell. So passes may be run in any order, and a faster one may take
--- a plainer one's place. Assumes nothing.
+-- What the parts of a joining promise, each by itself: it joins only what every closed partition joins; a sweep that joined nothing
+-- found the partition closed, and one that joined made a sum fall. So a faster part may take a plainer one's place. Assumes
+-- nothing.
 use mathlib.Core.Path.{_≡_}
 use mathlib.Core.Logic.{_⊎_, _↔_}
 use mathlib.Core.Bool.{Bool, true, false, cond, Bool·beq}
