@@ -26,34 +26,30 @@ fills-of c = c .before .before .before .before .before .before .before .before .
 abbrev settles-of : tie.After-flatten-arg → tie.After-settle
 settles-of c = c .before .before .before
 
--- with all lists filled every pair is pending
-filled :
-    (fills : tie.After-fill-all) → let at = entry (fills .before) in
+-- with all lists filled every pair is pending, the partition given by its labels
+abbrev Pending : tie.After-fill-all → List ℕ → Type 0
+Pending fills groups =
+    let at = entry (fills .before) in
     let last = fills .fill-all .last in
     Settling (length (at .args .groups .now)) (at .args .parents .now) (at .args .names .now) (at .args .numbers .now)
-    (at .args .keys .now) (at .args .more .now) (at .args .groups .now) (at .args .groups .now)
-    (last .1 .1 .1 .1 .1 .1 .0) (last .1 .1 .1 .1 .1 .1 .1 .0) (last .1 .1 .1 .1 .1 .1 .1 .1 .0)
-    (last .1 .1 .1 .1 .1 .1 .1 .1 .1 .0) (last .1 .1 .1 .1 .1 .1 .1 .1 .1 .1 .0) (last .1 .1 .1 .1 .1 .1 .1 .1 .1 .1 .1 .0)
+    (at .args .keys .now) (at .args .more .now) (at .args .groups .now) groups (last .1 .1 .1 .1 .1 .1 .0)
+    (last .1 .1 .1 .1 .1 .1 .1 .0) (last .1 .1 .1 .1 .1 .1 .1 .1 .0) (last .1 .1 .1 .1 .1 .1 .1 .1 .1 .0)
+    (last .1 .1 .1 .1 .1 .1 .1 .1 .1 .1 .0) (last .1 .1 .1 .1 .1 .1 .1 .1 .1 .1 .1 .0)
     (last .1 .1 .1 .1 .1 .1 .1 .1 .1 .1 .1 .1 .0) (last .1 .1 .1 .1 .1 .1 .1 .1 .1 .1 .1 .1 .1 .0) 0 (fills .fill-all .result)
+
+-- as it is, and as a forest
+filled : (fills : tie.After-fill-all) → Pending fills (entry (fills .before) .args .groups .now)
 filled fills =
     let at = entry (fills .before) in
     let last = fills .fill-all .last in
     settling-filled (length (at .args .groups .now)) (at .args .parents .now) (at .args .names .now) (at .args .numbers .now)
     (at .args .keys .now) (at .args .more .now) (at .args .groups .now) (last .1 .1 .1 .1 .1 .1 .0)
     (last .1 .1 .1 .1 .1 .1 .1 .0) (last .1 .1 .1 .1 .1 .1 .1 .1 .0) (last .1 .1 .1 .1 .1 .1 .1 .1 .1 .0)
-    (last .1 .1 .1 .1 .1 .1 .1 .1 .1 .1 .0) (last .1 .1 .1 .1 .1 .1 .1 .1 .1 .1 .1 .0) (at .args .firsts .now) (at .args .seconds .now)
-    (last .1 .1 .1 .1 .1 .1 .1 .1 .1 .1 .1 .1 .0) (last .1 .1 .1 .1 .1 .1 .1 .1 .1 .1 .1 .1 .1 .0) (fills .fill-all .result)
-    (at .pre .0) (at .pre .1 .1 .1 .1) (fills .fill-all .ensures)
+    (last .1 .1 .1 .1 .1 .1 .1 .1 .1 .1 .0) (last .1 .1 .1 .1 .1 .1 .1 .1 .1 .1 .1 .0) (at .args .firsts .now)
+    (at .args .seconds .now) (last .1 .1 .1 .1 .1 .1 .1 .1 .1 .1 .1 .1 .0) (last .1 .1 .1 .1 .1 .1 .1 .1 .1 .1 .1 .1 .1 .0)
+    (fills .fill-all .result) (at .pre .0) (at .pre .1 .1 .1 .1) (fills .fill-all .ensures)
 
--- the same, with the partition as a forest
-pending :
-    (fills : tie.After-fill-all) → let at = entry (fills .before) in
-    let last = fills .fill-all .last in
-    Settling (length (at .args .groups .now)) (at .args .parents .now) (at .args .names .now) (at .args .numbers .now)
-    (at .args .keys .now) (at .args .more .now) (at .args .groups .now) (rootsOf (at .args .groups .now))
-    (last .1 .1 .1 .1 .1 .1 .0) (last .1 .1 .1 .1 .1 .1 .1 .0) (last .1 .1 .1 .1 .1 .1 .1 .1 .0)
-    (last .1 .1 .1 .1 .1 .1 .1 .1 .1 .0) (last .1 .1 .1 .1 .1 .1 .1 .1 .1 .1 .0) (last .1 .1 .1 .1 .1 .1 .1 .1 .1 .1 .1 .0)
-    (last .1 .1 .1 .1 .1 .1 .1 .1 .1 .1 .1 .1 .0) (last .1 .1 .1 .1 .1 .1 .1 .1 .1 .1 .1 .1 .1 .0) 0 (fills .fill-all .result)
+pending : (fills : tie.After-fill-all) → Pending fills (rootsOf (entry (fills .before) .args .groups .now))
 pending fills =
     let at = entry (fills .before) in
     let last = fills .fill-all .last in
