@@ -161,6 +161,17 @@ module _ (n : ℕ) (parents names numbers : List ℕ) where
       none : (others : List ℕ) → Joins firsts seconds tail tail others
       none others i low high = let z : ⊥ = omega arith in absurd z
 
+  -- the lists filled, and no pair queued: forks are closed already
+  pub filled-closed :
+      (groups links heads firsts seconds firsts′ seconds′ : List ℕ) (tail : ℕ) → tail ≡ 0 → ForksReady n parents names numbers →
+      Labelled n groups → QueueRoom firsts seconds →
+      Filled n parents numbers names groups links heads firsts seconds firsts′ seconds′ 0 tail →
+      KeptClosed n parents names numbers groups groups links heads firsts′ seconds′ tail
+  filled-closed groups links heads firsts seconds firsts′ seconds′ tail end ready labelled queue filled =
+      kept-closed groups groups links heads firsts′ seconds′ tail (λ x y hx hy e. e)
+      (subst (λ (done : ℕ). Closing n parents names numbers groups groups links heads firsts′ seconds′ done tail) (sym end)
+      (closing-filled groups links heads firsts seconds firsts′ seconds′ tail ready labelled queue filled))
+
   -- ---- one pair
 
   -- the pair at `done` is in one group: it is pending no more

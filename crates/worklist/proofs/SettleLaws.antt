@@ -40,7 +40,8 @@ pub fill-asked :
     × ((tail + length groups ≤ pair-limit)
     × ((length links ≡ state-limit)
     × ((length heads ≡ state-limit) × ((length firsts ≡ pair-limit) × (length seconds ≡ pair-limit)))))))))))
-fill-asked ins outs keys groups links heads firsts seconds tail few sized-ins sized-outs sized-keys below labelled room none queue =
+fill-asked ins outs keys groups links heads firsts seconds tail few sized-ins sized-outs sized-keys below labelled room none
+    queue =
     let sizes : (length firsts ≡ pair-limit) × (length seconds ≡ pair-limit) = (queue .firsts-size, queue .seconds-size) in
     let lists : (length links ≡ state-limit)
     × ((length heads ≡ state-limit) × ((length firsts ≡ pair-limit) × (length seconds ≡ pair-limit))) =

@@ -1,6 +1,7 @@
 // Joins until closed, by a queue of pairs of states. For each group one arc of each key is kept, in lists by ascending key; where
 // two groups become one their lists are merged, and two arcs of one key put a pair into the queue. There are three kinds of arcs:
-// along the tree's arcs by their names, and two sets of keys against them; links1 and heads1 are the lists of the first, and so on.
+// along the tree's arcs by their names, and two sets of keys against them; links1 and heads1 are the lists of the first, and so
+// on.
 pub mod forks;
 pub mod lists;
 
@@ -32,7 +33,8 @@ fn fill_all(
     firsts: &mut [u16; 1536],
     seconds: &mut [u16; 1536],
 ) -> usize
-    requires ready { ⌜ RoundReady (length (now groups)) (now parents) (now names) (now numbers) (now keys) (now more) (now groups) ⌝ }
+    requires ready { ⌜ RoundReady (length (now groups)) (now parents) (now names) (now numbers) (now keys) (now more)
+        (now groups) ⌝ }
     requires no_forks { ⌜ NoLists (now links1) (now heads1) ⌝ }
     requires no_backs { ⌜ NoLists (now links2) (now heads2) ⌝ }
     requires no_others { ⌜ NoLists (now links3) (now heads3) ⌝ }
@@ -285,6 +287,74 @@ fn settle(
     }
 }
 
+// What `close` does, with its arrays made. Where no pair is queued the partition is closed as it is, and is left.
+fn close_in(
+    parents: &[u16],
+    names: &[u8],
+    numbers: &[u16],
+    keys: &[u8],
+    more: &[u8],
+    groups: &mut [u16],
+    links1: &mut [u16; 512],
+    heads1: &mut [u16; 512],
+    links2: &mut [u16; 512],
+    heads2: &mut [u16; 512],
+    links3: &mut [u16; 512],
+    heads3: &mut [u16; 512],
+    firsts: &mut [u16; 1536],
+    seconds: &mut [u16; 1536],
+)
+    requires ready { ⌜ RoundReady (length (now groups)) (now parents) (now names) (now numbers) (now keys) (now more)
+        (now groups) ⌝ }
+    requires no_forks { ⌜ NoLists (now links1) (now heads1) ⌝ }
+    requires no_backs { ⌜ NoLists (now links2) (now heads2) ⌝ }
+    requires no_others { ⌜ NoLists (now links3) (now heads3) ⌝ }
+    requires queue { ⌜ QueueRoom (now firsts) (now seconds) ⌝ }
+    ensures { λ _.
+        ⌜ JoinedUntil
+        (RoundClosed (length (now (groups .entry))) (now (parents .entry)) (now (names .entry)) (now (numbers .entry))
+        (now (keys .entry)) (now (more .entry)))
+        (length (now (groups .entry))) (now (groups .entry)) (now (groups .exit)) ⌝ }
+{
+    let tail = fill_all(
+        parents,
+        names,
+        numbers,
+        keys,
+        more,
+        groups,
+        links1,
+        heads1,
+        links2,
+        heads2,
+        links3,
+        heads3,
+        firsts,
+        seconds,
+    );
+    if tail == 0 {
+        return;
+    }
+    settle(
+        parents,
+        names,
+        numbers,
+        keys,
+        more,
+        groups,
+        links1,
+        heads1,
+        links2,
+        heads2,
+        links3,
+        heads3,
+        firsts,
+        seconds,
+        tail,
+    );
+    forest::flatten(groups);
+}
+
 // Joins groups until the partition is closed under forks and under both sets of keys against the arcs.
 pub fn close(
     parents: &[u16],
@@ -294,7 +364,8 @@ pub fn close(
     more: &[u8],
     groups: &mut [u16],
 )
-    requires ready { ⌜ RoundReady (length (now groups)) (now parents) (now names) (now numbers) (now keys) (now more) (now groups) ⌝ }
+    requires ready { ⌜ RoundReady (length (now groups)) (now parents) (now names) (now numbers) (now keys) (now more)
+        (now groups) ⌝ }
     ensures { λ _.
         ⌜ JoinedUntil
         (RoundClosed (length (now (groups .entry))) (now (parents .entry)) (now (names .entry)) (now (numbers .entry))
@@ -309,7 +380,7 @@ pub fn close(
     let mut heads3 = [0u16; 512];
     let mut firsts = [0u16; 1536];
     let mut seconds = [0u16; 1536];
-    let tail = fill_all(
+    close_in(
         parents,
         names,
         numbers,
@@ -325,22 +396,4 @@ pub fn close(
         &mut firsts,
         &mut seconds,
     );
-    settle(
-        parents,
-        names,
-        numbers,
-        keys,
-        more,
-        groups,
-        &mut links1,
-        &mut heads1,
-        &mut links2,
-        &mut heads2,
-        &mut links3,
-        &mut heads3,
-        &mut firsts,
-        &mut seconds,
-        tail,
-    );
-    forest::flatten(groups);
 }

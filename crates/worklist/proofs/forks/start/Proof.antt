@@ -1,4 +1,5 @@
--- `forks::start` meets its contract: the lists are filled, all pairs joined, and the forest is flattened. Assumes nothing.
+-- `forks::start` meets its contract: the lists are filled; where no pair is queued forks are closed already; else all pairs are
+-- joined, and the forest is flattened. Assumes nothing.
 use mathlib.Core.Path.{refl}
 use native.Mathlib.Omega.{arith}
 use lib.ListN.{length}
@@ -9,7 +10,7 @@ use Rattle.worklist.specs.Forks.{Closing}
 use Rattle.worklist.proofs.KindLaws.{own-size}
 use Rattle.worklist.proofs.RootLaws.{forest-again}
 use Rattle.worklist.proofs.SettleLaws.{fill-asked}
-use Rattle.worklist.proofs.ForkLaws.{opening-filled}
+use Rattle.worklist.proofs.ForkLaws.{opening-filled, filled-closed}
 use Rattle.worklist.proofs.ForkRounds.{flat-coarser, round-ended}
 use Rattle.worklist.proofs.forks.start.Statement.{statement}
 use Rattle.worklist.proofs.forks.start.Tie as tie
@@ -19,7 +20,7 @@ abbrev entry : tie.After-fill-arg5 → tie.Start
 entry c = c .before .before .before .before .before .before .before .before .before
 
 abbrev fills-of : tie.After-settle-arg5 → tie.After-fill
-fills-of c = c .before .before .before .before .before
+fills-of c = c .before .before .before .before .before .before
 
 abbrev settles-of : tie.After-flatten-arg → tie.After-settle
 settles-of c = c .before .before .before
@@ -48,6 +49,19 @@ fill-requires c κs =
     (ready .parents-size) (own-size (length (at .args .groups .now)) (at .args .numbers .now) (ready .own)) (ready .names-size)
     (ready .parents-below) (at .pre .1 .0) (omega (arith, ready .few)) (at .pre .1 .1 .0) (at .pre .1 .1 .1)
 
+same-length : tie.Need-same-length
+same-length c = search needs
+
+returns : tie.Need-returns
+returns c =
+    let fills = c .before in
+    let at = entry (fills .before) in
+    let last = fills .fill .last in
+    filled-closed (length (at .args .groups .now)) (at .args .parents .now) (at .args .names .now) (at .args .numbers .now)
+    (at .args .groups .now) (last .1 .1 .1 .1 .0) (last .1 .1 .1 .1 .1 .0) (at .args .firsts .now) (at .args .seconds .now)
+    (last .1 .1 .1 .1 .1 .1 .0) (last .1 .1 .1 .1 .1 .1 .1 .0) (fills .fill .result) (omega (arith, c .if1 .taken))
+    (at .pre .0) (at .pre .1 .0) (at .pre .1 .1 .1) (fills .fill .ensures)
+
 settle-requires : tie.Need-settle-requires
 settle-requires c κs =
     let fills = fills-of c in
@@ -62,11 +76,11 @@ flatten-requires c κs =
     let at = entry (fills-of (settles .before) .before) in
     forest-again (length (at .args .groups .now)) (settles .settle .last .1 .1 .0) (settles .settle .ensures .forest)
 
-same-length : tie.Need-same-length
-same-length c = search needs
+same-length-2 : tie.Need-same-length-2
+same-length-2 c = search needs
 
-returns : tie.Need-returns
-returns c =
+returns-2 : tie.Need-returns-2
+returns-2 c =
     let flat = c .before .before in
     let settles = settles-of (flat .before) in
     let fills = fills-of (settles .before) in
@@ -82,4 +96,13 @@ returns c =
     (settles .settle .ensures)
 
 pub start-spec : {M : Type 1} → statement M
-start-spec = tie.close (tie.spec fill-requires settle-requires flatten-requires same-length returns)
+start-spec =
+    tie.close
+    (tie.spec
+    fill-requires
+    same-length
+    returns
+    settle-requires
+    flatten-requires
+    same-length-2
+    returns-2)
