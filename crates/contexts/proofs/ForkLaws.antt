@@ -1,19 +1,19 @@
--- Laws of forks joined: where no state has a key, nothing is joined but forks; and a coarser partition has no greater sum.
--- Assumes nothing.
-use mathlib.Core.Path.{_≡_, refl, sym, _∙_, subst}
+-- Laws of forks joined: what is closed along the arcs by the states' own numbers has no forks; and a coarser partition has no
+-- greater sum. Assumes nothing.
+use mathlib.Core.Path.{_≡_, sym, _∙_, subst}
 use mathlib.Core.List.{List, [], _∷_}
-use Prim.Native.Nat.{ℕ, zero, suc, _<_, _≤_}
-use native.Mathlib.Nat.{not-suc-le-zero}
+use Prim.Native.Nat.{ℕ, suc, _<_, _≤_}
 use native.Mathlib.Omega.{arith}
-use lib.ListN.{length, getD, take, replicate}
+use lib.ListN.{length, getD, replicate, length-replicate}
 use Rattle.model.specs.Lists.{numbersFrom}
 use Rattle.indexed.specs.Trees.{Arrays}
 use Rattle.indexed.specs.Partitions.{Refines, Labelled, KeyClosed, ForkClosed, sum}
 use Rattle.indexed.proofs.Keys.{forks-keys, keys-forks}
+use Rattle.indexed.proofs.Chains.{heads-none}
 use Rattle.indexed.proofs.Suffixes.{parent-below}
-use Rattle.indexed.proofs.Fills.{front-length}
-use Rattle.worklist.specs.Settling.{RoundReady as CloseReady, RoundClosed, JoinedUntil}
-use Rattle.contexts.specs.Rounds.{NoKeys, ForksJoined}
+use Rattle.worklist.specs.Settling.{JoinedUntil, NoLists, QueueRoom}
+use Rattle.worklist.specs.Forks.{ForksReady, Kept, KeptClosed}
+use Rattle.contexts.specs.Rounds.{ForksJoined, ForksKept}
 
 -- numbers that are each no higher have no higher sum
 sum-low :
@@ -40,62 +40,74 @@ coarser-sum n groups groups′ labelled labelled′ coarser =
         coarser (getD groups v 0) v hg hv (labelled .own v hv) in
         omega (arith, labelled′ .low (getD groups v 0) hg)
 
--- the front of an array of one number
-front-same : (n k d v : ℕ) → n ≤ k → v < n → getD (take n (replicate k d)) v 0 ≡ d
-front-same zero k d v fits h = absurd (not-suc-le-zero h)
-front-same (suc n) zero d v fits h = absurd (not-suc-le-zero fits)
-front-same (suc n) (suc k) d zero fits h = refl
-front-same (suc n) (suc k) d (suc v) fits h = front-same n k d v (omega arith) (omega arith)
+-- arrays of zeros are lists without arcs
+pub no-lists : NoLists (replicate 512 0) (replicate 512 0)
+no-lists =
+    record {
+      links-size = length-replicate {A = ℕ} 512 0;
+      heads-size = length-replicate {A = ℕ} 512 0;
+      empty = heads-none 512;
+    }
 
--- the front of an array of 64s has no keys
-pub front-no-keys : (n : ℕ) → n ≤ 512 → NoKeys n (take n (replicate 512 64))
-front-no-keys n fits =
-    record { size = front-length n (replicate 512 64) fits; none = λ v h. front-same n 512 64 v fits h }
+-- and a queue with room for all pairs
+pub no-pairs : QueueRoom (replicate 1536 0) (replicate 1536 0)
+no-pairs = record { firsts-size = length-replicate {A = ℕ} 1536 0; seconds-size = length-replicate {A = ℕ} 1536 0 }
 
--- every partition is closed along arcs without keys
-no-keys-closed : (n : ℕ) (ins outs keys groups : List ℕ) → NoKeys n keys → KeyClosed n ins outs keys groups
-no-keys-closed n ins outs keys groups none v w hv hw below same one =
-    let z : ⊥ = omega (arith, none .none v hv) in
-    absurd z
+-- what is coarser than a partition is coarser than its copy
+pub copied-coarser : (n : ℕ) (kept groups groups′ : List ℕ) → kept ≡ groups → Refines n groups groups′ → Refines n kept groups′
+copied-coarser n kept groups groups′ same coarser = subst (λ (l : List ℕ). Refines n l groups′) (sym same) coarser
 
-module _ (n : ℕ) (parents names numbers keys : List ℕ) (arrays : Arrays n parents names) (own : numbers ≡ numbersFrom n 0)
-    (none : NoKeys n keys) where
-  -- what joining until closed needs
-  pub forks-ready : (groups : List ℕ) → Labelled n groups → CloseReady n parents names numbers keys keys groups
-  forks-ready groups labelled =
+module _ (n : ℕ) (parents names numbers : List ℕ) (arrays : Arrays n parents names) (own : numbers ≡ numbersFrom n 0) where
+  -- what closing forks needs
+  pub forks-ready : ForksReady n parents names numbers
+  forks-ready =
       record {
         few = arrays .few-states;
         parents-size = arrays .parents-size;
         names-size = arrays .names-size;
-        keys-size = none .size;
-        more-size = none .size;
         parents-below = parent-below n parents names arrays;
         own = own;
-        labelled = labelled;
       }
 
-  -- a partition closed under forks is closed along arcs of all three kinds
-  all-closed : (others : List ℕ) → ForkClosed n parents names others → RoundClosed n parents names numbers keys keys others
-  all-closed others closed =
-      record {
-        forks =
-            subst (λ (l : List ℕ). KeyClosed n parents l names others) (sym own)
-            (forks-keys n parents names others arrays closed);
-        backs = no-keys-closed n numbers parents keys others none;
-        others = no-keys-closed n numbers parents keys others none;
-      }
+  -- a partition without forks is closed along the arcs
+  forks-closed : (others : List ℕ) → ForkClosed n parents names others → KeyClosed n parents numbers names others
+  forks-closed others closed =
+      subst (λ (l : List ℕ). KeyClosed n parents l names others) (sym own) (forks-keys n parents names others arrays closed)
 
   -- what is joined until closed is forks joined
-  pub forks-joined :
-      (groups groups′ : List ℕ) → Labelled n groups →
-      JoinedUntil (RoundClosed n parents names numbers keys keys) n groups groups′ → ForksJoined n parents names groups groups′
+  forks-joined :
+      (groups groups′ : List ℕ) → Labelled n groups → JoinedUntil (KeyClosed n parents numbers names) n groups groups′ →
+      ForksJoined n parents names groups groups′
   forks-joined groups groups′ labelled joined =
       record {
         labelled = joined .labelled;
         coarser = joined .coarser;
-        sound = λ others closed refines. joined .sound others (all-closed others closed) refines;
+        sound = λ others closed refines. joined .sound others (forks-closed others closed) refines;
         closed =
             keys-forks n parents names groups′ arrays
-            (subst (λ (l : List ℕ). KeyClosed n parents l names groups′) own (joined .closed .forks));
+            (subst (λ (l : List ℕ). KeyClosed n parents l names groups′) own (joined .closed));
         fewer = coarser-sum n groups groups′ labelled (joined .labelled) (joined .coarser);
+      }
+
+  -- the same with the lists, whether the closed partition was copied or is the copy; the queue is used from its beginning again
+  pub forks-kept :
+      (groups closed kept′ groups′ links′ heads′ firsts′ seconds′ : List ℕ) (tail : ℕ) → Labelled n groups →
+      KeptClosed n parents names numbers groups closed links′ heads′ firsts′ seconds′ tail → kept′ ≡ closed → groups′ ≡ closed →
+      ForksKept n parents names numbers groups kept′ groups′ links′ heads′ firsts′ seconds′
+  forks-kept groups closed kept′ groups′ links′ heads′ firsts′ seconds′ tail labelled done kept-is groups-is =
+      let lists = done .kept in
+      record {
+        joined =
+            subst (λ (l : List ℕ). ForksJoined n parents names groups l) (sym groups-is)
+            (forks-joined groups closed labelled (done .until));
+        copied = kept-is ∙ sym groups-is;
+        lists =
+            subst (λ (l : List ℕ). Kept n parents names numbers l links′ heads′ firsts′ seconds′ 0) (sym kept-is)
+            (record {
+              rows = lists .rows;
+              labelled = lists .labelled;
+              kind = lists .kind;
+              room = omega (arith, lists .room);
+              queue = lists .queue;
+            });
       }

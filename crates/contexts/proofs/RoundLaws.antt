@@ -8,7 +8,7 @@ use lib.ListN.{length, take}
 use Rattle.model.specs.Lists.{numbersFrom}
 use Rattle.model.specs.Limits.{setting-limit}
 use Rattle.indexed.specs.Trees.{Arrays}
-use Rattle.indexed.specs.Partitions.{Labelled, ForkClosed, ContextClosed, SuffixAgree}
+use Rattle.indexed.specs.Partitions.{Refines, Labelled, ForkClosed, ContextClosed, SuffixAgree}
 use Rattle.indexed.specs.Passes.{Swept, SuffixClasses, BySuffix, ContextJoined}
 use Rattle.indexed.proofs.Keys.{numbers-length}
 use Rattle.indexed.proofs.Contexts.{joined-suffix-agree}
@@ -62,6 +62,18 @@ module _ (n h m : ℕ) (parents names before groups forked : List ℕ) (was : Bo
   forked-tested : Tested n h m parents names before forked
   forked-tested = tested-coarser n h m parents names before groups forked (so-far .tested) (forks .coarser)
 
+  -- where the forks alone were closed, a sweep is due still
+  pub rounds-forked : RoundsTo n h m parents names before forked true
+  rounds-forked =
+      record {
+        labelled = forks .labelled;
+        sound = forked-sound;
+        before-size = so-far .before-size;
+        tested = forked-tested;
+        forks = λ e. absurd (true≢false e);
+        contexts = λ e. absurd (true≢false e);
+      }
+
   module _ (classes before′ groups′ : List ℕ) (joined : Bool) (by : SuffixClasses n (h + 1) parents names classes)
       (sweeps : SweptBy n m parents names classes before before′ forked groups′ joined) where
     swept : Swept n h m parents names forked groups′ joined
@@ -82,6 +94,10 @@ module _ (n h m : ℕ) (parents names before groups forked : List ℕ) (was : Bo
               subst (λ (l : List ℕ). ContextClosed n h m parents names l) (sym (swept .none e (forks .closed) .0))
               (swept .none e (forks .closed) .1);
         }
+
+    -- the sweep joins only
+    pub rounds-coarser : Refines n forked groups′
+    rounds-coarser = swept .coarser
 
     pub rounds-less : due groups′ joined < due groups true
     rounds-less =

@@ -3,22 +3,17 @@
 use mathlib.Core.Path.{_≡_}
 use mathlib.Core.List.{List}
 use Prim.Native.Nat.{ℕ, _+_, _<_, _≤_}
-use lib.ListN.{length, getD}
-use Rattle.model.specs.Limits.{name-limit, setting-limit}
+use Rattle.model.specs.Limits.{setting-limit}
 use Rattle.model.specs.Lists.{numbersFrom}
 use Rattle.indexed.specs.Trees.{Arrays}
 use Rattle.indexed.specs.Partitions.{Refines, Labelled, ForkClosed, ContextClosed, sum}
+use Rattle.worklist.specs.Forks.{Kept}
 use Rattle.contexts.specs.Distances.{Tested}
 
 -- every partition that is closed under forks and the context rule joins as much
 abbrev pub ContextSound : ℕ → ℕ → ℕ → List ℕ → List ℕ → List ℕ → Type 0
 ContextSound n h m parents names groups =
     (others : List ℕ) → ForkClosed n parents names others → ContextClosed n h m parents names others → Refines n groups others
-
--- none of n states has a key
-pub record NoKeys (n : ℕ) (keys : List ℕ) : Type 0 where
-  pub size : length keys ≡ n
-  pub none : (v : ℕ) → v < n → getD keys v 0 ≡ name-limit
 
 -- forks joined until none is left
 pub record ForksJoined (n : ℕ) (parents names groups groups′ : List ℕ) : Type 0 where
@@ -27,6 +22,12 @@ pub record ForksJoined (n : ℕ) (parents names groups groups′ : List ℕ) : T
   pub sound : (others : List ℕ) → ForkClosed n parents names others → Refines n groups others → Refines n groups′ others
   pub closed : ForkClosed n parents names groups′
   pub fewer : sum groups′ ≤ sum groups
+
+-- the same, with the lists of arcs for the next time, and a copy of the partition that they are of
+pub record ForksKept (n : ℕ) (parents names numbers groups kept′ groups′ links′ heads′ firsts′ seconds′ : List ℕ) : Type 0 where
+  pub joined : ForksJoined n parents names groups groups′
+  pub copied : kept′ ≡ groups′
+  pub lists : Kept n parents names numbers kept′ links′ heads′ firsts′ seconds′ 0
 
 -- what the rounds of the context rule start from: contexts of two names and more are left to them, and what the tree itself tells
 -- is joined already

@@ -14,6 +14,7 @@ ghost use Rattle.model.specs.Lists.{numbersFrom};
 ghost use Rattle.indexed.specs.Trees.{Arrays};
 ghost use Rattle.indexed.specs.Partitions.{Labelled};
 ghost use Rattle.indexed.specs.Passes.{ContextJoined};
+ghost use Rattle.worklist.specs.Settling.{NoLists, QueueRoom};
 ghost use Rattle.contexts.specs.Climbs.{Above, Climbed, ClimbedBelow};
 ghost use Rattle.contexts.specs.Rounds.{RoundReady};
 
@@ -87,8 +88,9 @@ fn climb_starts(m: usize, parents: &[u16], groups: &mut [u16])
     climb_all(m, parents, &starts[..n], groups);
 }
 
-// Rounds of forks and a sweep, until a sweep joins nothing. The sweep takes classes by one name more than h: that of an arc. The
-// first sweep compares what has grown since every state was by itself, in `before`, each other what has grown since the last.
+// Rounds of forks and a sweep, until a sweep joins nothing. The lists of arcs for the forks are filled once, before them. The
+// sweep takes classes by one name more than h: that of an arc. The first sweep compares what has grown since every state was by
+// itself, in `before`, each other what has grown since the last.
 fn close_contexts(
     h: usize,
     m: usize,
@@ -96,12 +98,20 @@ fn close_contexts(
     names: &[u8],
     numbers: &[u16],
     before: &mut [u16],
+    kept: &mut [u16],
     groups: &mut [u16],
+    links: &mut [u16; 512],
+    heads: &mut [u16; 512],
+    firsts: &mut [u16; 1536],
+    seconds: &mut [u16; 1536],
     work: &mut [u8],
 )
     requires ready { ⌜ RoundReady (length (now groups)) h m (now parents) (now names) (now groups) ⌝ }
     requires own_numbers { ⌜ now numbers ≡ numbersFrom (length (now groups)) 0 ⌝ }
     requires own_before { ⌜ now before ≡ numbersFrom (length (now groups)) 0 ⌝ }
+    requires kept_size { ⌜ length (now kept) ≡ length (now groups) ⌝ }
+    requires empty { ⌜ NoLists (now links) (now heads) ⌝ }
+    requires queue { ⌜ QueueRoom (now firsts) (now seconds) ⌝ }
     requires room { ⌜ work-bytes ≤ length (now work) ⌝ }
     ensures { λ _.
         ⌜ ContextJoined (length (now (groups .entry))) (h + m) h (now (parents .entry)) (now (names .entry)) (now (groups .exit)) ⌝ }
@@ -109,14 +119,25 @@ fn close_contexts(
     let n = groups.len();
     let mut classes = [0u16; STATE_LIMIT];
     suffixes::suffix_classes(h + 1, parents, names, &mut classes[..n]);
+    forks::close_first(
+        parents,
+        names,
+        numbers,
+        kept,
+        groups,
+        links,
+        heads,
+        firsts,
+        seconds,
+    );
     let mut joined = true;
     while joined {
-        forks::close_forks(parents, names, numbers, groups);
+        forks::close_again(names, numbers, kept, groups, links, heads, firsts, seconds);
         joined = pairs::sweep(m, parents, names, &classes[..n], before, groups, work);
     }
 }
 
-// The rounds, with the states' own numbers.
+// The rounds, with the states' own numbers, and with lists and a queue that are empty at first.
 fn run_rounds(
     h: usize,
     m: usize,
@@ -135,6 +156,11 @@ fn run_rounds(
     partition::own(&mut numbers[..n]);
     let mut before = [0u16; STATE_LIMIT];
     partition::own(&mut before[..n]);
+    let mut kept = [0u16; STATE_LIMIT];
+    let mut links = [0u16; 512];
+    let mut heads = [0u16; 512];
+    let mut firsts = [0u16; 1536];
+    let mut seconds = [0u16; 1536];
     close_contexts(
         h,
         m,
@@ -142,7 +168,12 @@ fn run_rounds(
         names,
         &numbers[..n],
         &mut before[..n],
+        &mut kept[..n],
         groups,
+        &mut links,
+        &mut heads,
+        &mut firsts,
+        &mut seconds,
         work,
     );
 }

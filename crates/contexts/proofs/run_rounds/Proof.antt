@@ -6,6 +6,7 @@ use borrow.Author.Needs.{needs}
 use Rattle.model.specs.Lists.{numbersFrom}
 use Rattle.indexed.proofs.Keys.{numbers-length}
 use Rattle.indexed.proofs.Fills.{front-length, front-again, front-fits}
+use Rattle.contexts.proofs.ForkLaws.{no-lists, no-pairs}
 use Rattle.contexts.proofs.RoundLaws.{own-front}
 use Rattle.contexts.proofs.run_rounds.Statement.{statement}
 use Rattle.contexts.proofs.run_rounds.Tie as tie
@@ -79,9 +80,17 @@ slice-aggregate-close-contexts-2 c =
     let size = numbers-length n 0 in
     sym (ap length (front-again n (numbersFrom n 0) (own .own2 .last .0) _ (before-here own) size) ∙ size)
 
+array-borrow-prefix-kept : tie.Need-array-borrow-prefix-kept
+array-borrow-prefix-kept c = search needs
+
+slice-aggregate-close-contexts-3 : tie.Need-slice-aggregate-close-contexts-3
+slice-aggregate-close-contexts-3 c =
+    let start = c .before .before .before .before .before .before .before .before .before .before .before .before .before in
+    sym (front-length _ _ (start .pre .0 .arrays .few-states))
+
 close-contexts-requires : tie.Need-close-contexts-requires
 close-contexts-requires c κs =
-    let own-before = c .before .before .before .before .before in
+    let own-before = c .before .before .before .before .before .before .before .before .before .before in
     let own = own-before .before .before .before in
     let start = own .before .before .before .before .before .before in
     let n = length (start .args .groups .now) in
@@ -89,7 +98,10 @@ close-contexts-requires c κs =
       start .pre .0,
       (
         front-again n (numbersFrom n 0) (own .own .last .0) _ (own-here own) size,
-        (front-again n (numbersFrom n 0) (own-before .own2 .last .0) _ (before-here own-before) size, start .pre .1),
+        (
+          front-again n (numbersFrom n 0) (own-before .own2 .last .0) _ (before-here own-before) size,
+          (front-length n (replicate 512 0) (start .pre .0 .arrays .few-states), (no-lists, (no-pairs, start .pre .1))),
+        ),
       ),
     )
 
@@ -116,6 +128,8 @@ run-rounds-spec =
     slice-aggregate-close-contexts
     array-borrow-prefix-before-2
     slice-aggregate-close-contexts-2
+    array-borrow-prefix-kept
+    slice-aggregate-close-contexts-3
     close-contexts-requires
     same-length
     same-length-2
