@@ -1,10 +1,11 @@
 -- Laws of rounds: the states' own numbers, and rounds of forks and a sweep until a sweep joins nothing. Assumes nothing.
-use mathlib.Core.Path.{_≡_, sym, ap, _∙_, subst}
+use mathlib.Core.Path.{_≡_, sym, ap, _∙_, subst, subst₂}
 use mathlib.Core.Bool.{Bool, true, false, true≢false}
 use mathlib.Core.List.{List}
 use Prim.Native.Nat.{ℕ, _+_, _<_, _≤_}
 use native.Mathlib.Omega.{arith}
 use lib.ListN.{length, take}
+use Rattle.cells.specs.Cells.{work-bytes}
 use Rattle.model.specs.Lists.{numbersFrom}
 use Rattle.model.specs.Limits.{setting-limit}
 use Rattle.indexed.specs.Trees.{Arrays}
@@ -61,18 +62,6 @@ module _ (n h m : ℕ) (parents names before groups forked : List ℕ) (was : Bo
   -- what was told before the forks were closed is joined still
   forked-tested : Tested n h m parents names before forked
   forked-tested = tested-coarser n h m parents names before groups forked (so-far .tested) (forks .coarser)
-
-  -- where the forks alone were closed, a sweep is due still
-  pub rounds-forked : RoundsTo n h m parents names before forked true
-  rounds-forked =
-      record {
-        labelled = forks .labelled;
-        sound = forked-sound;
-        before-size = so-far .before-size;
-        tested = forked-tested;
-        forks = λ e. absurd (true≢false e);
-        contexts = λ e. absurd (true≢false e);
-      }
 
   module _ (classes before′ groups′ : List ℕ) (joined : Bool) (by : SuffixClasses n (h + 1) parents names classes)
       (sweeps : SweptBy n m parents names classes before before′ forked groups′ joined) where
@@ -131,6 +120,29 @@ pub classes-front :
     SuffixClasses (length (take n list)) h parents names classes → SuffixClasses n h parents names classes
 classes-front n h list parents names classes fits by =
     subst (λ (m : ℕ). SuffixClasses m h parents names classes) (front-length n list fits) by
+
+-- what a sweep asks, by the length of its groups, with as many classes
+pub sweep-asked :
+    (n h m many : ℕ) (parents names before groups work : List ℕ) → Arrays n parents names → 1 < m → h + m ≤ setting-limit →
+    many ≡ n → length before ≡ n → Labelled n groups → work-bytes ≤ length work →
+    Arrays (length groups) parents names × ((many ≡ length groups) × ((length before ≡ length groups)
+    × (Labelled (length groups) groups × ((work-bytes ≤ length work) × ((1 < m) × (m ≤ setting-limit))))))
+sweep-asked n h m many parents names before groups work arrays more-names limit many-is before-size labelled room =
+    let size : n ≡ length groups = sym (labelled .size) in (
+      subst (λ (k : ℕ). Arrays k parents names) size arrays,
+      (
+        many-is ∙ size,
+        (before-size ∙ size, (subst (λ (k : ℕ). Labelled k groups) size labelled, (room, (more-names, omega arith)))),
+      ),
+    )
+
+-- what a sweep promises, by the number of states and by the classes that its front is
+pub sweep-told :
+    (n m : ℕ) (parents names front classes before before′ groups groups′ : List ℕ) (joined : Bool) → length groups ≡ n →
+    front ≡ classes → SweptBy (length groups) m parents names front before before′ groups groups′ joined →
+    SweptBy n m parents names classes before before′ groups groups′ joined
+sweep-told n m parents names front classes before before′ groups groups′ joined size same sweeps =
+    subst₂ (λ (k : ℕ) (l : List ℕ). SweptBy k m parents names l before before′ groups groups′ joined) size same sweeps
 
 -- the rounds start from the climbs
 pub climbs-ready :

@@ -88,9 +88,9 @@ fn climb_starts(m: usize, parents: &[u16], groups: &mut [u16])
     climb_all(m, parents, &starts[..n], groups);
 }
 
-// Rounds of forks and a sweep, until a sweep joins nothing. The lists of arcs for the forks are filled once, before them. The
-// sweep takes classes by one name more than h: that of an arc. The first sweep compares what has grown since every state was by
-// itself, in `before`, each other what has grown since the last.
+// Rounds of forks and a sweep, until a sweep joins nothing. The first round fills the lists of arcs for the forks, each other one
+// goes on with them. The sweep takes classes by one name more than h: that of an arc. The first sweep compares what has grown
+// since every state was by itself, in `before`, each other what has grown since the last.
 fn close_contexts(
     h: usize,
     m: usize,
@@ -130,7 +130,7 @@ fn close_contexts(
         firsts,
         seconds,
     );
-    let mut joined = true;
+    let mut joined = pairs::sweep(m, parents, names, &classes[..n], before, groups, work);
     while joined {
         forks::close_again(names, numbers, kept, groups, links, heads, firsts, seconds);
         joined = pairs::sweep(m, parents, names, &classes[..n], before, groups, work);
