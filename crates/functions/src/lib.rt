@@ -70,8 +70,8 @@ fn join_in(
     rounds::finish(parents, names, accepts, values, keys, more, numbers, groups);
 }
 
-// Joins by the set of names seen, or else by the last j names. One function for both, so that only one of them is called: the
-// stack has room for one frame of the rounds.
+// Joins by the set of names seen, or else by the last j names. One function for both: what is called from one place only shares
+// its caller's frame, and the stack is small.
 pub fn join_by_function(
     seen: bool,
     j: usize,
