@@ -1,13 +1,16 @@
--- What the parts promise: what an arc adds to the seen set, the key and the set of one state. Assumes nothing.
+-- What the parts promise: what an arc adds to the seen set, the key and the set of one state, and the values and keys of all
+-- states. Assumes nothing.
 use mathlib.Core.Path.{_≡_}
 use mathlib.Core.Logic.{_⊎_}
-use mathlib.Core.Bool.{Bool, cond, Bool·beq}
+use mathlib.Core.Bool.{Bool, true, false, cond, Bool·beq}
 use mathlib.Core.List.{List}
 use Prim.Native.Nat.{ℕ, _^_, _<_}
 use lib.Bits.{bitOr}
 use lib.Dec.{eqb}
 use lib.ListN.{getD}
 use Rattle.model.specs.Limits.{name-limit}
+use Rattle.indexed.specs.Passes.{NamesAbove, SeenSets, KeysWhere}
+use Rattle.suffixes.specs.Codes.{Coded}
 
 -- what an arc adds to the seen set: its name, or nothing where that was seen before
 abbrev pub Added : ℕ → ℕ → Type 0
@@ -29,3 +32,20 @@ pub record KeyAt (enlarge : Bool) (parents names seen : List ℕ) (v answer : �
 pub record SeenAt (parents names seen : List ℕ) (v answer : ℕ) : Type 0 where
   pub root : v ≡ 0 → answer ≡ 0
   pub arc : 0 < v → answer ≡ bitOr (getD seen (getD parents v 0) 0) (2 ^ getD names v 0)
+
+-- sets of names seen, and keys by whether they grow
+pub record SetsAndKeys (n : ℕ) (parents names values keys more : List ℕ) : Type 0 where
+  pub sets : SeenSets n parents names values
+  pub enlarging : KeysWhere n true parents names values keys
+  pub others : KeysWhere n false parents names values more
+
+-- codes of the last j names, and the names before them as the only keys
+pub record CodesAndKeys (n j : ℕ) (parents names unused values keys more : List ℕ) : Type 0 where
+  pub coded : Coded n j parents names values
+  pub above : NamesAbove n j parents names keys
+  pub same-more : more ≡ unused
+
+-- the values of f and the keys against the arcs, by what f is
+pub record ValuesAndKeys (seen : Bool) (n j : ℕ) (parents names unused values keys more : List ℕ) : Type 0 where
+  pub of-seen : seen ≡ true → SetsAndKeys n parents names values keys more
+  pub of-last : seen ≡ false → CodesAndKeys n j parents names unused values keys more

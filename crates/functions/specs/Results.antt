@@ -1,6 +1,7 @@
 -- What the joinings by the rule of f need and promise: some list of values of f, and the partition joined by it until none
 -- applies. Assumes nothing.
 use mathlib.Core.Path.{_≡_}
+use mathlib.Core.Bool.{Bool, true, false}
 use mathlib.Core.List.{List}
 use Prim.Native.Nat.{ℕ}
 use lib.ListN.{length}
@@ -23,3 +24,8 @@ pub record JoinedBySeen (n : ℕ) (parents names accepts groups : List ℕ) : Ty
   pub seen : List ℕ
   pub sets : SeenSets n parents names seen
   pub joined : FJoined n parents names accepts seen groups
+
+-- f is the one or the other
+pub record JoinedByF (seen : Bool) (n j : ℕ) (parents names accepts groups : List ℕ) : Type 0 where
+  pub by-seen : seen ≡ true → JoinedBySeen n parents names accepts groups
+  pub by-last : seen ≡ false → JoinedByLast n j parents names accepts groups

@@ -8,117 +8,98 @@ ghost use mathlib.Core.Path.{_≡_};
 ghost use Prim.Native.Nat.{ℕ, _<_, _≤_};
 ghost use lib.ListN.{length, getD};
 ghost use Rattle.model.specs.Limits.{name-limit, setting-limit};
-ghost use Rattle.functions.specs.Results.{JoinReady, JoinedByLast, JoinedBySeen};
+ghost use Rattle.indexed.specs.Trees.{Arrays};
+ghost use Rattle.functions.specs.Parts.{ValuesAndKeys};
+ghost use Rattle.functions.specs.Results.{JoinReady, JoinedByF};
 
 // No partition has more states.
 const STATE_LIMIT: usize = 512;
 
-// Joins by the last j names, with room lent for their codes, the keys and the states' own numbers; `none` has no keys.
-fn join_last_in(
+// The values of f and the keys against the arcs: sets of names seen, or codes of the last j names, which have one set of keys.
+fn prepare(
+    seen: bool,
+    j: usize,
+    parents: &[u16],
+    names: &[u8],
+    values: &mut [u64],
+    keys: &mut [u8],
+    more: &mut [u8],
+)
+    requires few { ⌜ j ≤ setting-limit ⌝ }
+    requires arrays { ⌜ Arrays (length (now values)) (now parents) (now names) ⌝ }
+    requires keys_size { ⌜ length (now keys) ≡ length (now values) ⌝ }
+    requires more_size { ⌜ length (now more) ≡ length (now values) ⌝ }
+    ensures { λ _.
+        ⌜ ValuesAndKeys seen (length (now (values .entry))) j (now (parents .entry)) (now (names .entry)) (now (more .entry))
+        (now (values .exit)) (now (keys .exit)) (now (more .exit)) ⌝ }
+{
+    if seen {
+        seen::seen_sets(parents, names, values);
+        keys::seen_keys(parents, names, values, keys, more);
+        return;
+    }
+    suffixes::codes_and_names_above(j, parents, names, values, keys);
+}
+
+// Joins by the rule of f, with room lent for its values, two sets of keys, the second with none at first, and the states' own
+// numbers.
+fn join_in(
+    seen: bool,
     j: usize,
     parents: &[u16],
     names: &[u8],
     accepts: &[u8],
-    none: &[u8],
-    codes: &mut [u64],
+    values: &mut [u64],
     keys: &mut [u8],
+    more: &mut [u8],
     numbers: &mut [u16],
     groups: &mut [u16],
 )
     requires few { ⌜ j ≤ setting-limit ⌝ }
     requires ready { ⌜ JoinReady (length (now groups)) (now parents) (now names) (now accepts) ⌝ }
-    requires none_size { ⌜ length (now none) ≡ length (now groups) ⌝ }
-    requires no_keys { ⌜ ((v : ℕ) → v < length (now groups) → getD (now none) v 0 ≡ name-limit) ⌝ }
-    requires codes_size { ⌜ length (now codes) ≡ length (now groups) ⌝ }
+    requires values_size { ⌜ length (now values) ≡ length (now groups) ⌝ }
     requires keys_size { ⌜ length (now keys) ≡ length (now groups) ⌝ }
+    requires more_size { ⌜ length (now more) ≡ length (now groups) ⌝ }
+    requires no_more { ⌜ ((v : ℕ) → v < length (now groups) → getD (now more) v 0 ≡ name-limit) ⌝ }
     requires numbers_size { ⌜ length (now numbers) ≡ length (now groups) ⌝ }
     ensures { λ _.
-        ⌜ JoinedByLast (length (now (groups .entry))) j (now (parents .entry)) (now (names .entry)) (now (accepts .entry))
+        ⌜ JoinedByF seen (length (now (groups .entry))) j (now (parents .entry)) (now (names .entry)) (now (accepts .entry))
         (now (groups .exit)) ⌝ }
 {
-    suffixes::codes_and_names_above(j, parents, names, codes, keys);
-    rounds::finish(parents, names, accepts, codes, keys, none, numbers, groups);
+    prepare(seen, j, parents, names, values, keys, more);
+    rounds::finish(parents, names, accepts, values, keys, more, numbers, groups);
 }
 
-// Joins by the last j names.
-pub fn join_by_last(j: usize, parents: &[u16], names: &[u8], accepts: &[u8], groups: &mut [u16])
+// Joins by the set of names seen, or else by the last j names. One function for both: what is called from one place only shares
+// its caller's frame, and the stack is small.
+pub fn join_by_function(
+    seen: bool,
+    j: usize,
+    parents: &[u16],
+    names: &[u8],
+    accepts: &[u8],
+    groups: &mut [u16],
+)
     requires few { ⌜ j ≤ setting-limit ⌝ }
     requires ready { ⌜ JoinReady (length (now groups)) (now parents) (now names) (now accepts) ⌝ }
     ensures { λ _.
-        ⌜ JoinedByLast (length (now (groups .entry))) j (now (parents .entry)) (now (names .entry)) (now (accepts .entry))
+        ⌜ JoinedByF seen (length (now (groups .entry))) j (now (parents .entry)) (now (names .entry)) (now (accepts .entry))
         (now (groups .exit)) ⌝ }
 {
     let n = groups.len();
-    let none = [64u8; STATE_LIMIT];
-    let mut codes = [0u64; STATE_LIMIT];
+    let mut values = [0u64; STATE_LIMIT];
     let mut keys = [0u8; STATE_LIMIT];
+    let mut more = [64u8; STATE_LIMIT];
     let mut numbers = [0u16; STATE_LIMIT];
-    join_last_in(
+    join_in(
+        seen,
         j,
         parents,
         names,
         accepts,
-        &none[..n],
-        &mut codes[..n],
+        &mut values[..n],
         &mut keys[..n],
-        &mut numbers[..n],
-        groups,
-    );
-}
-
-// Joins by the set of names seen, with room lent for the sets, two sets of keys and the states' own numbers.
-fn join_seen_in(
-    parents: &[u16],
-    names: &[u8],
-    accepts: &[u8],
-    sets: &mut [u64],
-    enlarging: &mut [u8],
-    others: &mut [u8],
-    numbers: &mut [u16],
-    groups: &mut [u16],
-)
-    requires ready { ⌜ JoinReady (length (now groups)) (now parents) (now names) (now accepts) ⌝ }
-    requires sets_size { ⌜ length (now sets) ≡ length (now groups) ⌝ }
-    requires enlarging_size { ⌜ length (now enlarging) ≡ length (now groups) ⌝ }
-    requires others_size { ⌜ length (now others) ≡ length (now groups) ⌝ }
-    requires numbers_size { ⌜ length (now numbers) ≡ length (now groups) ⌝ }
-    ensures { λ _.
-        ⌜ JoinedBySeen (length (now (groups .entry))) (now (parents .entry)) (now (names .entry)) (now (accepts .entry))
-        (now (groups .exit)) ⌝ }
-{
-    seen::seen_sets(parents, names, sets);
-    keys::seen_keys(parents, names, sets, enlarging, others);
-    rounds::finish(
-        parents,
-        names,
-        accepts,
-        sets,
-        enlarging,
-        others,
-        numbers,
-        groups,
-    );
-}
-
-// Joins by the set of names seen.
-pub fn join_by_seen(parents: &[u16], names: &[u8], accepts: &[u8], groups: &mut [u16])
-    requires ready { ⌜ JoinReady (length (now groups)) (now parents) (now names) (now accepts) ⌝ }
-    ensures { λ _.
-        ⌜ JoinedBySeen (length (now (groups .entry))) (now (parents .entry)) (now (names .entry)) (now (accepts .entry))
-        (now (groups .exit)) ⌝ }
-{
-    let n = groups.len();
-    let mut sets = [0u64; STATE_LIMIT];
-    let mut enlarging = [0u8; STATE_LIMIT];
-    let mut others = [0u8; STATE_LIMIT];
-    let mut numbers = [0u16; STATE_LIMIT];
-    join_seen_in(
-        parents,
-        names,
-        accepts,
-        &mut sets[..n],
-        &mut enlarging[..n],
-        &mut others[..n],
+        &mut more[..n],
         &mut numbers[..n],
         groups,
     );

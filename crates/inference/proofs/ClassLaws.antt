@@ -1,6 +1,7 @@
 -- A partition joined by the rule of a class, whichever its kind, has the automaton of the full joining. In order: what the settings of an
 -- allowed class are, and the three kinds. Assumes nothing.
 use mathlib.Core.Path.{_≡_, refl, sym, _∙_, subst}
+use mathlib.Core.Logic.{⊎-elim}
 use mathlib.Core.Bool.{Bool, true, false, _&&_, _||_, and-eq-true-iff}
 use mathlib.Core.List.{List}
 use Prim.Native.Nat.{ℕ, _<_, _≤_}
@@ -12,11 +13,12 @@ use Rattle.model.specs.Limits.{setting-limit}
 use Rattle.model.specs.Fields.{class-of, contextOk, settingsOk}
 use Rattle.model.specs.Classes.{Word}
 use Rattle.model.specs.Joinings.{treeOf}
+use Rattle.model.proofs.Tests.{tells-eqb, tells-leb, tells-and, tells-or}
 use Rattle.indexed.specs.Passes.{ContextJoined, FJoined}
 use Rattle.indexed.proofs.Joined.{ClassesOfF}
 use Rattle.indexed.proofs.Values.{last-classes, seen-classes}
 use Rattle.indexed.proofs.Closing.{context-states, f-states}
-use Rattle.functions.specs.Results.{JoinedByLast, JoinedBySeen}
+use Rattle.functions.specs.Results.{JoinedByLast, JoinedBySeen, JoinedByF}
 use Rattle.inference.specs.Books.{TreeIn, JoinedBy}
 
 -- the settings of a context
@@ -40,12 +42,14 @@ pub context-settings : (kind k h : ℕ) → settingsOk kind k h ≡ true → kin
 context-settings kind k h ok e =
     context-ok k h (or-none (contextOk k h) (subst (λ (x : ℕ). settingsOk x k h ≡ true) e ok))
 
--- the setting of last names
-pub last-setting : (kind j y : ℕ) → settingsOk kind j y ≡ true → (kind ≡ 0 → ⊥) → (kind ≡ 1 → ⊥) → j ≤ setting-limit
-last-setting kind j y ok not-context not-seen =
-    let rest : (eqb kind 2 && (leb j setting-limit && eqb y 0)) ≡ true = rw (ne-eqb kind 0 not-context, ne-eqb kind 1 not-seen) at ok in
-    let both = and-eq-true-iff (eqb kind 2) (leb j setting-limit && eqb y 0) .0 rest in
-    leb-true j setting-limit (and-eq-true-iff (leb j setting-limit) (eqb y 0) .0 (both .1) .0)
+-- the setting of a rule of f: none for seen sets, a number of last names
+pub function-setting : (kind j y : ℕ) → settingsOk kind j y ≡ true → (kind ≡ 0 → ⊥) → j ≤ setting-limit
+function-setting kind j y ok not-context =
+    let rest : ((eqb kind 1 && (eqb j 0 && eqb y 0)) || (eqb kind 2 && (leb j setting-limit && eqb y 0))) ≡ true =
+    rw (ne-eqb kind 0 not-context) at ok in
+    let seen = tells-and (tells-eqb kind 1) (tells-and (tells-eqb j 0) (tells-eqb y 0)) in
+    let last = tells-and (tells-eqb kind 2) (tells-and (tells-leb j setting-limit) (tells-eqb y 0)) in
+    ⊎-elim (λ p. omega (arith, p .1 .0)) (λ q. q .1 .0) (tells-or seen last .fact rest)
 
 module _ (kind first second n : ℕ) (rows : List Word) (parents names accepts groups : List ℕ)
     (tree : TreeIn rows parents names accepts) (size : length parents ≡ n) where
@@ -79,22 +83,31 @@ module _ (kind first second n : ℕ) (rows : List Word) (parents names accepts g
             (ne-eqb kind 0 e) at;
       }
 
-  pub by-seen :
-      kind ≡ 1 → JoinedBySeen n parents names accepts groups → JoinedBy (class-of kind first second) rows parents names groups
-  by-seen e joined =
+  by-seen :
+      (kind ≡ 0 → ⊥) → eqb kind 1 ≡ true → JoinedBySeen n parents names accepts groups →
+      JoinedBy (class-of kind first second) rows parents names groups
+  by-seen not-context is joined =
       let at : JoinedBySeen (length (treeOf rows)) parents names accepts groups =
       subst (λ (m : ℕ). JoinedBySeen m parents names accepts groups) all-states joined in
-      by-f (λ z. omega arith) (at .seen)
-      (seen-classes (class-of kind first second) rows parents names (at .seen) (tree .tree) (eq-eqb kind 1 e) (at .sets))
+      by-f not-context (at .seen)
+      (seen-classes (class-of kind first second) rows parents names (at .seen) (tree .tree) is (at .sets))
       (at .joined)
 
-  pub by-last :
-      (kind ≡ 0 → ⊥) → (kind ≡ 1 → ⊥) → JoinedByLast n first parents names accepts groups →
+  by-last :
+      (kind ≡ 0 → ⊥) → eqb kind 1 ≡ false → JoinedByLast n first parents names accepts groups →
       JoinedBy (class-of kind first second) rows parents names groups
-  by-last not-context not-seen joined =
+  by-last not-context is joined =
       let at : JoinedByLast (length (treeOf rows)) first parents names accepts groups =
       subst (λ (m : ℕ). JoinedByLast m first parents names accepts groups) all-states joined in
       by-f not-context (at .codes)
-      (last-classes (class-of kind first second) rows parents names (at .codes) (tree .tree) (ne-eqb kind 1 not-seen)
-      (at .by-codes))
+      (last-classes (class-of kind first second) rows parents names (at .codes) (tree .tree) is (at .by-codes))
       (at .joined)
+
+  pub by-function :
+      (kind ≡ 0 → ⊥) → JoinedByF (eqb kind 1) n first parents names accepts groups →
+      JoinedBy (class-of kind first second) rows parents names groups
+  by-function not-context joined = go (eqb kind 1) refl
+    where
+      go : (seen : Bool) → eqb kind 1 ≡ seen → JoinedBy (class-of kind first second) rows parents names groups
+      go true e = by-seen not-context e (joined .by-seen e)
+      go false e = by-last not-context e (joined .by-last e)

@@ -1,8 +1,7 @@
 // The joining of a book's prefix tree by the rule of its class.
 use cells::numbers::wide8;
 use contexts::join_by_context;
-use functions::join_by_last;
-use functions::join_by_seen;
+use functions::join_by_function;
 ghost use mathlib.Core.Path.{_≡_};
 ghost use mathlib.Core.Bool.{true};
 ghost use mathlib.Core.List.{List};
@@ -38,7 +37,13 @@ pub fn join_by_class(
 {
     match kind {
         CONTEXT => join_by_context(wide8(first), wide8(second), parents, names, groups, work),
-        SEEN_SET => join_by_seen(parents, names, accepts, groups),
-        _ => join_by_last(wide8(first), parents, names, accepts, groups),
+        _ => join_by_function(
+            kind == SEEN_SET,
+            wide8(first),
+            parents,
+            names,
+            accepts,
+            groups,
+        ),
     }
 }

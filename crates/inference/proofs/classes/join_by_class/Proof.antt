@@ -2,11 +2,12 @@
 use mathlib.Core.Path.{subst}
 use Prim.Native.Nat.{ℕ}
 use native.Mathlib.Omega.{arith}
+use lib.Dec.{eqb}
 use lib.ListN.{length}
 use Rattle.indexed.specs.Passes.{ContextJoined}
-use Rattle.functions.specs.Results.{JoinedByLast}
+use Rattle.functions.specs.Results.{JoinedByF}
 use borrow.Author.Needs.{needs}
-use Rattle.inference.proofs.ClassLaws.{context-settings, last-setting, by-context, by-seen, by-last}
+use Rattle.inference.proofs.ClassLaws.{context-settings, function-setting, by-context, by-function}
 use Rattle.inference.proofs.classes.join_by_class.Statement.{statement}
 use Rattle.inference.proofs.classes.join_by_class.Tie as tie
 
@@ -29,18 +30,15 @@ join-by-context-requires c κs =
     let limit = settings .limit in
     (start .pre .1 .0 .arrays, (omega arith, (omega arith, (omega arith, start .pre .1 .1))))
 
-join-by-seen-requires : tie.Need-join-by-seen-requires
-join-by-seen-requires c κs = c .before .before .before .before .before .before .before .pre .1 .0
-
 wide8-requires-3 : tie.Need-wide8-requires-3
 wide8-requires-3 c κs = search needs
 
-join-by-last-requires : tie.Need-join-by-last-requires
-join-by-last-requires c κs =
-    let start = c .before .before .before .before .before .before .before .before in
+join-by-function-requires : tie.Need-join-by-function-requires
+join-by-function-requires c κs =
+    let chosen = c .before .before in
+    let start = chosen .before .before .before .before .before .before in
     let args = start .args in
-    let others = c .before .before .match .rest in
-    let limit = last-setting (args .kind) (args .first) (args .second) (start .pre .0) (others .0 .1) (others .1) in
+    let limit = function-setting (args .kind) (args .first) (args .second) (start .pre .0) (chosen .match .rest .1) in
     let j = c .before .wide83 .ensures in
     (omega arith, start .pre .1 .0)
 
@@ -75,30 +73,19 @@ same-length-3 c = search needs
 
 returns-2 : tie.Need-returns-2
 returns-2 c =
-    let done = c .before .before .join-by-seen in
-    let chosen = c .before .before .before .before in
-    let at = chosen .before .before .before .before .before .before in
-    let args = at .args in
-    λ rows tree.
-    by-seen (args .kind) (args .first) (args .second) (length (args .groups .now)) rows (args .parents .now) (args .names .now)
-    (args .accepts .now) (done .last .1 .1 .1 .0) tree (at .pre .1 .0 .arrays .parents-size) (chosen .match .keys2) (done .ensures)
-
-same-length-4 : tie.Need-same-length-4
-same-length-4 c = search needs
-
-returns-3 : tie.Need-returns-3
-returns-3 c =
-    let start = c .before .before .before .before .before .before .before .before .before .before .before in
+    let done = c .before .before .join-by-function in
+    let wide = c .before .before .before .before in
+    let chosen = wide .before in
+    let start = chosen .before .before .before .before .before .before in
     let args = start .args in
-    let done = c .before .before .join-by-last in
-    let groups = done .last .1 .1 .1 .1 .0 in
+    let groups = done .last .1 .1 .1 .1 .1 .0 in
     let n = length (args .groups .now) in
-    let others = c .before .before .before .before .before .match .rest in
-    let joined = subst (λ (j : ℕ). JoinedByLast n j (args .parents .now) (args .names .now) (args .accepts .now) groups)
-    (c .before .before .before .before .wide83 .ensures) (done .ensures) in
+    let joined =
+    subst (λ (j : ℕ). JoinedByF (eqb (args .kind) 1) n j (args .parents .now) (args .names .now) (args .accepts .now) groups)
+    (wide .wide83 .ensures) (done .ensures) in
     λ rows tree.
-    by-last (args .kind) (args .first) (args .second) n rows (args .parents .now) (args .names .now) (args .accepts .now) groups
-    tree (start .pre .1 .0 .arrays .parents-size) (others .0 .1) (others .1) joined
+    by-function (args .kind) (args .first) (args .second) n rows (args .parents .now) (args .names .now) (args .accepts .now) groups
+    tree (start .pre .1 .0 .arrays .parents-size) (chosen .match .rest .1) joined
 
 pub join-by-class-spec : {M : Type 1} → statement M
 join-by-class-spec =
@@ -107,13 +94,10 @@ join-by-class-spec =
     wide8-requires
     wide8-requires-2
     join-by-context-requires
-    join-by-seen-requires
     wide8-requires-3
-    join-by-last-requires
+    join-by-function-requires
     same-length
     same-length-2
     returns
     same-length-3
-    returns-2
-    same-length-4
-    returns-3)
+    returns-2)
