@@ -8,7 +8,7 @@ use Prim.Native.Nat.{ℕ, _+_, _<_, _≤_}
 use native.Mathlib.Omega.{arith}
 use lib.Dec.{eqb}
 use lib.ListN.{length, getD, set}
-use borrow.Author.Tests.{eqb-true, eqb-false}
+use borrow.Author.Tests.{eqb-true, eqb-false, not-false}
 use Rattle.indexed.specs.Passes.{ByEnds, ByValue}
 use Rattle.indexed.proofs.Fills.{Filled, fill-more}
 use Rattle.values.specs.Buckets.{FirstEnd, EndLabel, Alone}
@@ -105,11 +105,7 @@ pub alone-more :
     (before || not (eqb label v)) ≡ false → Alone (v + 1) (set groups v x)
 alone-more v label x true groups inside is so-far none = absurd (true≢false none)
 alone-more v label x false groups inside is so-far none =
-    fill-more (λ (u y : ℕ). y ≡ u) groups v x inside (so-far refl) (is ∙ eqb-true label v (not-not (eqb label v) none))
-  where
-    not-not : (b : Bool) → not b ≡ false → b ≡ true
-    not-not true e = refl
-    not-not false e = absurd (true≢false e)
+    fill-more (λ (u y : ℕ). y ≡ u) groups v x inside (so-far refl) (is ∙ eqb-true label v (not-false (eqb label v) none))
 
 -- where all states accept, the groups are the classes of equal values
 pub ends-classes :
