@@ -1,12 +1,16 @@
--- Laws of the parts of a joining: it is ready to be closed after the partition by ends, and closed it is finished. Assumes nothing.
-use mathlib.Core.Path.{_≡_, sym, subst, subst₂}
+-- Laws of the parts of a joining: it is ready to be closed after the partition by ends, closed it is finished, and it is closed
+-- already where the ends join nothing. Assumes nothing.
+use mathlib.Core.Path.{_≡_, sym, ap, _∙_, subst, subst₂}
 use mathlib.Core.List.{List}
-use Prim.Native.Nat.{ℕ}
-use lib.ListN.{length}
+use Prim.Native.Nat.{ℕ, _<_}
+use lib.ListN.{length, getD}
 use Rattle.model.specs.Lists.{numbersFrom}
-use Rattle.indexed.specs.Partitions.{Labelled}
+use Rattle.indexed.specs.Trees.{Arrays}
+use Rattle.indexed.specs.Partitions.{Labelled, KeyClosed, ForkClosed}
 use Rattle.indexed.specs.Passes.{ByEnds}
+use Rattle.indexed.proofs.Keys.{number-at, forks-keys}
 use Rattle.indexed.proofs.Suffixes.{parent-below}
+use Rattle.values.specs.Buckets.{Alone}
 use Rattle.worklist.specs.Settling.{RoundReady, RoundClosed, JoinedUntil}
 use Rattle.functions.specs.Rounds.{FinishReady, Finished}
 
@@ -40,4 +44,49 @@ finished n parents names accepts values keys more numbers ends groups own by unt
       until =
           subst₂ (λ (m : ℕ) (l : List ℕ). JoinedUntil (RoundClosed m parents names l keys more) m ends groups)
           (by .labelled .size) own until;
+    }
+
+-- states each by itself are closed: a state has at most one child by a name, and one parent
+alone-closed :
+    (n : ℕ) (parents names keys more groups : List ℕ) → Arrays n parents names → Alone n groups →
+    RoundClosed n parents names (numbersFrom n 0) keys more groups
+alone-closed n parents names keys more groups arrays alone =
+    record {
+      forks = forks-keys n parents names groups arrays forks;
+      backs = backs keys;
+      others = backs more;
+    }
+  where
+    inside : (v : ℕ) → v < n → getD parents v 0 < n
+    inside = parent-below n parents names arrays
+
+    same : (v w : ℕ) → v < n → w < n → getD groups v 0 ≡ getD groups w 0 → v ≡ w
+    same v w hv hw one = sym (alone v hv) ∙ one ∙ alone w hw
+
+    forks : ForkClosed n parents names groups
+    forks v w pv pw hv hw name one =
+        ap (λ (x : ℕ). getD groups x 0)
+        (arrays .one-child v w pv pw hv hw (same (getD parents v 0) (getD parents w 0) (inside v hv) (inside w hw) one) name)
+
+    backs : (ks : List ℕ) → KeyClosed n (numbersFrom n 0) parents ks groups
+    backs ks v w hv hw below key one =
+        let at-v : getD (numbersFrom n 0) v 0 ≡ v = number-at n v hv in
+        let at-w : getD (numbersFrom n 0) w 0 ≡ w = number-at n w hw in
+        ap (λ (x : ℕ). getD groups (getD parents x 0) 0) (same v w hv hw (rw (at-v, at-w) at one))
+
+-- so where the ends join nothing, it is finished
+pub finished-alone :
+    (n : ℕ) (parents names accepts values keys more groups : List ℕ) → FinishReady n parents names accepts values keys more →
+    ByEnds n accepts values groups → Alone n groups → Finished n parents names accepts values keys more groups
+finished-alone n parents names accepts values keys more groups ready by alone =
+    record {
+      ends = groups;
+      by-ends = by;
+      until =
+          record {
+            labelled = by .labelled;
+            coarser = λ v w hv hw one. one;
+            sound = λ others closed refines. refines;
+            closed = alone-closed n parents names keys more groups (ready .arrays) alone;
+          };
     }

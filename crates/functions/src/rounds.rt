@@ -3,8 +3,9 @@ ghost use mathlib.Core.Path.{_≡_};
 ghost use lib.ListN.{length};
 ghost use Rattle.functions.specs.Rounds.{FinishReady, Finished};
 
-// The partition by ends, in which accepting states with one value of f are joined, and then joins until it is closed. The states'
-// own numbers are written into the room lent.
+// The partition by ends, in which accepting states with one value of f are joined, and then joins until it is closed. Where the
+// ends join no states, each state is by itself, and that is closed: a state has at most one child by a name. The states' own
+// numbers are written into the room lent.
 pub fn finish(
     parents: &[u16],
     names: &[u8],
@@ -22,6 +23,9 @@ pub fn finish(
         (now (values .entry)) (now (keys .entry)) (now (more .entry)) (now (groups .exit)) ⌝ }
 {
     partition::own(numbers);
-    values::by_ends(accepts, values, groups);
+    let joined = values::by_ends(accepts, values, groups);
+    if !joined {
+        return;
+    }
     worklist::close(parents, names, numbers, keys, more, groups);
 }

@@ -2,16 +2,16 @@
 -- states accept. Assumes nothing.
 use mathlib.Core.Path.{_≡_, refl, sym, ap, _∙_}
 use mathlib.Core.Logic.{_⊎_, inl, inr, ⊎-elim}
-use mathlib.Core.Bool.{Bool, true, false}
+use mathlib.Core.Bool.{Bool, true, false, not, _||_, true≢false}
 use mathlib.Core.List.{List}
-use Prim.Native.Nat.{ℕ, _<_, _≤_}
+use Prim.Native.Nat.{ℕ, _+_, _<_, _≤_}
 use native.Mathlib.Omega.{arith}
 use lib.Dec.{eqb}
-use lib.ListN.{length, getD}
-use borrow.Author.Tests.{eqb-true, eqb-false}
+use lib.ListN.{length, getD, set}
+use borrow.Author.Tests.{eqb-true, eqb-false, not-false}
 use Rattle.indexed.specs.Passes.{ByEnds, ByValue}
-use Rattle.indexed.proofs.Fills.{Filled}
-use Rattle.values.specs.Buckets.{FirstEnd, EndLabel}
+use Rattle.indexed.proofs.Fills.{Filled, fill-more}
+use Rattle.values.specs.Buckets.{FirstEnd, EndLabel, Alone}
 
 -- a state's group, where it accepts and where not
 pub label-end :
@@ -98,6 +98,14 @@ pub by-ends-all :
     ByEnds (length out₀) accepts values out
 by-ends-all i accepts values out₀ out all filled =
     by-ends (length out₀) accepts values out (λ v h. filled .done v (omega arith)) (filled .size)
+
+-- where nothing was joined before, and this state is not joined either, one state more has its own number
+pub alone-more :
+    (v label x : ℕ) (before : Bool) (groups : List ℕ) → v < length groups → x ≡ label → (before ≡ false → Alone v groups) →
+    (before || not (eqb label v)) ≡ false → Alone (v + 1) (set groups v x)
+alone-more v label x true groups inside is so-far none = absurd (true≢false none)
+alone-more v label x false groups inside is so-far none =
+    fill-more (λ (u y : ℕ). y ≡ u) groups v x inside (so-far refl) (is ∙ eqb-true label v (not-false (eqb label v) none))
 
 -- where all states accept, the groups are the classes of equal values
 pub ends-classes :

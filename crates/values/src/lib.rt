@@ -4,11 +4,12 @@
 // others.
 use cells::numbers;
 ghost use mathlib.Core.Path.{_≡_};
+ghost use mathlib.Core.Bool.{false};
 ghost use Prim.Native.Nat.{_+_, _<_, _≤_};
 ghost use lib.ListN.{length, getD};
 ghost use Rattle.model.specs.Limits.{state-limit};
 ghost use Rattle.indexed.specs.Passes.{ByEnds, ByValue};
-ghost use Rattle.values.specs.Buckets.{bucketOf, Buckets, SomeBuckets, Linked, FirstAlike, EndLabel};
+ghost use Rattle.values.specs.Buckets.{bucketOf, Buckets, SomeBuckets, Linked, FirstAlike, EndLabel, Alone};
 
 // The bucket of a value: nine bits from the middle of the two halves' products with large odd numbers, so that values which differ
 // in few bits fall apart. A product of two numbers of 32 bits fits; its highest bits would be 0 for small values.
@@ -82,21 +83,26 @@ fn end_label(
     first
 }
 
-// Joins the accepting states of each value, and no others.
-pub fn by_ends(accepts: &[u8], values: &[u64], groups: &mut [u16])
+// Joins the accepting states of each value, and no others; true where any state was joined to an earlier one.
+pub fn by_ends(accepts: &[u8], values: &[u64], groups: &mut [u16]) -> bool
     requires few { ⌜ length (now groups) ≤ state-limit ⌝ }
     requires accepts_size { ⌜ length (now accepts) ≡ length (now groups) ⌝ }
     requires values_size { ⌜ length (now values) ≡ length (now groups) ⌝ }
-    ensures { λ _. ⌜ ByEnds (length (now (groups .entry))) (now (accepts .entry)) (now (values .entry)) (now (groups .exit)) ⌝ }
+    ensures ends { λ _.
+        ⌜ ByEnds (length (now (groups .entry))) (now (accepts .entry)) (now (values .entry)) (now (groups .exit)) ⌝ }
+    ensures none { λ joined. ⌜ (joined ≡ false → Alone (length (now (groups .entry))) (now (groups .exit))) ⌝ }
 {
     let mut links = [0u16; 512];
     let mut heads = [0u16; 512];
+    let mut joined = false;
     let mut v = 0;
     while v < groups.len() {
         let label = end_label(accepts, values, &mut links, &mut heads, v);
         groups[v] = numbers::narrow16(label);
+        joined = joined | (label != v);
         v += 1;
     }
+    joined
 }
 
 // Each state's class: the first state with the same value.

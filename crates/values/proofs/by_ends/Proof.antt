@@ -1,27 +1,29 @@
 -- `values::by_ends` meets its contract. The invariant of its loop: the first v groups are right, and the lists are those of the
 -- first v states. Assumes nothing.
-use mathlib.Core.Path.{sym, _∙_, subst}
+use mathlib.Core.Path.{_≡_, sym, _∙_, subst}
+use mathlib.Core.Bool.{false}
 use Prim.Native.Nat.{_-_, _≤_}
 use native.Mathlib.Omega.{arith}
 use lib.ListN.{length}
 use Rattle.indexed.proofs.Fills.{Filled, filled-none, filled-more}
-use Rattle.values.specs.Buckets.{Buckets, EndLabel}
+use Rattle.values.specs.Buckets.{Buckets, EndLabel, Alone}
 use Rattle.values.proofs.BucketLaws.{buckets-none}
-use Rattle.values.proofs.EndLaws.{by-ends-all, label-low}
+use Rattle.values.proofs.EndLaws.{by-ends-all, label-low, alone-more}
 use Rattle.values.proofs.by_ends.Statement.{statement}
 use Rattle.values.proofs.by_ends.Tie as tie
 
 abbrev Inv-loop : tie.InvT-loop
-Inv-loop accepts values groups₀ links₀ heads₀ v₀ groups links heads v =
+Inv-loop accepts values groups₀ links₀ heads₀ joined₀ v₀ groups links heads joined v =
     (v ≤ length groups₀) × Filled (EndLabel accepts values) v groups₀ groups × Buckets accepts values v links heads
+    × (joined ≡ false → Alone v groups)
 
 abbrev μ-loop : tie.MeasureT-loop
-μ-loop accepts values groups₀ links₀ heads₀ v₀ groups links heads v = length groups₀ - v
+μ-loop accepts values groups₀ links₀ heads₀ joined₀ v₀ groups links heads joined v = length groups₀ - v
 
 loop-holds : tie.Need-loop-holds Inv-loop μ-loop
 loop-holds c =
     let at = c .before .before .before in
-    (omega arith, filled-none _ _, buckets-none (at .args .accepts .now) (at .args .values .now))
+    (omega arith, filled-none _ _, buckets-none (at .args .accepts .now) (at .args .values .now), λ none v h. absurd (omega arith))
 
 end-label-requires : tie.Need-end-label-requires Inv-loop μ-loop
 end-label-requires c κs =
@@ -66,6 +68,8 @@ loop-again c =
           (labels .end-label .ensures .0))
           (here .loop .inv .1),
       labels .end-label .ensures .1,
+      alone-more (here .loop .v) (labels .end-label .result) (c .narrow16 .result) (here .loop .joined) (here .loop .groups)
+          (omega (arith, here .loop .inv .1 .size)) (c .narrow16 .ensures) (here .loop .inv .3),
     )
 
 same-length : tie.Need-same-length Inv-loop μ-loop
@@ -75,8 +79,11 @@ returns : tie.Need-returns Inv-loop μ-loop
 returns c =
     let here = c .before in
     let at = here .before .before .before .before in
-    by-ends-all (here .loop .v) (at .args .accepts .now) (at .args .values .now) (at .args .groups .now) (here .loop .groups)
-    (omega (arith, here .loop .inv .1 .size)) (here .loop .inv .1)
+    let all : length (at .args .groups .now) ≤ here .loop .v = omega (arith, here .loop .inv .1 .size) in (
+      by-ends-all (here .loop .v) (at .args .accepts .now) (at .args .values .now) (at .args .groups .now) (here .loop .groups)
+          all (here .loop .inv .1),
+      λ none v h. here .loop .inv .3 none v (omega arith),
+    )
 
 pub by-ends-spec : {M : Type 1} → statement M
 by-ends-spec =

@@ -1,16 +1,22 @@
--- `finish` meets its contract: own numbers, the partition by ends, and joins until closed. Assumes nothing.
+-- `finish` meets its contract: own numbers, the partition by ends, and joins until closed where the ends joined any states.
+-- Assumes nothing.
 use mathlib.Core.Path.{_≡_, ap, _∙_}
 use Prim.Native.Nat.{ℕ}
 use lib.ListN.{length}
 use Rattle.model.specs.Lists.{numbersFrom}
-use Rattle.functions.proofs.RoundLaws.{finish-ready, finished}
+use Rattle.functions.proofs.RoundLaws.{finish-ready, finished, finished-alone}
 use borrow.Author.Needs.{needs}
+use borrow.Author.Tests.{not-true}
 use Rattle.functions.proofs.rounds.finish.Statement.{statement}
 use Rattle.functions.proofs.rounds.finish.Tie as tie
 
 -- the entry, seen from the place after the own numbers
 abbrev from-own : tie.After-own → tie.Start
 from-own c = c .before .before .before .before .before .before .before .before .before .before
+
+-- the place after the own numbers, seen from that after the partition by ends
+abbrev from-ends : tie.After-by-ends → tie.After-own
+from-ends c = c .before .before .before .before
 
 -- the own numbers, by the number of states
 own-here :
@@ -24,16 +30,6 @@ own-requires c κs = search needs
 by-ends-requires : tie.Need-by-ends-requires
 by-ends-requires c κs = search needs
 
-close-requires : tie.Need-close-requires
-close-requires c κs =
-    let ends = c .before .before .before .before in
-    let own = ends .before .before .before .before in
-    let at = from-own own in
-    finish-ready (length (at .args .groups .now)) (at .args .parents .now) (at .args .names .now) (at .args .accepts .now)
-    (at .args .values .now) (at .args .keys .now) (at .args .more .now) (own .own .last .0) (ends .by-ends .last .1 .1 .0)
-    (at .pre .0)
-    (own-here own) (ends .by-ends .ensures .labelled)
-
 same-length : tie.Need-same-length
 same-length c = search needs
 
@@ -42,13 +38,38 @@ same-length-2 c = search needs
 
 returns : tie.Need-returns
 returns c =
+    let ends = c .before .before .before in
+    let at = from-own (from-ends ends) in
+    let none = not-true (ends .by-ends .result) (c .if1 .taken) in
+    finished-alone (length (at .args .groups .now)) (at .args .parents .now) (at .args .names .now) (at .args .accepts .now)
+    (at .args .values .now) (at .args .keys .now) (at .args .more .now) (ends .by-ends .last .1 .1 .0) (at .pre .0)
+    (ends .by-ends .ensures .0) (ends .by-ends .ensures .1 none)
+
+close-requires : tie.Need-close-requires
+close-requires c κs =
+    let ends = c .before .before .before .before .before in
+    let own = from-ends ends in
+    let at = from-own own in
+    finish-ready (length (at .args .groups .now)) (at .args .parents .now) (at .args .names .now) (at .args .accepts .now)
+    (at .args .values .now) (at .args .keys .now) (at .args .more .now) (own .own .last .0) (ends .by-ends .last .1 .1 .0)
+    (at .pre .0)
+    (own-here own) (ends .by-ends .ensures .0 .labelled)
+
+same-length-3 : tie.Need-same-length-3
+same-length-3 c = search needs
+
+same-length-4 : tie.Need-same-length-4
+same-length-4 c = search needs
+
+returns-2 : tie.Need-returns-2
+returns-2 c =
     let closes = c .before .before in
-    let ends = closes .before .before .before .before .before in
-    let own = ends .before .before .before .before in
+    let ends = closes .before .before .before .before .before .before in
+    let own = from-ends ends in
     let at = from-own own in
     finished (length (at .args .groups .now)) (at .args .parents .now) (at .args .names .now) (at .args .accepts .now)
     (at .args .values .now) (at .args .keys .now) (at .args .more .now) (own .own .last .0) (ends .by-ends .last .1 .1 .0)
-    (closes .close .last .1 .1 .1 .1 .1 .0) (own-here own) (ends .by-ends .ensures) (closes .close .ensures)
+    (closes .close .last .1 .1 .1 .1 .1 .0) (own-here own) (ends .by-ends .ensures .0) (closes .close .ensures)
 
 pub finish-spec : {M : Type 1} → statement M
 finish-spec =
@@ -56,7 +77,10 @@ finish-spec =
     (tie.spec
     own-requires
     by-ends-requires
-    close-requires
     same-length
     same-length-2
-    returns)
+    returns
+    close-requires
+    same-length-3
+    same-length-4
+    returns-2)
