@@ -56,8 +56,8 @@ returns c =
     let sets = seen .seen-sets .last .1 .1 .0 in
     let keys = keyed .seen-keys .last .1 .1 .1 .0 in
     let more = keyed .seen-keys .last .1 .1 .1 .1 .0 in
-    by-sets (args .seen) (length (args .values .now)) (args .j) (args .parents .now) (args .names .now) (args .more .now) sets keys
-    more (seen .before .before .if1 .taken)
+    by-sets (args .seen) (length (args .values .now)) (args .j) (args .parents .now) (args .names .now) (args .more .now) sets
+    keys more (seen .before .before .if1 .taken)
     (record {
       sets = seen .seen-sets .ensures;
       enlarging = subst (λ (m : ℕ). KeysWhere m true (args .parents .now) (args .names .now) sets keys)

@@ -84,8 +84,8 @@ returns-2 c =
     subst (λ (j : ℕ). JoinedByF (eqb (args .kind) 1) n j (args .parents .now) (args .names .now) (args .accepts .now) groups)
     (wide .wide83 .ensures) (done .ensures) in
     λ rows tree.
-    by-function (args .kind) (args .first) (args .second) n rows (args .parents .now) (args .names .now) (args .accepts .now) groups
-    tree (start .pre .1 .0 .arrays .parents-size) (chosen .match .rest .1) joined
+    by-function (args .kind) (args .first) (args .second) n rows (args .parents .now) (args .names .now) (args .accepts .now)
+    groups tree (start .pre .1 .0 .arrays .parents-size) (chosen .match .rest .1) joined
 
 pub join-by-class-spec : {M : Type 1} → statement M
 join-by-class-spec =
