@@ -1,5 +1,5 @@
--- `values::by_ends` meets its contract. The invariant of its loop: the first v groups are right, and the lists are those of the
--- first v states. Assumes nothing.
+-- `values::by_ends` meets its contract. The invariant of its loop: the first v groups are right, the lists are those of the first
+-- v states, and where none of these was joined each is by itself. Assumes nothing.
 use mathlib.Core.Path.{_≡_, sym, _∙_, subst}
 use mathlib.Core.Bool.{false}
 use Prim.Native.Nat.{_-_, _≤_}
