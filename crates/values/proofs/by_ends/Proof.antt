@@ -22,8 +22,12 @@ abbrev μ-loop : tie.MeasureT-loop
 
 loop-holds : tie.Need-loop-holds Inv-loop μ-loop
 loop-holds c =
-    let at = c .before .before .before in
-    (omega arith, filled-none _ _, buckets-none (at .args .accepts .now) (at .args .values .now), λ none v h. absurd (omega arith))
+    let at = c .before .before .before in (
+      omega arith,
+      filled-none _ _,
+      buckets-none (at .args .accepts .now) (at .args .values .now),
+      λ none v h. absurd (omega arith),
+    )
 
 end-label-requires : tie.Need-end-label-requires Inv-loop μ-loop
 end-label-requires c κs =
