@@ -1,5 +1,5 @@
--- Laws of the groups of accepting states with one value: a state's group, the partition, and the classes that it is where all
--- states accept. Assumes nothing.
+-- Laws of the groups of accepting states with one value: a state's group, the partition, states that are each by itself, and the
+-- classes that it is where all states accept. Assumes nothing.
 use mathlib.Core.Path.{_≡_, refl, sym, ap, _∙_}
 use mathlib.Core.Logic.{_⊎_, inl, inr, ⊎-elim}
 use mathlib.Core.Bool.{Bool, true, false, not, _||_, true≢false}

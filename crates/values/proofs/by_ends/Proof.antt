@@ -1,5 +1,5 @@
--- `values::by_ends` meets its contract. The invariant of its loop: the first v groups are right, and the lists are those of the
--- first v states. Assumes nothing.
+-- `values::by_ends` meets its contract. The invariant of its loop: the first v groups are right, the lists are those of the first
+-- v states, and where none of these was joined each is by itself. Assumes nothing.
 use mathlib.Core.Path.{_≡_, sym, _∙_, subst}
 use mathlib.Core.Bool.{false}
 use Prim.Native.Nat.{_-_, _≤_}
@@ -22,8 +22,12 @@ abbrev μ-loop : tie.MeasureT-loop
 
 loop-holds : tie.Need-loop-holds Inv-loop μ-loop
 loop-holds c =
-    let at = c .before .before .before in
-    (omega arith, filled-none _ _, buckets-none (at .args .accepts .now) (at .args .values .now), λ none v h. absurd (omega arith))
+    let at = c .before .before .before in (
+      omega arith,
+      filled-none _ _,
+      buckets-none (at .args .accepts .now) (at .args .values .now),
+      λ none v h. absurd (omega arith),
+    )
 
 end-label-requires : tie.Need-end-label-requires Inv-loop μ-loop
 end-label-requires c κs =
