@@ -27,7 +27,8 @@ pair-same work at value h =
     ap₂ (λ (a b : ℕ). 256 * a + b) high low ∙ div-add-mod value 256
 
 -- a byte that stands at neither of the two places written keeps its value
-byte-other : (work : List ℕ) (at k a b : ℕ) → (k ≡ at → ⊥) → (k ≡ at + 1 → ⊥) → getD (set (set work at a) (at + 1) b) k 0 ≡ getD work k 0
+byte-other : (work : List ℕ) (at k a b : ℕ) → (k ≡ at → ⊥) → (k ≡ at + 1 → ⊥)
+    → getD (set (set work at a) (at + 1) b) k 0 ≡ getD work k 0
 byte-other work at k a b h j = getD-set-other (set work at a) (at + 1) k b 0 j ∙ getD-set-other work at k a 0 h
 
 -- the cell just written reads as the value

@@ -170,8 +170,8 @@ module _ (n : ℕ) (parents names numbers keys more above₀ fl₀ fh₀ bl₀ b
         (above′ fl′ fh′ bl′ bh′ ml′ mh′ firsts′ seconds′ : List ℕ) (done′ end′ : ℕ) → done′ ≡ suc done →
         SettledAt (length above) parents names numbers keys more above above′ fl fh bl bh ml mh fl′ fh′ bl′ bh′ ml′ mh′ firsts
         seconds firsts′ seconds′ done end end′ →
-        SettledTo n parents names numbers keys more above₀ above′ fl₀ fh₀ bl₀ bh₀ ml₀ mh₀ fl′ fh′ bl′ bh′ ml′ mh′ firsts₀ seconds₀
-        firsts′ seconds′ tail done′ end′
+        SettledTo n parents names numbers keys more above₀ above′ fl₀ fh₀ bl₀ bh₀ ml₀ mh₀ fl′ fh′ bl′ bh′ ml′ mh′
+        firsts₀ seconds₀ firsts′ seconds′ tail done′ end′
     settled-more above′ fl′ fh′ bl′ bh′ ml′ mh′ firsts′ seconds′ done′ end′ next settled =
         go
         (subst
