@@ -7,6 +7,7 @@ use Prim.Native.Nat.{ℕ, _<_, _≤_}
 use lib.ListN.{length, getD}
 use Rattle.indexed.specs.Trees.{up}
 use Rattle.indexed.specs.Partitions.{Refines, Labelled}
+use Rattle.partition.specs.Forests.{Forest, rootsOf}
 
 -- the parents of n states are states
 pub record Above (n : ℕ) (parents : List ℕ) : Type 0 where
@@ -41,3 +42,8 @@ pub record ClimbedBelow (n i m : ℕ) (parents starts groups groups′ : List �
       (others : List ℕ) → ((v : ℕ) → v < n → Upward m parents others v (getD starts v 0)) → Refines n groups others →
       Refines n groups′ others
   pub steps : (v : ℕ) → v < i → StepsJoined m parents groups′ v (getD starts v 0)
+
+-- what is promised of a partition that is kept as a forest
+pub record ByRoots (n : ℕ) (Promised : List ℕ → List ℕ → Type 0) (above above′ : List ℕ) : Type 0 where
+  pub forest : Forest n above′
+  pub promised : Promised (rootsOf above) (rootsOf above′)

@@ -92,9 +92,12 @@ pub roots-two :
     JoinedRoots n above above′ v w to from → (joined : Bool) × JoinedTwo n v w (rootsOf above) (rootsOf above′) joined
 roots-two n above above′ v w to from forest hv hw roots =
     ⊎-elim (λ same. (false, one-group same))
-    (λ apart. (true, ⊎-elim (two-groups v w hv hw (omega (arith, roots .order)))
-    (λ e. joined-flip n v w (rootsOf above) (rootsOf above′) true (two-groups w v hw hv (omega (arith, roots .order)) e))
-    (roots .ends)))
+    (λ apart. (
+      true,
+      ⊎-elim (two-groups v w hv hw (omega (arith, roots .order)))
+          (λ e. joined-flip n v w (rootsOf above) (rootsOf above′) true (two-groups w v hw hv (omega (arith, roots .order)) e))
+          (roots .ends),
+    ))
     (eq-dec to from)
   where
     labelled : Labelled n (rootsOf above)
