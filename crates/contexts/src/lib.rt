@@ -8,16 +8,16 @@ use cells::numbers::wide16;
 use partition::forest;
 ghost use mathlib.Core.Path.{_≡_};
 ghost use Prim.Native.Nat.{_+_, _<_, _≤_};
-ghost use lib.ListN.{length, getD};
+ghost use lib.ListN.{length};
 ghost use Rattle.cells.specs.Cells.{work-bytes};
 ghost use Rattle.model.specs.Limits.{setting-limit, state-limit};
 ghost use Rattle.model.specs.Lists.{numbersFrom};
 ghost use Rattle.indexed.specs.Trees.{Arrays};
-ghost use Rattle.indexed.specs.Partitions.{Labelled};
+ghost use Rattle.indexed.specs.Partitions.{Refines, Labelled};
 ghost use Rattle.indexed.specs.Passes.{ContextJoined};
-ghost use Rattle.partition.specs.Forests.{Forest};
+ghost use Rattle.partition.specs.Forests.{Forest, rootsOf};
 ghost use Rattle.worklist.specs.Settling.{NoLists, QueueRoom};
-ghost use Rattle.contexts.specs.Climbs.{Above, Climbed, ClimbedBelow, ByRoots};
+ghost use Rattle.contexts.specs.Climbs.{Above, Climbed, ClimbedAt, ClimbedBelow, ByRoots};
 ghost use Rattle.contexts.specs.Rounds.{RoundReady};
 
 // No partition has more states.
@@ -45,7 +45,8 @@ fn climb(m: usize, parents: &[u16], groups: &mut [u16], v: usize, w: usize)
     }
 }
 
-// The climb of v and its start, where they are two.
+// The climb of v and its start. Where the parents of both have one start too, the parents' climbs join what this one would, so
+// there is none.
 fn climb_at(m: usize, parents: &[u16], starts: &[u16], groups: &mut [u16], v: usize)
     requires above { ⌜ Above (length (now groups)) (now parents) ⌝ }
     requires starts_labelled { ⌜ Labelled (length (now groups)) (now starts) ⌝ }
@@ -54,11 +55,13 @@ fn climb_at(m: usize, parents: &[u16], starts: &[u16], groups: &mut [u16], v: us
     requires v_inside { ⌜ v < length (now groups) ⌝ }
     ensures { λ _.
         ⌜ ByRoots (length (now (groups .entry)))
-        (Climbed (length (now (groups .entry))) m (now (parents .entry)) v (getD (now (starts .entry)) v 0))
-        (now (groups .entry)) (now (groups .exit)) ⌝ }
+        (ClimbedAt (length (now (groups .entry))) m (now (parents .entry)) (now (starts .entry)) v) (now (groups .entry))
+        (now (groups .exit)) ⌝ }
 {
     let start = wide16(starts[v]);
-    if start == v {
+    let a = wide16(parents[v]);
+    let b = wide16(parents[start]);
+    if starts[a] == starts[b] {
         return;
     }
     climb(m, parents, groups, v, start);
@@ -70,6 +73,7 @@ fn climb_all(m: usize, parents: &[u16], starts: &[u16], groups: &mut [u16])
     requires starts_labelled { ⌜ Labelled (length (now groups)) (now starts) ⌝ }
     requires forest { ⌜ Forest (length (now groups)) (now groups) ⌝ }
     requires few { ⌜ length (now groups) ≤ state-limit ⌝ }
+    requires starts_joined { ⌜ Refines (length (now groups)) (now starts) (rootsOf (now groups)) ⌝ }
     ensures { λ _.
         ⌜ ByRoots (length (now (groups .entry)))
         (ClimbedBelow (length (now (groups .entry))) (length (now (groups .entry))) m (now (parents .entry)) (now (starts .entry)))

@@ -9,7 +9,7 @@ use cells::numbers::wide16;
 use partition::forest;
 ghost use mathlib.Core.Path.{_≡_};
 ghost use mathlib.Core.List.{List};
-ghost use Prim.Native.Nat.{ℕ, _<_, _≤_};
+ghost use Prim.Native.Nat.{ℕ, _<_};
 ghost use lib.ListN.{length};
 ghost use Rattle.model.specs.Limits.{state-limit};
 ghost use Rattle.partition.specs.Forests.{Forest, rootsOf};

@@ -61,13 +61,15 @@ join-requires c κs =
     let start = c .before .before .before .before .before .before .before .before .before in
     let loop = c .before .before .before .before .before .before .loop in
     let forest = loop .inv .1 in
-    let climbing = loop .inv .2 in (
+    let climbing = loop .inv .2 in
+    let x-inside = start .pre .0 .below (loop .a) (climbing .a-below) in
+    let y-inside = start .pre .0 .below (loop .b) (climbing .b-below) in (
       forest-again (length (start .args .groups .now)) (loop .groups) forest,
       (
         omega (arith, forest .size, start .pre .1 .1 .0),
         (
-          omega (arith, c .before .before .before .wide16 .ensures, forest .size, start .pre .0 .below (loop .a) (climbing .a-below)),
-          omega (arith, c .before .wide162 .ensures, forest .size, start .pre .0 .below (loop .b) (climbing .b-below)),
+          omega (arith, c .before .before .before .wide16 .ensures, forest .size, x-inside),
+          omega (arith, c .before .wide162 .ensures, forest .size, y-inside),
         ),
       ),
     )

@@ -5,7 +5,7 @@ use mathlib.Core.List.{List}
 use Prim.Native.Nat.{ℕ}
 use lib.ListN.{length}
 use borrow.Author.Needs.{needs}
-use Rattle.indexed.specs.Partitions.{Labelled}
+use Rattle.indexed.specs.Partitions.{Refines, Labelled}
 use Rattle.indexed.proofs.Fills.{front-length, front-again, front-fits}
 use Rattle.partition.specs.Forests.{rootsOf}
 use Rattle.partition.proofs.ForestLaws.{forest-again, flat-forest, flat-roots}
@@ -45,11 +45,14 @@ climb-all-requires c κs =
     let start = entry c in
     let groups = start .args .groups .now in
     let copied = c .before .before .before .copy in
-    let same = front-again (length groups) groups (copied .last .1 .0) _ (copied .ensures) refl in (
+    let same = front-again (length groups) groups (copied .last .1 .0) _ (copied .ensures) refl in
+    let joined =
+    subst₂ (λ (starts labels : List ℕ). Refines (length groups) starts labels) (sym same)
+    (sym (flat-roots (length groups) groups (start .pre .1 .0))) (λ x y hx hy e. e) in (
       start .pre .0,
       (
         subst (λ (l : List ℕ). Labelled (length groups) l) (sym same) (start .pre .1 .0),
-        (flat-forest (length groups) groups (start .pre .1 .0), start .pre .1 .1),
+        (flat-forest (length groups) groups (start .pre .1 .0), (start .pre .1 .1, joined)),
       ),
     )
 
@@ -76,7 +79,8 @@ returns c =
     subst (λ (l : List ℕ). ClimbedBelow n n (start .args .m) (start .args .parents .now) groups groups l)
     (sym (flat .flatten .ensures))
     (subst₂ (λ (starts first : List ℕ). ClimbedBelow n n (start .args .m) (start .args .parents .now) starts first (rootsOf above))
-    (front-again n groups (copied .last .1 .0) _ (copied .ensures) refl) (flat-roots n groups (start .pre .1 .0)) (climbs .climb-all .ensures .promised))
+    (front-again n groups (copied .last .1 .0) _ (copied .ensures) refl) (flat-roots n groups (start .pre .1 .0))
+    (climbs .climb-all .ensures .promised))
 
 pub climb-starts-spec : {M : Type 1} → statement M
 climb-starts-spec =
