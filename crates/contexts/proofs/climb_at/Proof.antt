@@ -17,23 +17,29 @@ entry c = c .before .before .before .before .before
 abbrev start-of : tie.After-wide163 → tie.After-wide16
 start-of c = c .before .before .before .before
 
--- the start and both parents are states
+-- the start is a state, and both parents are
 start-inside : (c : tie.After-wide16) → c .wide16 .result < length (entry c .args .groups .now)
 start-inside c =
     let at = entry c in
     let inside = at .pre .1 .1 .1 .1 in
     omega (arith, c .wide16 .ensures, at .pre .1 .0 .low (at .args .v) inside, inside)
 
-first-inside :
-    (c : tie.After-wide163) → c .before .before .wide162 .result < length (entry (start-of c) .args .groups .now)
-first-inside c =
-    let at = entry (start-of c) in
-    omega (arith, c .before .before .wide162 .ensures, at .pre .0 .below (at .args .v) (at .pre .1 .1 .1 .1))
+parents-inside :
+    (c : tie.After-wide163) → let n = length (entry (start-of c) .args .groups .now) in
+    (c .before .before .wide162 .result < n) × (c .wide163 .result < n)
+parents-inside c =
+    let at = entry (start-of c) in (
+      omega (arith, c .before .before .wide162 .ensures, at .pre .0 .below (at .args .v) (at .pre .1 .1 .1 .1)),
+      omega (arith, c .wide163 .ensures, at .pre .0 .below (start-of c .wide16 .result) (start-inside (start-of c))),
+    )
 
-second-inside : (c : tie.After-wide163) → c .wide163 .result < length (entry (start-of c) .args .groups .now)
-second-inside c =
-    let at = entry (start-of c) in
-    omega (arith, c .wide163 .ensures, at .pre .0 .below (start-of c .wide16 .result) (start-inside (start-of c)))
+-- and so each has a start
+starts-fit :
+    (c : tie.After-wide163) → let starts = entry (start-of c) .args .starts .now in
+    (c .before .before .wide162 .result < length starts) × (c .wide163 .result < length starts)
+starts-fit c =
+    let size = entry (start-of c) .pre .1 .0 .size in
+    (omega (arith, parents-inside c .0, size), omega (arith, parents-inside c .1, size))
 
 mul-wide16 : tie.Need-mul-wide16
 mul-wide16 c = search needs
@@ -67,18 +73,16 @@ wide16-requires-3 : tie.Need-wide16-requires-3
 wide16-requires-3 c κs = search needs
 
 mul-if1 : tie.Need-mul-if1
-mul-if1 c = omega (arith, first-inside c, entry (start-of c) .pre .1 .0 .size)
+mul-if1 c = omega (arith, starts-fit c .0, starts-fit c .1)
 
 shared-slice-read-if1 : tie.Need-shared-slice-read-if1
-shared-slice-read-if1 c = omega (arith, first-inside (c .before), entry (start-of (c .before)) .pre .1 .0 .size)
+shared-slice-read-if1 c = omega (arith, starts-fit (c .before) .0, starts-fit (c .before) .1)
 
 mul-if1-2 : tie.Need-mul-if1-2
-mul-if1-2 c = omega (arith, second-inside (c .before), entry (start-of (c .before)) .pre .1 .0 .size)
+mul-if1-2 c = omega (arith, starts-fit (c .before) .0, starts-fit (c .before) .1)
 
 shared-slice-read-if1-2 : tie.Need-shared-slice-read-if1-2
-shared-slice-read-if1-2 c =
-    let parents = c .before .before in
-    omega (arith, second-inside parents, entry (start-of parents) .pre .1 .0 .size)
+shared-slice-read-if1-2 c = omega (arith, starts-fit (c .before .before) .0, starts-fit (c .before .before) .1)
 
 returns : tie.Need-returns
 returns c =
