@@ -1,5 +1,5 @@
--- Laws of climbing: one step more, one state more, and what the climbs from states with the same last k names give: a partition
--- that the context rule joins too, and where k is h + 1, one that is closed. Assumes nothing.
+-- Laws of climbing: one step more, one state more, all states, and what the climbs from states with the same last k names give: a
+-- partition that the context rule joins too, and where k is h + 1, one that is closed. Assumes nothing.
 use mathlib.Core.Path.{_≡_, refl, sym, ap, _∙_, subst}
 use mathlib.Core.Logic.{_⊎_, inl, inr, ⊎-elim}
 use mathlib.Core.Bool.{Bool}
@@ -14,7 +14,7 @@ use Rattle.indexed.specs.Passes.{BySuffix, ContextJoined}
 use Rattle.indexed.proofs.Suffixes.{up-parent, parent-below, climb-sound, suffix-cast}
 use Rattle.indexed.proofs.Contexts.{suffix-closed, climbed-closed}
 use Rattle.partition.specs.Joins.{JoinedTwo}
-use Rattle.contexts.specs.Climbs.{Above, Upward, StepsJoined, ParentsJoined, Climbed, ClimbedBelow}
+use Rattle.contexts.specs.Climbs.{Above, Upward, StepsJoined, ParentsJoined, Climbed, ClimbedAt, ClimbedBelow}
 
 -- what holds below i and at i holds below suc i
 pub below-suc : (P : ℕ → Type 0) (i : ℕ) → ((v : ℕ) → v < i → P v) → P i → (v : ℕ) → v < suc i → P v
@@ -30,6 +30,20 @@ pub record Climbing (n m : ℕ) (parents : List ℕ) (v w i a b : ℕ) (groups g
   pub coarser : Refines n groups groups′
   pub sound : (others : List ℕ) → Upward m parents others v w → Refines n groups others → Refines n groups′ others
   pub steps : StepsJoined i parents groups′ v w
+
+-- the ancestors of v and its start are in one group, or the parents of both have one start
+abbrev StepsOrNone : ℕ → List ℕ → List ℕ → List ℕ → ℕ → Type 0
+StepsOrNone m parents starts groups v =
+    StepsJoined m parents groups v (getD starts v 0) ⊎ ParentsJoined parents starts v (getD starts v 0)
+
+-- the first i states have had their climbs, if any
+pub record Climbs (n i m : ℕ) (parents starts groups groups′ : List ℕ) : Type 0 where
+  pub labelled : Labelled n groups′
+  pub coarser : Refines n groups groups′
+  pub sound :
+      (others : List ℕ) → ((v : ℕ) → v < n → Upward m parents others v (getD starts v 0)) → Refines n groups others →
+      Refines n groups′ others
+  pub steps : (v : ℕ) → v < i → StepsOrNone m parents starts groups′ v
 
 module _ (n m : ℕ) (parents : List ℕ) (above : Above n parents) where
   pub climbing-none : (v w : ℕ) (groups : List ℕ) → v < n → w < n → Labelled n groups → Climbing n m parents v w 0 v w groups groups
@@ -99,19 +113,12 @@ module _ (n m : ℕ) (parents : List ℕ) (above : Above n parents) where
         steps = climbing .steps;
       }
 
-  -- a state and itself: nothing is joined
-  pub climbed-same : (v w : ℕ) (groups : List ℕ) → w ≡ v → Labelled n groups → Climbed n m parents v w groups groups
-  climbed-same v w groups e labelled =
-      record {
-        labelled = labelled;
-        coarser = λ x y hx hy same. same;
-        sound = λ others upward refines. refines;
-        steps = λ k pos le. ap (λ (x : ℕ). getD groups (up parents k x) 0) (sym e);
-      }
-
   module _ (starts : List ℕ) (starts-labelled : Labelled n starts) where
-    pub climbed-none : (groups : List ℕ) → Labelled n groups → ClimbedBelow n 0 m parents starts groups groups
-    climbed-none groups labelled =
+    start-below : (v : ℕ) → v < n → getD starts v 0 < n
+    start-below v h = omega (arith, starts-labelled .low v h)
+
+    pub climbs-none : (groups : List ℕ) → Labelled n groups → Climbs n 0 m parents starts groups groups
+    climbs-none groups labelled =
         record {
           labelled = labelled;
           coarser = λ x y hx hy e. e;
@@ -119,26 +126,65 @@ module _ (n m : ℕ) (parents : List ℕ) (above : Above n parents) where
           steps = λ v h. let z : ⊥ = omega arith in absurd z;
         }
 
-    start-below : (v : ℕ) → v < n → getD starts v 0 < n
-    start-below v h = omega (arith, starts-labelled .low v h)
-
-    pub climbed-more :
-        (i : ℕ) (groups now-groups next-groups : List ℕ) → i < n → ClimbedBelow n i m parents starts groups now-groups →
-        Climbed n m parents i (getD starts i 0) now-groups next-groups →
-        ClimbedBelow n (suc i) m parents starts groups next-groups
-    climbed-more i groups now-groups next-groups inside before climbed =
+    pub climbs-more :
+        (i : ℕ) (groups now-groups next-groups : List ℕ) → i < n → Climbs n i m parents starts groups now-groups →
+        ClimbedAt n m parents starts i now-groups next-groups → Climbs n (suc i) m parents starts groups next-groups
+    climbs-more i groups now-groups next-groups inside before (inl climbed) =
         record {
           labelled = climbed .labelled;
           coarser = λ x y hx hy e. climbed .coarser x y hx hy (before .coarser x y hx hy e);
           sound = λ others upward refines. climbed .sound others (upward i inside) (before .sound others upward refines);
-          steps = below-suc (λ (v : ℕ). StepsJoined m parents next-groups v (getD starts v 0)) i earlier (climbed .steps);
+          steps = below-suc (StepsOrNone m parents starts next-groups) i earlier (inl (climbed .steps));
         }
       where
-        earlier : (v : ℕ) → v < i → StepsJoined m parents next-groups v (getD starts v 0)
-        earlier v h k pos le =
+        earlier : (v : ℕ) → v < i → StepsOrNone m parents starts next-groups v
+        earlier v h =
             let hv : v < n = omega arith in
-            climbed .coarser (up parents k v) (up parents k (getD starts v 0)) (up-inside k v hv)
-            (up-inside k (getD starts v 0) (start-below v hv)) (before .steps v h k pos le)
+            ⊎-elim
+            (λ joined. inl (λ k pos le. climbed .coarser (up parents k v) (up parents k (getD starts v 0)) (up-inside k v hv)
+            (up-inside k (getD starts v 0) (start-below v hv)) (joined k pos le)))
+            inr (before .steps v h)
+    climbs-more i groups now-groups next-groups inside before (inr (alike, same)) =
+        subst (λ (l : List ℕ). Climbs n (suc i) m parents starts groups l) (sym same)
+        (record {
+          labelled = before .labelled;
+          coarser = before .coarser;
+          sound = before .sound;
+          steps = below-suc (StepsOrNone m parents starts now-groups) i (before .steps) (inr alike);
+        })
+
+    module _ (groups groups′ : List ℕ) (joined : Refines n starts groups) (climbs : Climbs n n m parents starts groups groups′) where
+      start-parent : (v : ℕ) → v < n → getD parents (getD starts v 0) 0 < n
+      start-parent v h = above .below (getD starts v 0) (start-below v h)
+
+      -- by induction on the step: where there was no climb, the first step leads to states of one start, and each other is a step
+      -- of the parents' climbs
+      all-steps :
+          (k v : ℕ) → v < n → 0 < k → k ≤ m →
+          getD groups′ (up parents k v) 0 ≡ getD groups′ (up parents k (getD starts v 0)) 0
+      unfolding up
+      all-steps zero v h pos le = let z : ⊥ = omega arith in absurd z
+      all-steps (suc zero) v h pos le =
+          let a = getD parents v 0 in
+          let b = getD parents (getD starts v 0) 0 in
+          let ha = above .below v h in
+          let hb = start-parent v h in
+          ⊎-elim (λ steps. steps 1 pos le) (λ alike. climbs .coarser a b ha hb (joined a b ha hb alike)) (climbs .steps v h)
+      all-steps (suc (suc k)) v h pos le =
+          let first = all-steps (suc k) (getD parents v 0) (above .below v h) (omega arith) (omega arith) in
+          let second =
+          all-steps (suc k) (getD parents (getD starts v 0) 0) (start-parent v h) (omega arith) (omega arith) in
+          ⊎-elim (λ steps. steps (suc (suc k)) pos le)
+          (λ alike. first ∙ ap (λ (x : ℕ). getD groups′ (up parents (suc k) x) 0) alike ∙ sym second) (climbs .steps v h)
+
+      pub climbs-all : ClimbedBelow n n m parents starts groups groups′
+      climbs-all =
+          record {
+            labelled = climbs .labelled;
+            coarser = climbs .coarser;
+            sound = climbs .sound;
+            steps = λ v h k. all-steps k v h;
+          }
 
 -- what the climbs from states with the same last k names give
 module _ (n h m k : ℕ) (parents names starts groups : List ℕ) (arrays : Arrays n parents names) (pos : 0 < h) (sum-is : h + m ≡ k)

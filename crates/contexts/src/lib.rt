@@ -5,17 +5,19 @@ pub mod forks;
 pub mod pairs;
 
 use cells::numbers::wide16;
+use partition::forest;
 ghost use mathlib.Core.Path.{_≡_};
 ghost use Prim.Native.Nat.{_+_, _<_, _≤_};
-ghost use lib.ListN.{length, getD};
+ghost use lib.ListN.{length};
 ghost use Rattle.cells.specs.Cells.{work-bytes};
 ghost use Rattle.model.specs.Limits.{setting-limit, state-limit};
 ghost use Rattle.model.specs.Lists.{numbersFrom};
 ghost use Rattle.indexed.specs.Trees.{Arrays};
-ghost use Rattle.indexed.specs.Partitions.{Labelled};
+ghost use Rattle.indexed.specs.Partitions.{Refines, Labelled};
 ghost use Rattle.indexed.specs.Passes.{ContextJoined};
+ghost use Rattle.partition.specs.Forests.{Forest, rootsOf};
 ghost use Rattle.worklist.specs.Settling.{NoLists, QueueRoom};
-ghost use Rattle.contexts.specs.Climbs.{Above, Climbed, ClimbedBelow};
+ghost use Rattle.contexts.specs.Climbs.{Above, Climbed, ClimbedAt, ClimbedBelow, ByRoots};
 ghost use Rattle.contexts.specs.Rounds.{RoundReady};
 
 // No partition has more states.
@@ -24,10 +26,13 @@ pub const STATE_LIMIT: usize = 512;
 // Joins the groups of the ancestors of v and w, the first of each, the second, and so on up to the m-th.
 fn climb(m: usize, parents: &[u16], groups: &mut [u16], v: usize, w: usize)
     requires above { ⌜ Above (length (now groups)) (now parents) ⌝ }
-    requires labelled { ⌜ Labelled (length (now groups)) (now groups) ⌝ }
+    requires forest { ⌜ Forest (length (now groups)) (now groups) ⌝ }
+    requires few { ⌜ length (now groups) ≤ state-limit ⌝ }
     requires v_inside { ⌜ v < length (now groups) ⌝ }
     requires w_inside { ⌜ w < length (now groups) ⌝ }
-    ensures { λ _. ⌜ Climbed (length (now (groups .entry))) m (now (parents .entry)) v w (now (groups .entry)) (now (groups .exit)) ⌝ }
+    ensures { λ _.
+        ⌜ ByRoots (length (now (groups .entry))) (Climbed (length (now (groups .entry))) m (now (parents .entry)) v w)
+        (now (groups .entry)) (now (groups .exit)) ⌝ }
 {
     let mut a = v;
     let mut b = w;
@@ -35,23 +40,28 @@ fn climb(m: usize, parents: &[u16], groups: &mut [u16], v: usize, w: usize)
     while i < m {
         a = wide16(parents[a]);
         b = wide16(parents[b]);
-        partition::join_states(groups, a, b);
+        forest::join(groups, a, b);
         i += 1;
     }
 }
 
-// The climb of v and its start, where they are two.
+// The climb of v and its start. Where the parents of both have one start too, the parents' climbs join what this one would, so
+// there is none.
 fn climb_at(m: usize, parents: &[u16], starts: &[u16], groups: &mut [u16], v: usize)
     requires above { ⌜ Above (length (now groups)) (now parents) ⌝ }
     requires starts_labelled { ⌜ Labelled (length (now groups)) (now starts) ⌝ }
-    requires labelled { ⌜ Labelled (length (now groups)) (now groups) ⌝ }
+    requires forest { ⌜ Forest (length (now groups)) (now groups) ⌝ }
+    requires few { ⌜ length (now groups) ≤ state-limit ⌝ }
     requires v_inside { ⌜ v < length (now groups) ⌝ }
     ensures { λ _.
-        ⌜ Climbed (length (now (groups .entry))) m (now (parents .entry)) v (getD (now (starts .entry)) v 0) (now (groups .entry))
+        ⌜ ByRoots (length (now (groups .entry)))
+        (ClimbedAt (length (now (groups .entry))) m (now (parents .entry)) (now (starts .entry)) v) (now (groups .entry))
         (now (groups .exit)) ⌝ }
 {
     let start = wide16(starts[v]);
-    if start == v {
+    let a = wide16(parents[v]);
+    let b = wide16(parents[start]);
+    if starts[a] == starts[b] {
         return;
     }
     climb(m, parents, groups, v, start);
@@ -61,9 +71,12 @@ fn climb_at(m: usize, parents: &[u16], starts: &[u16], groups: &mut [u16], v: us
 fn climb_all(m: usize, parents: &[u16], starts: &[u16], groups: &mut [u16])
     requires above { ⌜ Above (length (now groups)) (now parents) ⌝ }
     requires starts_labelled { ⌜ Labelled (length (now groups)) (now starts) ⌝ }
-    requires labelled { ⌜ Labelled (length (now groups)) (now groups) ⌝ }
+    requires forest { ⌜ Forest (length (now groups)) (now groups) ⌝ }
+    requires few { ⌜ length (now groups) ≤ state-limit ⌝ }
+    requires starts_joined { ⌜ Refines (length (now groups)) (now starts) (rootsOf (now groups)) ⌝ }
     ensures { λ _.
-        ⌜ ClimbedBelow (length (now (groups .entry))) (length (now (groups .entry))) m (now (parents .entry)) (now (starts .entry))
+        ⌜ ByRoots (length (now (groups .entry)))
+        (ClimbedBelow (length (now (groups .entry))) (length (now (groups .entry))) m (now (parents .entry)) (now (starts .entry)))
         (now (groups .entry)) (now (groups .exit)) ⌝ }
 {
     let mut v = 0;
@@ -86,6 +99,7 @@ fn climb_starts(m: usize, parents: &[u16], groups: &mut [u16])
     let mut starts = [0u16; STATE_LIMIT];
     suffixes::copy(groups, &mut starts[..n]);
     climb_all(m, parents, &starts[..n], groups);
+    forest::flatten(groups);
 }
 
 // Rounds of forks and a sweep, until a sweep joins nothing. The first round fills the lists of arcs for the forks, each other one

@@ -88,6 +88,24 @@ module _ (n : ℕ) (above : List ℕ) (forest : Forest n above) where
       let inside : v < length above = omega (arith, forest .size) in
       List·getD-map (rootOf above) (numbersFrom (length above) 0) v 0 ∙ ap (rootOf above) (number-at (length above) v inside)
 
+  -- a root is no higher than its states
+  root-low : (v : ℕ) → v < n → rootOf above v ≤ v
+  root-low v h =
+      by-ways (λ (w : ℕ). rootOf above w ≤ w) (λ w hw e. omega (arith, root-own above w e))
+      (λ w hw lower rest. omega (arith, root-up w hw)) (suc v) v (omega arith) h
+
+  -- the roots are labels
+  pub roots-labelled : Labelled n (rootsOf above)
+  roots-labelled =
+      record {
+        size = roots-length above ∙ forest .size;
+        low = λ v h. omega (arith, roots-at v h, root-low v h);
+        own = λ v h.
+            let inside : rootOf above v < n = omega (arith, root-low v h) in
+            ap (λ (r : ℕ). getD (rootsOf above) r 0) (roots-at v h) ∙ roots-at (rootOf above v) inside
+            ∙ root-own above (rootOf above v) (root-root v h) ∙ sym (roots-at v h);
+      }
+
   -- the roots as a list, by the root of each state
   pub roots-are :
       (list : List ℕ) → length list ≡ n → ((v : ℕ) → v < n → rootOf above v ≡ getD list v 0) → rootsOf above ≡ list
@@ -113,6 +131,10 @@ pub root-kept :
     (v : ℕ) → v < n → rootOf above′ v ≡ rootOf above v
 root-kept n above above′ forest forest′ same v h =
     sym (roots-at n above′ forest′ v h) ∙ ap (λ (l : List ℕ). getD l v 0) same ∙ roots-at n above forest v h
+
+-- a forest, by its own length
+pub forest-again : (n : ℕ) (above : List ℕ) → Forest n above → Forest (length above) above
+forest-again n above forest = subst (λ (m : ℕ). Forest m above) (sym (forest .size)) forest
 
 -- a partition is a forest in which each state stands right below its root
 pub flat-forest : (n : ℕ) (groups : List ℕ) → Labelled n groups → Forest n groups

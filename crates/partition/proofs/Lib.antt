@@ -2,3 +2,4 @@
 pub mod FillLaws
 pub mod JoinLaws
 pub mod ForestLaws
+pub mod RootLaws

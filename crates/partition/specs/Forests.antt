@@ -1,6 +1,7 @@
 -- A partition as a forest (a union-find structure): each state has a state above it, lower than itself, or is a root; a group goes
 -- by its root, its lowest state. Assumes nothing.
 use mathlib.Core.Path.{_≡_}
+use mathlib.Core.Logic.{_⊎_}
 use mathlib.Core.List.{List, map}
 use Prim.Native.Nat.{ℕ, _<_, _≤_}
 use lib.ListN.{length, getD}
@@ -33,3 +34,14 @@ pub record FoundRoot (n : ℕ) (above above′ : List ℕ) (v root : ℕ) : Type
 pub record United (n x y : ℕ) (above above′ : List ℕ) : Type 0 where
   pub forest : Forest n above′
   pub joined : rootsOf above′ ≡ relabelled x y (rootsOf above)
+
+-- the groups of two states made one: the higher root, `from`, put below the lower, `to`; both the same where it was one group
+pub record JoinedRoots (n : ℕ) (above above′ : List ℕ) (v w to from : ℕ) : Type 0 where
+  pub forest : Forest n above′
+  pub inside : from < n
+  pub order : to ≤ from
+  pub ends :
+      ((to ≡ getD (rootsOf above) v 0) × (from ≡ getD (rootsOf above) w 0))
+      ⊎ ((to ≡ getD (rootsOf above) w 0) × (from ≡ getD (rootsOf above) v 0))
+  pub kept : to ≡ from → rootsOf above′ ≡ rootsOf above
+  pub joined : to < from → rootsOf above′ ≡ relabelled to from (rootsOf above)

@@ -5,7 +5,7 @@ ghost use mathlib.Core.Path.{_≡_};
 ghost use Prim.Native.Nat.{_<_, _≤_};
 ghost use lib.ListN.{length, getD};
 ghost use Rattle.model.specs.Limits.{state-limit};
-ghost use Rattle.partition.specs.Forests.{Forest, rootsOf, FoundRoot, United};
+ghost use Rattle.partition.specs.Forests.{Forest, rootsOf, FoundRoot, United, JoinedRoots};
 
 // The root of a state. Every other state on the way is put below the second above it, so that later ways are shorter.
 pub fn find(above: &mut [u16], v: usize) -> usize
@@ -35,6 +35,34 @@ pub fn unite(above: &mut [u16], x: usize, y: usize)
     ensures { λ _. ⌜ United (length (now (above .entry))) x y (now (above .entry)) (now (above .exit)) ⌝ }
 {
     above[y] = narrow16(x);
+}
+
+// Two groups by their roots: the higher goes into the lower. One group where both are the same.
+pub struct Roots {
+    pub to: usize,
+    pub from: usize,
+}
+
+// Makes the groups of two states one.
+pub fn join(above: &mut [u16], v: usize, w: usize) -> Roots
+    requires forest { ⌜ Forest (length (now above)) (now above) ⌝ }
+    requires few { ⌜ length (now above) ≤ state-limit ⌝ }
+    requires v_inside { ⌜ v < length (now above) ⌝ }
+    requires w_inside { ⌜ w < length (now above) ⌝ }
+    ensures { λ r.
+        ⌜ JoinedRoots (length (now (above .entry))) (now (above .entry)) (now (above .exit)) v w (r .to) (r .from) ⌝ }
+{
+    let x = find(above, v);
+    let y = find(above, w);
+    if x < y {
+        unite(above, x, y);
+        return Roots { to: x, from: y };
+    }
+    if y < x {
+        unite(above, y, x);
+        return Roots { to: y, from: x };
+    }
+    Roots { to: x, from: x }
 }
 
 // Puts every state right below its root: the partition.

@@ -10,10 +10,10 @@ use Rattle.model.specs.Limits.{state-limit}
 use Rattle.indexed.specs.Partitions.{Refines, Labelled, KeyClosed}
 use Rattle.indexed.specs.Passes.{relabelled}
 use Rattle.indexed.proofs.Keys.{relabelled-labelled, relabelled-coarser, relabelled-refines, relabelled-joins}
-use Rattle.partition.specs.Forests.{rootsOf}
+use Rattle.partition.specs.Forests.{rootsOf, JoinedRoots}
 use Rattle.partition.proofs.ForestLaws.{flat-roots, roots-length}
 use Rattle.worklist.specs.Lists.{pair-limit, live, Sorted, Filled, Merged}
-use Rattle.worklist.specs.Settling.{Joins, QueueRoom, JoinedRoots}
+use Rattle.worklist.specs.Settling.{Joins, QueueRoom}
 use Rattle.worklist.specs.Forks.{ForksReady, Nothing, Kept, Closing, JoinedPair, KeptClosed}
 use Rattle.worklist.proofs.QueueLaws.{grew-none}
 use Rattle.worklist.proofs.KindLaws.{each-shorter, each-longer, each-later, each-first, queue-grew, kind-more}

@@ -9,7 +9,6 @@ pub mod FillLaws
 pub mod MergeLaws
 pub mod KindLaws
 pub mod SettleLaws
-pub mod RootLaws
 pub mod PairLaws
 pub mod ForkLaws
 pub mod ForkRounds

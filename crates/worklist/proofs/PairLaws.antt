@@ -6,9 +6,9 @@ use mathlib.Core.List.{List}
 use Prim.Native.Nat.{ℕ, suc, _<_, _≤_}
 use lib.ListN.{length, getD}
 use Rattle.indexed.specs.Passes.{relabelled}
-use Rattle.partition.specs.Forests.{Forest, rootsOf}
+use Rattle.partition.specs.Forests.{Forest, rootsOf, JoinedRoots}
 use Rattle.partition.proofs.ForestLaws.{flat-roots}
-use Rattle.worklist.specs.Settling.{ListedAll, MergedAll, JoinedRoots, Settling, SettledAt, SettledAll}
+use Rattle.worklist.specs.Settling.{ListedAll, MergedAll, Settling, SettledAt, SettledAll}
 use Rattle.worklist.proofs.SettleLaws.{One, settling-done, settling-skipped, settling-joined}
 
 module _ (n : ℕ) (parents names numbers keys more : List ℕ) where

@@ -1,14 +1,12 @@
 -- Joining until closed: what it needs and promises, and what holds while pairs are still queued. Three kinds of arcs: along the
 -- tree's arcs by their names, and two sets of keys against them. Assumes nothing.
 use mathlib.Core.Path.{_≡_}
-use mathlib.Core.Logic.{_⊎_}
 use mathlib.Core.List.{List}
 use Prim.Native.Nat.{ℕ, suc, _+_, _<_, _≤_}
 use lib.ListN.{length, getD}
 use Rattle.model.specs.Limits.{name-limit, state-limit}
 use Rattle.model.specs.Lists.{numbersFrom}
 use Rattle.indexed.specs.Partitions.{Refines, Labelled, KeyClosed}
-use Rattle.indexed.specs.Passes.{relabelled}
 use Rattle.partition.specs.Forests.{Forest, rootsOf}
 use Rattle.worklist.specs.Lists.{pair-limit, live, Sorted, Filled, Merged}
 
@@ -112,17 +110,6 @@ pub record MergedAll
   pub forks : Merged n numbers names fork-rows to from fork-links fork-heads firsts seconds firsts₁ seconds₁ tail tail₁
   pub backs : Merged n parents keys back-rows to from back-links back-heads firsts₁ seconds₁ firsts₂ seconds₂ tail₁ tail₂
   pub others : Merged n parents more more-rows to from more-links more-heads firsts₂ seconds₂ firsts′ seconds′ tail₂ tail′
-
--- the groups of two states made one: the higher root, `from`, put below the lower, `to`; both the same where it was one group
-pub record JoinedRoots (n : ℕ) (above above′ : List ℕ) (v w to from : ℕ) : Type 0 where
-  pub forest : Forest n above′
-  pub inside : from < n
-  pub order : to ≤ from
-  pub ends :
-      ((to ≡ getD (rootsOf above) v 0) × (from ≡ getD (rootsOf above) w 0))
-      ⊎ ((to ≡ getD (rootsOf above) w 0) × (from ≡ getD (rootsOf above) v 0))
-  pub kept : to ≡ from → rootsOf above′ ≡ rootsOf above
-  pub joined : to < from → rootsOf above′ ≡ relabelled to from (rootsOf above)
 
 -- what holds while the pairs from `done` on are still to be joined: arcs of each kind are covered once they are; every closed
 -- partition that is coarser than the one at the start is coarser than this one and joins them; and the queue has room

@@ -9,12 +9,12 @@ use cells::numbers::wide16;
 use partition::forest;
 ghost use mathlib.Core.Path.{_≡_};
 ghost use mathlib.Core.List.{List};
-ghost use Prim.Native.Nat.{ℕ, _<_, _≤_};
+ghost use Prim.Native.Nat.{ℕ, _<_};
 ghost use lib.ListN.{length};
 ghost use Rattle.model.specs.Limits.{state-limit};
 ghost use Rattle.partition.specs.Forests.{Forest, rootsOf};
 ghost use Rattle.worklist.specs.Settling.{RoundReady, RoundClosed, JoinedUntil, NoLists, QueueRoom, FilledAll, ListedAll};
-ghost use Rattle.worklist.specs.Settling.{MergedAll, JoinedRoots, Settling, SettledAt, SettledAll};
+ghost use Rattle.worklist.specs.Settling.{MergedAll, Settling, SettledAt, SettledAll};
 
 // Puts all arcs of three kinds into their lists. Returns the queue's tail.
 fn fill_all(
@@ -150,34 +150,6 @@ fn merge_all(
     )
 }
 
-// Two groups by their roots: the higher goes into the lower. One group where both are the same.
-struct Roots {
-    to: usize,
-    from: usize,
-}
-
-// Makes the groups of two states one.
-fn join_roots(groups: &mut [u16], v: usize, w: usize) -> Roots
-    requires forest { ⌜ Forest (length (now groups)) (now groups) ⌝ }
-    requires few { ⌜ length (now groups) ≤ state-limit ⌝ }
-    requires v_inside { ⌜ v < length (now groups) ⌝ }
-    requires w_inside { ⌜ w < length (now groups) ⌝ }
-    ensures { λ r.
-        ⌜ JoinedRoots (length (now (groups .entry))) (now (groups .entry)) (now (groups .exit)) v w (r .to) (r .from) ⌝ }
-{
-    let x = forest::find(groups, v);
-    let y = forest::find(groups, w);
-    if x < y {
-        forest::unite(groups, x, y);
-        return Roots { to: x, from: y };
-    }
-    if y < x {
-        forest::unite(groups, y, x);
-        return Roots { to: y, from: x };
-    }
-    Roots { to: x, from: x }
-}
-
 // Joins the pair at `done`, where its states are of two groups, and merges the lists of both. Returns the queue's tail.
 fn settle_at(
     parents: &[u16],
@@ -210,7 +182,7 @@ fn settle_at(
         (now (heads3 .exit)) (now (firsts .entry)) (now (seconds .entry)) (now (firsts .exit)) (now (seconds .exit)) done tail
         r ⌝ }
 {
-    let roots = join_roots(groups, wide16(firsts[done]), wide16(seconds[done]));
+    let roots = forest::join(groups, wide16(firsts[done]), wide16(seconds[done]));
     if roots.to == roots.from {
         return tail;
     }

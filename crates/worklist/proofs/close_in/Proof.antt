@@ -6,10 +6,9 @@ use Prim.Native.Nat.{ℕ}
 use native.Mathlib.Omega.{arith}
 use lib.ListN.{length}
 use Rattle.partition.specs.Forests.{rootsOf}
-use Rattle.partition.proofs.ForestLaws.{flat-forest}
+use Rattle.partition.proofs.ForestLaws.{flat-forest, forest-again}
 use Rattle.worklist.specs.Settling.{RoundClosed, JoinedUntil, Settling}
 use Rattle.worklist.proofs.SettleLaws.{settling-filled, settling-done}
-use Rattle.worklist.proofs.RootLaws.{forest-again}
 use Rattle.worklist.proofs.PairLaws.{settling-flat}
 use borrow.Author.Needs.{needs}
 use Rattle.worklist.proofs.close_in.Statement.{statement}

@@ -4,8 +4,8 @@ use Prim.Native.Nat.{_+_, _-_, _<_}
 use native.Mathlib.Numerals.{add-one}
 use native.Mathlib.Omega.{arith}
 use lib.ListN.{length}
+use Rattle.partition.proofs.ForestLaws.{forest-again}
 use Rattle.worklist.specs.Lists.{pair-limit}
-use Rattle.worklist.proofs.RootLaws.{forest-again}
 use Rattle.worklist.proofs.PairLaws.{SettledTo, settled-none, settled-again, settled-more, settled-all}
 use Rattle.worklist.proofs.settle.Statement.{statement}
 use Rattle.worklist.proofs.settle.Tie as tie

@@ -15,7 +15,7 @@ use Rattle.worklist.proofs.settle_at.Tie as tie
 abbrev entry : tie.After-wide162 → tie.Start
 entry c = c .before .before .before .before .before .before .before .before .before .before .before
 
-abbrev joins-of : tie.After-struct-known → tie.After-join-roots
+abbrev joins-of : tie.After-struct-known → tie.After-join
 joins-of c = c .before .before .before
 
 abbrev two-of : tie.After-merge-all-arg8 → tie.Else1
@@ -33,8 +33,8 @@ second-inside c =
     omega (arith, c .wide162 .ensures, at .pre .1 .0 .1 .inside (at .args .done) (omega arith) (at .pre .1 .1) .1)
 
 -- two roots, the lower first
-lower-of : (c : tie.Else1) → joins-of (c .before) .join-roots .result .to < joins-of (c .before) .join-roots .result .from
-lower-of c = omega (arith, c .if1 .left, joins-of (c .before) .join-roots .ensures .order)
+lower-of : (c : tie.Else1) → joins-of (c .before) .join .result .to < joins-of (c .before) .join .result .from
+lower-of c = omega (arith, c .if1 .left, joins-of (c .before) .join .ensures .order)
 
 mul-wide16 : tie.Need-mul-wide16
 mul-wide16 c = search needs
@@ -54,8 +54,8 @@ element-copy-out-wide16-2 c = search needs
 wide16-requires-2 : tie.Need-wide16-requires-2
 wide16-requires-2 c κs = search needs
 
-join-roots-requires : tie.Need-join-roots-requires
-join-roots-requires c κs =
+join-requires : tie.Need-join-requires
+join-requires c κs =
     let at = entry c in
     (at .pre .0, (at .pre .1 .0 .1 .ready .few, (first-inside c, second-inside c)))
 
@@ -67,12 +67,12 @@ returns c =
     let joins = joins-of (c .before) in
     let at = entry (joins .before) in
     settled-skipped (length (at .args .groups .now)) (at .args .parents .now) (at .args .names .now) (at .args .numbers .now)
-    (at .args .keys .now) (at .args .more .now) (at .args .groups .now) (joins .join-roots .last .0) (at .args .links1 .now)
+    (at .args .keys .now) (at .args .more .now) (at .args .groups .now) (joins .join .last .0) (at .args .links1 .now)
     (at .args .heads1 .now) (at .args .links2 .now) (at .args .heads2 .now) (at .args .links3 .now) (at .args .heads3 .now)
     (at .args .firsts .now) (at .args .seconds .now) (at .args .done) (at .args .tail)
-    (joins .before .before .before .wide16 .result) (joins .before .wide162 .result) (joins .join-roots .result .to)
-    (joins .join-roots .result .from) (at .pre .1 .1) (sym (joins .before .before .before .wide16 .ensures))
-    (sym (joins .before .wide162 .ensures)) (joins .join-roots .ensures) (omega (arith, c .if1 .taken))
+    (joins .before .before .before .wide16 .result) (joins .before .wide162 .result) (joins .join .result .to)
+    (joins .join .result .from) (at .pre .1 .1) (sym (joins .before .before .before .wide16 .ensures))
+    (sym (joins .before .wide162 .ensures)) (joins .join .ensures) (omega (arith, c .if1 .taken))
 
 merge-all-requires : tie.Need-merge-all-requires
 merge-all-requires c κs =
@@ -93,7 +93,7 @@ merge-all-requires c κs =
         settling .queue,
         (
           size ∙ sym (settling .ready .parents-size),
-          (lower-of two, omega (arith, joins .join-roots .ensures .inside, settling .ready .few)),
+          (lower-of two, omega (arith, joins .join .ensures .inside, settling .ready .few)),
         ),
       ),
     )
@@ -107,12 +107,12 @@ returns-2 c =
     let joins = joins-of (two .before) in
     let at = entry (joins .before) in
     settled-joined (length (at .args .groups .now)) (at .args .parents .now) (at .args .names .now) (at .args .numbers .now)
-    (at .args .keys .now) (at .args .more .now) (at .args .groups .now) (joins .join-roots .last .0) (at .args .links1 .now)
+    (at .args .keys .now) (at .args .more .now) (at .args .groups .now) (joins .join .last .0) (at .args .links1 .now)
     (at .args .heads1 .now) (at .args .links2 .now) (at .args .heads2 .now) (at .args .links3 .now) (at .args .heads3 .now)
     (at .args .firsts .now) (at .args .seconds .now) (at .args .done) (at .args .tail)
-    (joins .before .before .before .wide16 .result) (joins .before .wide162 .result) (joins .join-roots .result .to)
-    (joins .join-roots .result .from) (at .pre .1 .1) (sym (joins .before .before .before .wide16 .ensures))
-    (sym (joins .before .wide162 .ensures)) (joins .join-roots .ensures) (c .merge-all .last .1 .1 .1 .1 .1 .0)
+    (joins .before .before .before .wide16 .result) (joins .before .wide162 .result) (joins .join .result .to)
+    (joins .join .result .from) (at .pre .1 .1) (sym (joins .before .before .before .wide16 .ensures))
+    (sym (joins .before .wide162 .ensures)) (joins .join .ensures) (c .merge-all .last .1 .1 .1 .1 .1 .0)
     (c .merge-all .last .1 .1 .1 .1 .1 .1 .0) (c .merge-all .last .1 .1 .1 .1 .1 .1 .1 .0)
     (c .merge-all .last .1 .1 .1 .1 .1 .1 .1 .1 .0) (c .merge-all .last .1 .1 .1 .1 .1 .1 .1 .1 .1 .0)
     (c .merge-all .last .1 .1 .1 .1 .1 .1 .1 .1 .1 .1 .0) (c .merge-all .last .1 .1 .1 .1 .1 .1 .1 .1 .1 .1 .1 .0)
@@ -129,7 +129,7 @@ settle-at-spec =
     mul-wide16-2
     element-copy-out-wide16-2
     wide16-requires-2
-    join-roots-requires
+    join-requires
     same-length
     returns
     merge-all-requires

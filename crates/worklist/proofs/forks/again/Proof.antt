@@ -5,9 +5,8 @@ use Prim.Native.Nat.{ℕ}
 use lib.ListN.{length}
 use borrow.Author.Needs.{needs}
 use Rattle.partition.specs.Forests.{rootsOf}
-use Rattle.partition.proofs.ForestLaws.{flat-forest}
+use Rattle.partition.proofs.ForestLaws.{flat-forest, forest-again}
 use Rattle.worklist.specs.Forks.{ForksReady, Kept, Closing}
-use Rattle.worklist.proofs.RootLaws.{forest-again}
 use Rattle.worklist.proofs.ForkLaws.{opening-kept, closing-again}
 use Rattle.worklist.proofs.ForkRounds.{round-ended}
 use Rattle.worklist.proofs.forks.again.Statement.{statement}

@@ -11,21 +11,21 @@ use Rattle.worklist.proofs.forks.join.Statement.{statement}
 use Rattle.worklist.proofs.forks.join.Tie as tie
 
 -- the function's entry, and the groups made one from the places after it
-abbrev entry : tie.After-join-roots-arg → tie.Start
+abbrev entry : tie.After-join-arg → tie.Start
 entry c = c .before .before .before .before
 
-abbrev joins-of : tie.After-struct-known → tie.After-join-roots
+abbrev joins-of : tie.After-struct-known → tie.After-join
 joins-of c = c .before .before .before
 
 abbrev two-of : tie.After-merge-arg4 → tie.Else1
 two-of c = c .before .before .before .before
 
 -- two roots, the lower first
-lower-of : (c : tie.Else1) → joins-of (c .before) .join-roots .result .to < joins-of (c .before) .join-roots .result .from
-lower-of c = omega (arith, c .if1 .left, joins-of (c .before) .join-roots .ensures .order)
+lower-of : (c : tie.Else1) → joins-of (c .before) .join .result .to < joins-of (c .before) .join .result .from
+lower-of c = omega (arith, c .if1 .left, joins-of (c .before) .join .ensures .order)
 
-join-roots-requires : tie.Need-join-roots-requires
-join-roots-requires c κs =
+join-requires : tie.Need-join-requires
+join-requires c κs =
     let at = entry c in
     (at .pre .0, (at .pre .1 .0 .1 .few, (at .pre .1 .1 .1 .1 .0, at .pre .1 .1 .1 .1 .1)))
 
@@ -37,9 +37,9 @@ returns c =
     let joins = joins-of (c .before) in
     let at = entry (joins .before) in
     pair-skipped (length (at .args .groups .now)) (at .args .names .now) (at .args .numbers .now) (at .args .groups .now)
-    (joins .join-roots .last .0) (at .args .links .now) (at .args .heads .now) (at .args .firsts .now) (at .args .seconds .now)
-    (at .args .v) (at .args .w) (joins .join-roots .result .to) (joins .join-roots .result .from) (at .args .tail)
-    (joins .join-roots .ensures) (omega (arith, c .if1 .taken))
+    (joins .join .last .0) (at .args .links .now) (at .args .heads .now) (at .args .firsts .now) (at .args .seconds .now)
+    (at .args .v) (at .args .w) (joins .join .result .to) (joins .join .result .from) (at .args .tail)
+    (joins .join .ensures) (omega (arith, c .if1 .taken))
 
 merge-requires : tie.Need-merge-requires
 merge-requires c κs =
@@ -56,9 +56,9 @@ merge-requires c κs =
       (
         at .pre .1 .1 .0 ∙ sym (lists .1 .keys-size),
         (
-          omega (arith, lower-of two, joins .join-roots .ensures .inside, lists .1 .few),
+          omega (arith, lower-of two, joins .join .ensures .inside, lists .1 .few),
           (
-            omega (arith, joins .join-roots .ensures .inside, lists .1 .few),
+            omega (arith, joins .join .ensures .inside, lists .1 .few),
             (λ e. omega (arith, e, lower-of two), (at .pre .1 .1 .1 .0 .firsts-size, at .pre .1 .1 .1 .0 .seconds-size)),
           ),
         ),
@@ -75,13 +75,13 @@ returns-2 c =
     let at = entry (joins .before) in
     let lists = at .pre .1 .0 in
     pair-joined (length (at .args .groups .now)) (at .args .names .now) (at .args .numbers .now) (at .args .groups .now)
-    (joins .join-roots .last .0) (at .args .links .now) (at .args .heads .now) (at .args .firsts .now) (at .args .seconds .now)
-    (at .args .v) (at .args .w) (joins .join-roots .result .to) (joins .join-roots .result .from) (at .args .tail)
-    (joins .join-roots .ensures) (c .merge .last .1 .1 .0) (c .merge .last .1 .1 .1 .0) (c .merge .last .1 .1 .1 .1 .0)
+    (joins .join .last .0) (at .args .links .now) (at .args .heads .now) (at .args .firsts .now) (at .args .seconds .now)
+    (at .args .v) (at .args .w) (joins .join .result .to) (joins .join .result .from) (at .args .tail)
+    (joins .join .ensures) (c .merge .last .1 .1 .0) (c .merge .last .1 .1 .1 .0) (c .merge .last .1 .1 .1 .1 .0)
     (c .merge .last .1 .1 .1 .1 .1 .0) (c .merge .result) refl (at .pre .1 .1 .1 .1 .0) (at .pre .1 .1 .1 .1 .1)
     (lower-of two) (c .merge .ensures) (lists .0)
     (sorted-by-keys (length (at .args .groups .now)) (at .args .names .now) (lists .0) (at .args .links .now)
     (at .args .heads .now) (lists .1))
 
 pub join-spec : {M : Type 1} → statement M
-join-spec = tie.close (tie.spec join-roots-requires same-length returns merge-requires same-length-2 returns-2)
+join-spec = tie.close (tie.spec join-requires same-length returns merge-requires same-length-2 returns-2)

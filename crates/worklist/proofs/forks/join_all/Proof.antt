@@ -5,8 +5,8 @@ use Prim.Native.Nat.{_-_, _<_}
 use native.Mathlib.Omega.{arith}
 use lib.ListN.{length}
 use Rattle.partition.specs.Forests.{rootsOf}
+use Rattle.partition.proofs.ForestLaws.{forest-again}
 use Rattle.worklist.specs.Forks.{Closing}
-use Rattle.worklist.proofs.RootLaws.{forest-again}
 use Rattle.worklist.proofs.KindLaws.{own-size}
 use Rattle.worklist.proofs.ForkLaws.{closing-sorted}
 use Rattle.worklist.proofs.ForkRounds.{

@@ -6,9 +6,9 @@ use native.Mathlib.Numerals.{add-one}
 use native.Mathlib.Omega.{arith}
 use lib.ListN.{length}
 use Rattle.partition.specs.Forests.{rootsOf}
+use Rattle.partition.proofs.ForestLaws.{forest-again}
 use Rattle.worklist.specs.Lists.{pair-limit}
 use Rattle.worklist.specs.Forks.{Closing, SettledForks}
-use Rattle.worklist.proofs.RootLaws.{forest-again}
 use Rattle.worklist.proofs.KindLaws.{own-size}
 use Rattle.worklist.proofs.ForkLaws.{closing-sorted}
 use Rattle.worklist.proofs.ForkRounds.{settled-none, settled-more, settled-all}

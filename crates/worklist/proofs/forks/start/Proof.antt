@@ -5,10 +5,9 @@ use native.Mathlib.Omega.{arith}
 use lib.ListN.{length}
 use borrow.Author.Needs.{needs}
 use Rattle.partition.specs.Forests.{rootsOf}
-use Rattle.partition.proofs.ForestLaws.{flat-forest}
+use Rattle.partition.proofs.ForestLaws.{flat-forest, forest-again}
 use Rattle.worklist.specs.Forks.{Closing}
 use Rattle.worklist.proofs.KindLaws.{own-size}
-use Rattle.worklist.proofs.RootLaws.{forest-again}
 use Rattle.worklist.proofs.SettleLaws.{fill-asked}
 use Rattle.worklist.proofs.ForkLaws.{opening-filled, filled-closed}
 use Rattle.worklist.proofs.ForkRounds.{flat-coarser, round-ended}

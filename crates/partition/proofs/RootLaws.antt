@@ -1,18 +1,19 @@
--- Laws of two roots: found one after the other, and the higher put below the lower. Assumes nothing.
-use mathlib.Core.Path.{_≡_, sym, ap, _∙_, subst}
-use mathlib.Core.Logic.{inl, inr}
+-- Laws of two roots: found one after the other, and the higher put below the lower; that joins the groups of both states.
+-- Assumes nothing.
+use mathlib.Core.Path.{_≡_, sym, ap, ap₂, _∙_, subst, subst₂}
+use mathlib.Core.Logic.{inl, inr, ⊎-elim}
+use mathlib.Core.Bool.{Bool, true, false}
 use mathlib.Core.List.{List}
 use Prim.Native.Nat.{ℕ, _<_}
 use native.Mathlib.Omega.{arith}
 use lib.ListN.{length, getD}
+use Rattle.model.proofs.Tests.{eq-dec}
+use Rattle.indexed.specs.Partitions.{Labelled}
 use Rattle.indexed.specs.Passes.{relabelled}
-use Rattle.partition.specs.Forests.{Forest, rootsOf, FoundRoot, United}
-use Rattle.partition.proofs.ForestLaws.{root-root, roots-at}
-use Rattle.worklist.specs.Settling.{JoinedRoots}
-
--- a forest, by its own length
-pub forest-again : (n : ℕ) (above : List ℕ) → Forest n above → Forest (length above) above
-forest-again n above forest = subst (λ (m : ℕ). Forest m above) (sym (forest .size)) forest
+use Rattle.partition.specs.Joins.{JoinedTwo}
+use Rattle.partition.specs.Forests.{Forest, rootsOf, FoundRoot, United, JoinedRoots}
+use Rattle.partition.proofs.ForestLaws.{root-root, roots-at, roots-labelled}
+use Rattle.partition.proofs.JoinLaws.{joined-none, joined-first, joined-flip}
 
 -- the roots x and y of two states found, in a forest with the same roots
 pub record Both (n : ℕ) (above above′ : List ℕ) (v w x y : ℕ) : Type 0 where
@@ -84,3 +85,36 @@ roots-same n above above₂ v w x y both same =
       kept = λ one. both .kept;
       joined = λ apart. absurd (omega arith);
     }
+
+-- the partition by roots is that of two groups made one
+pub roots-two :
+    (n : ℕ) (above above′ : List ℕ) (v w to from : ℕ) → Forest n above → v < n → w < n →
+    JoinedRoots n above above′ v w to from → (joined : Bool) × JoinedTwo n v w (rootsOf above) (rootsOf above′) joined
+roots-two n above above′ v w to from forest hv hw roots =
+    ⊎-elim (λ same. (false, one-group same))
+    (λ apart. (
+      true,
+      ⊎-elim (two-groups v w hv hw (omega (arith, roots .order)))
+          (λ e. joined-flip n v w (rootsOf above) (rootsOf above′) true (two-groups w v hw hv (omega (arith, roots .order)) e))
+          (roots .ends),
+    ))
+    (eq-dec to from)
+  where
+    labelled : Labelled n (rootsOf above)
+    labelled = roots-labelled n above forest
+
+    one : to ≡ from → getD (rootsOf above) v 0 ≡ getD (rootsOf above) w 0
+    one same = ⊎-elim (λ e. sym (e .0) ∙ same ∙ e .1) (λ e. sym (e .1) ∙ sym same ∙ e .0) (roots .ends)
+
+    one-group : to ≡ from → JoinedTwo n v w (rootsOf above) (rootsOf above′) false
+    one-group same =
+        subst (λ (l : List ℕ). JoinedTwo n v w (rootsOf above) l false) (sym (roots .kept same))
+        (joined-none n v w (rootsOf above) labelled (one same))
+
+    -- a has the lower root
+    two-groups :
+        (a b : ℕ) → a < n → b < n → to < from → (to ≡ getD (rootsOf above) a 0) × (from ≡ getD (rootsOf above) b 0) →
+        JoinedTwo n a b (rootsOf above) (rootsOf above′) true
+    two-groups a b ha hb lower e =
+        joined-first n a b (rootsOf above) (rootsOf above′) labelled ha hb (subst₂ _<_ (e .0) (e .1) lower)
+        (roots .joined lower ∙ ap₂ (λ (x y : ℕ). relabelled x y (rootsOf above)) (e .0) (e .1))
