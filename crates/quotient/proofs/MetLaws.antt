@@ -8,8 +8,8 @@ use mathlib.Core.List.{List·Memᴰ·eq-of-singleton, Memᴰ·append-left, Mem�
 use Prim.Native.Nat.{ℕ, zero, suc, _+_, _-_, _^_, _<_, _≤_}
 use native.Mathlib.Numerals.{add-one}
 use native.Mathlib.Omega.{arith}
-use lib.Count.{trailingZeros}
-use lib.ListN.{length, getD, set, take, replicate, length-append, length-set, length-replicate, getD-replicate}
+use lib.Count.{ones, trailingZeros}
+use lib.ListN.{length, getD, set, take, replicate, length-append, length-set, length-replicate, getD-replicate, List·getD-append}
 use lib.Seq.{take-suc-set, getD-set-same, getD-set-other, getD-take}
 use Rattle.model.specs.Limits.{name-limit, state-limit}
 use Rattle.model.specs.Lists.{any, isIn, indexIn}
@@ -26,7 +26,7 @@ use Rattle.model.proofs.MetOrder.{metFrom-appends, metFrom-ends, metFrom-step}
 use Rattle.cells.specs.Cells.{cellAt}
 use Rattle.quotient.specs.Gathered.{ArcsAt, Gathered}
 use Rattle.quotient.specs.Numbered.{MetAs, MeetingOne, Meeting}
-use Rattle.quotient.proofs.ArcSets.{arcs-more, arcs-done}
+use Rattle.quotient.proofs.ArcSets.{arcs-more, arcs-done, arcs-counted}
 use Rattle.quotient.proofs.TreeArcs.{labels-fit, label-low, root-group, tree-some}
 
 -- ---- one target
@@ -144,6 +144,7 @@ pub record MeetingMore
   pub low : name < name-limit
   pub in-set : 2 ^ name ≤ set
   pub some : 0 < 2 ^ name
+  pub fewer : (bits : ℕ) → bits ≡ 2 ^ name → ones set ≡ suc (ones (set - bits))
   pub then :
       (met′ numbers′ : List ℕ) (reached bits : ℕ) → MetAs n met′ numbers′ reached one → bits ≡ 2 ^ name →
       Meeting n work row (set - bits) met′ numbers′ reached after
@@ -193,6 +194,11 @@ module _ {n : ℕ} {work : List ℕ} {row set : ℕ} {met numbers : List ℕ} {c
         low = next .low;
         in-set = next .in-set;
         some = next .some;
+        fewer = λ bits b.
+            arcs-counted (r .arcs) (r .at-row)
+            ∙ ap length (next .is)
+            ∙ ap suc (sym (arcs-counted (next .rest) (next .after)))
+            ∙ ap (λ (k : ℕ). suc (ones (set - k))) (sym b);
         then = λ met′ numbers′ reached bits m b.
             record {
               seen = one;
@@ -339,6 +345,19 @@ module _ (rows : List Word) (groups work next : List ℕ) (gathered : Gathered r
         ap length (r .comes-to),
         metFrom-adds (r .looks) i (transitionsOf (treeOf rows) groups) (r .seen),
         r .so-far .counted,
+      )
+
+  -- the i-th group met is the i-th of all
+  pub numbering-nth :
+      (met numbers : List ℕ) (i count g : ℕ) → Numbering rows groups met numbers i count → i < count → g ≡ getD met i 0 →
+      (i < length (metGroups (treeOf rows) groups)) × (g ≡ getD (metGroups (treeOf rows) groups) i 0)
+  numbering-nth met numbers i count g r h e =
+      let more = metFrom-appends (r .looks) i (transitionsOf (treeOf rows) groups) (r .seen) in
+      let every-is : metGroups (treeOf rows) groups ≡ r .seen ++ more .0 = r .comes-to ∙ more .1 in
+      let early : i < length (r .seen) = omega (arith, r .so-far .counted) in (
+        omega (arith, ap length every-is, length-append (r .seen) (more .0)),
+        e ∙ met-nth (r .seen) (r .so-far) i h ∙ sym (List·getD-append (r .seen) (more .0) 0 i early)
+            ∙ ap (λ (l : List ℕ). getD l i 0) (sym every-is),
       )
 
   pub numbering-more :

@@ -25,7 +25,7 @@ use Rattle.writing.specs.Writing.{stateHead, arcPart}
 use Rattle.writing.proofs.Pieces.{state-bytes, state-bytes-length, arc-bytes-cons}
 use Rattle.quotient.specs.Gathered.{ArcsAt, Gathered}
 use Rattle.quotient.specs.Numbered.{MetAs}
-use Rattle.quotient.specs.Ready.{Ready, Sized, ArcsToWrite, StateToWrite}
+use Rattle.quotient.specs.Ready.{Ready, ArcsToWrite, StateToWrite}
 use Rattle.quotient.proofs.ArcSets.{arcs-more, arcs-done, arcs-counted}
 use Rattle.quotient.proofs.MetLaws.{met-nth, met-low}
 use Rattle.quotient.proofs.TreeArcs.{labels-fit}
@@ -210,20 +210,17 @@ count-low rows groups work next met numbers count r m =
 
 -- one more state counted
 pub sized-more :
-    (rows : List Word) (groups next met : List ℕ) (count : ℕ) → Sized rows groups next met count → (i g total many : ℕ) →
-    i < count → g ≡ getD met i 0 → many ≡ ones (getD next g 0) →
+    (rows : List Word) (groups work next : List ℕ) → Gathered rows groups work next → (i g total arcs : ℕ) →
+    i < length (metGroups (treeOf rows) groups) → g ≡ getD (metGroups (treeOf rows) groups) i 0 → g < length (treeOf rows) →
+    arcs ≡ ones (getD next g 0) →
     total + length (fieldsFrom rows groups i) ≡ length (stateFields (statesOf rows (treeOf rows) groups)) →
-    total + (4 + 3 * many) + length (fieldsFrom rows groups (i + 1)) ≡ length (stateFields (statesOf rows (treeOf rows) groups))
-sized-more rows groups next met count r i g total many h e f before =
-    let every = metGroups (treeOf rows) groups in
-    let counted : count ≡ length every = r .numbered .counted in
-    let g-is : g ≡ getD every i 0 = e ∙ met-nth every (r .numbered) i h in
-    let g-low : g < length (treeOf rows) = omega (arith, met-low every (r .numbered) i h) in
+    total + (4 + 3 * arcs) + length (fieldsFrom rows groups (i + 1)) ≡ length (stateFields (statesOf rows (treeOf rows) groups))
+sized-more rows groups work next gathered i g total arcs h e low f before =
     omega (
       arith,
-      ap length (fields-more rows groups i g (omega arith) g-is),
+      ap length (fields-more rows groups i g h e),
       length-append (fieldOf rows groups g) (fieldsFrom rows groups (i + 1)),
-      field-length rows groups (r .work) next (r .gathered) g g-low,
+      field-length rows groups work next gathered g low,
     )
 
 -- the state of the i-th group met, ready to be written

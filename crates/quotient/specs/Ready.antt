@@ -20,12 +20,10 @@ pub record Ready (rows : List Word) (groups work next accepting met numbers : Li
   pub marked : Accepting rows groups accepting
   pub numbered : MetAs (length (treeOf rows)) met numbers count (metGroups (treeOf rows) groups)
 
--- arcs gathered and groups numbered, whatever the cells and the numbers
-pub record Sized (rows : List Word) (groups next met : List ℕ) (count : ℕ) : Type 0 where
-  pub work : List ℕ
-  pub numbers : List ℕ
-  pub gathered : Gathered rows groups work next
-  pub numbered : MetAs (length (treeOf rows)) met numbers count (metGroups (treeOf rows) groups)
+-- the groups numbered first-met, and how many bytes the fields of their states take
+pub record NumberedStates (rows : List Word) (groups met numbers : List ℕ) (states bytes : ℕ) : Type 0 where
+  pub numbered : MetAs (length (treeOf rows)) met numbers states (metGroups (treeOf rows) groups)
+  pub sized : bytes ≡ length (stateFields (statesOf rows (treeOf rows) groups))
 
 -- all ready, with the number of states and the number of bytes that they take
 pub record Prepared

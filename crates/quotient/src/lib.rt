@@ -44,10 +44,5 @@ pub fn prepare(
 {
     gathering::gather(parents, names, groups, work, next);
     gathering::mark_accepting(accepts, groups, accepting);
-    let states = numbering::number(groups, work, next, met, numbers);
-    let bytes = states::bytes_of(next, met, states);
-    Quotient {
-        states: states,
-        bytes: bytes,
-    }
+    numbering::number(groups, work, next, met, numbers)
 }

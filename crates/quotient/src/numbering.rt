@@ -1,5 +1,6 @@
 // First-met numbers of groups: the root's group is 0; groups are taken in ascending number and their arcs in ascending name, and each
-// new target has the next number.
+// new target has the next number. As each arc is gone through once, the bytes of the states' fields are counted too.
+use crate::Quotient;
 use crate::sets;
 use cells::cell;
 use cells::numbers::narrow16;
@@ -9,11 +10,10 @@ ghost use mathlib.Core.List.{List};
 ghost use Prim.Native.Nat.{ℕ, _<_, _≤_};
 ghost use lib.ListN.{length, replicate};
 ghost use Rattle.model.specs.Classes.{Word};
-ghost use Rattle.model.specs.Joinings.{treeOf};
 ghost use Rattle.model.specs.Limits.{state-limit, work-bytes};
-ghost use Rattle.model.specs.Quotients.{metGroups};
 ghost use Rattle.quotient.specs.Gathered.{Gathered};
-ghost use Rattle.quotient.specs.Numbered.{MetAs, MeetingOne, Meeting};
+ghost use Rattle.quotient.specs.Numbered.{MetAs, MeetingOne, Meeting, MetTargets};
+ghost use Rattle.quotient.specs.Ready.{NumberedStates};
 
 // The number of a group that is not met yet.
 pub const NOT_MET: u16 = 512;
@@ -45,7 +45,13 @@ fn meet_one(met: &mut [u16], numbers: &mut [u16], count: usize, target: usize) -
     count + 1
 }
 
-// Meets the targets of a group's arcs, in ascending name.
+// How many groups are met, and how many arcs led there.
+pub struct Reached {
+    pub count: usize,
+    pub arcs: usize,
+}
+
+// Meets the targets of a group's arcs, in ascending name, and counts the arcs.
 fn meet(
     work: &[u8],
     row: usize,
@@ -53,43 +59,54 @@ fn meet(
     met: &mut [u16],
     numbers: &mut [u16],
     count: usize,
-) -> usize
+) -> Reached
     requires { ⌜ (work-bytes ≤ length (now work)) × (row < state-limit) ⌝ }
     requires { ⌜ ((n : ℕ) × (after : List ℕ) × Meeting n (now work) row names (now met) (now numbers) count after) ⌝ }
     ensures { λ r. ⌜ ((n : ℕ) → (after : List ℕ) →
         Meeting n (now (work .entry)) row names (now (met .entry)) (now (numbers .entry)) count after →
-        MetAs n (now (met .exit)) (now (numbers .exit)) r after) ⌝ }
+        MetTargets n names (now (met .exit)) (now (numbers .exit)) (r .count) (r .arcs) after) ⌝ }
 {
     let mut left = names;
     let mut reached = count;
+    let mut arcs = 0;
     while 0 < left {
         let name = sets::lowest(left);
         reached = meet_one(met, numbers, reached, cell(work, row, name));
         left -= sets::only(name);
+        arcs += 1;
     }
-    reached
+    Reached {
+        count: reached,
+        arcs: arcs,
+    }
 }
 
-// Meets every group, from the root's on. Returns how many there are.
+// Meets every group, from the root's on. A state's field takes four bytes, and three for each arc.
 pub fn number(
     groups: &[u16],
     work: &[u8],
     next: &[u64],
     met: &mut [u16],
     numbers: &mut [u16],
-) -> usize
+) -> Quotient
     requires { ⌜ ((rows : List Word) × Gathered rows (now groups) (now work) (now next)) ⌝ }
     requires { ⌜ (length (now groups) ≤ length (now met)) × (length (now groups) ≤ length (now numbers)) ⌝ }
     ensures { λ r. ⌜ ((rows : List Word) → Gathered rows (now (groups .entry)) (now (work .entry)) (now (next .entry)) →
-        MetAs (length (treeOf rows)) (now (met .exit)) (now (numbers .exit)) r (metGroups (treeOf rows) (now (groups .entry)))) ⌝ }
+        NumberedStates rows (now (groups .entry)) (now (met .exit)) (now (numbers .exit)) (r .states) (r .bytes)) ⌝ }
 {
     none_met(numbers);
     let mut count = meet_one(met, numbers, 0, wide16(groups[0]));
+    let mut bytes = 0;
     let mut i = 0;
     while i < count {
         let g = wide16(met[i]);
-        count = meet(work, g, next[g], met, numbers, count);
+        let reached = meet(work, g, next[g], met, numbers, count);
+        count = reached.count;
+        bytes += 4 + 3 * reached.arcs;
         i += 1;
     }
-    count
+    Quotient {
+        states: count,
+        bytes: bytes,
+    }
 }

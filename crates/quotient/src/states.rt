@@ -1,4 +1,4 @@
-// The states' fields, from the arcs gathered and the numbers given: how many bytes they take, and the bytes, front to back.
+// The states' fields, written front to back from the arcs gathered and the numbers given.
 use crate::sets;
 use cells::cell;
 use cells::numbers::narrow8;
@@ -15,24 +15,7 @@ ghost use Rattle.model.specs.Limits.{state-limit, work-bytes};
 ghost use Rattle.model.specs.Quotients.{statesOf};
 ghost use Rattle.model.specs.Tables.{stateFields};
 ghost use Rattle.writing.specs.Writing.{Put};
-ghost use Rattle.quotient.specs.Ready.{Ready, Sized, ArcsToWrite, StateToWrite};
-
-// How many bytes the states' fields take: four for each state and three for each arc.
-pub fn bytes_of(next: &[u64], met: &[u16], count: usize) -> usize
-    requires { ⌜ ((rows : List Word) × (groups : List ℕ) × Sized rows groups (now next) (now met) count) ⌝ }
-    ensures { λ r. ⌜ ((rows : List Word) → (groups : List ℕ) →
-        Sized rows groups (now (next .entry)) (now (met .entry)) count →
-        r ≡ length (stateFields (statesOf rows (treeOf rows) groups))) ⌝ }
-{
-    let mut total = 0;
-    let mut i = 0;
-    while i < count {
-        let g = wide16(met[i]);
-        total += 4 + 3 * sets::how_many(next[g]);
-        i += 1;
-    }
-    total
-}
+ghost use Rattle.quotient.specs.Ready.{Ready, ArcsToWrite, StateToWrite};
 
 // The number of a group.
 fn number_of(numbers: &[u16], group: usize) -> usize

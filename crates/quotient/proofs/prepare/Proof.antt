@@ -21,23 +21,6 @@ number-requires c κs =
     let at = early .before .before .before .before .before .before .before .before .before .before .before .before in
     ((at .pre .0 .0, gathered .ensures (at .pre .0 .0) (at .pre .0 .1)), at .pre .1 .1 .1)
 
-bytes-of-requires : tie.Need-bytes-of-requires
-bytes-of-requires c κs =
-    let numbered = c .before .before .before .before .before .before in
-    let after-gather = numbered .before .before .before .before .before .before .before .before .before .before .before .before .before in
-    let at = after-gather .before .before .before .before .before .before .before .before .before .before .before .before in
-    let rows = at .pre .0 .0 in
-    let gathered = after-gather .gather .ensures rows (at .pre .0 .1) in (
-      rows,
-      at .args .groups .now,
-      record {
-        work = after-gather .gather .last .1 .1 .1 .0;
-        numbers = numbered .number .last .1 .1 .1 .1 .0;
-        gathered = gathered;
-        numbered = numbered .number .ensures rows gathered;
-      },
-    )
-
 same-length : tie.Need-same-length
 same-length c = search needs
 
@@ -55,32 +38,25 @@ same-length-5 c = search needs
 
 returns : tie.Need-returns
 returns c =
-    let after-number = c .before .before .before .before .before .before .before in
+    let after-number = c .before .before .before .before in
     let after-marking = after-number .before .before .before .before .before .before .before in
     let after-gather = after-marking .before .before .before .before .before .before in
     let at = after-gather .before .before .before .before .before .before .before .before .before .before .before .before in
     let groups = at .args .groups .now in
     λ rows joined told.
     let gathered = after-gather .gather .ensures rows joined in
-    let numbered = after-number .number .ensures rows gathered in
+    let states = after-number .number .ensures rows gathered in
     record {
       ready =
           record {
             gathered = gathered;
             marked = after-marking .mark-accepting .ensures rows told (joined .labels);
-            numbered = numbered;
+            numbered = states .numbered;
           };
       counted =
-          numbered .counted
+          states .numbered .counted
           ∙ sym (states-length (treeOf rows) groups (treeOf-tree rows) (labels-fit rows groups (joined .labels)) rows);
-      sized =
-          c .bytes-of .ensures rows groups
-          (record {
-            work = after-gather .gather .last .1 .1 .1 .0;
-            numbers = after-number .number .last .1 .1 .1 .1 .0;
-            gathered = gathered;
-            numbered = numbered;
-          });
+      sized = states .sized;
     }
 
 pub prepare-spec : {M : Type 1} → statement M
@@ -90,7 +66,6 @@ prepare-spec =
     gather-requires
     mark-accepting-requires
     number-requires
-    bytes-of-requires
     same-length
     same-length-2
     same-length-3
