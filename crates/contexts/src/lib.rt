@@ -192,7 +192,8 @@ fn run_rounds(
     );
 }
 
-// Joins by the context rule until it applies no more. What the lent area holds at first is all the same.
+// Joins by the context rule until it applies no more: not at all where no two states have the same last k names. What the lent
+// area holds at first is all the same.
 pub fn join_by_context(
     k: usize,
     h: usize,
@@ -208,7 +209,10 @@ pub fn join_by_context(
     requires room { ⌜ work-bytes ≤ length (now work) ⌝ }
     ensures { λ _. ⌜ ContextJoined (length (now (groups .entry))) k h (now (parents .entry)) (now (names .entry)) (now (groups .exit)) ⌝ }
 {
-    suffixes::by_suffix(k, parents, names, groups);
+    let joined = suffixes::by_suffix(k, parents, names, groups);
+    if !joined {
+        return;
+    }
     let m = k - h;
     if m == 0 {
         return;

@@ -6,11 +6,11 @@ use Prim.Native.Nat.{ℕ, _<_}
 use lib.ListN.{length, getD}
 use Rattle.model.specs.Lists.{numbersFrom}
 use Rattle.indexed.specs.Trees.{Arrays}
-use Rattle.indexed.specs.Partitions.{Labelled, KeyClosed, ForkClosed}
+use Rattle.indexed.specs.Partitions.{Labelled, Alone, KeyClosed}
 use Rattle.indexed.specs.Passes.{ByEnds}
 use Rattle.indexed.proofs.Keys.{number-at, forks-keys}
 use Rattle.indexed.proofs.Suffixes.{parent-below}
-use Rattle.values.specs.Buckets.{Alone}
+use Rattle.indexed.proofs.Alone.{alone-same, alone-forks}
 use Rattle.worklist.specs.Settling.{RoundReady, RoundClosed, JoinedUntil}
 use Rattle.functions.specs.Rounds.{FinishReady, Finished}
 
@@ -52,27 +52,16 @@ alone-closed :
     RoundClosed n parents names (numbersFrom n 0) keys more groups
 alone-closed n parents names keys more groups arrays alone =
     record {
-      forks = forks-keys n parents names groups arrays forks;
+      forks = forks-keys n parents names groups arrays (alone-forks n parents names groups arrays alone);
       backs = backs keys;
       others = backs more;
     }
   where
-    inside : (v : ℕ) → v < n → getD parents v 0 < n
-    inside = parent-below n parents names arrays
-
-    same : (v w : ℕ) → v < n → w < n → getD groups v 0 ≡ getD groups w 0 → v ≡ w
-    same v w hv hw one = sym (alone v hv) ∙ one ∙ alone w hw
-
-    forks : ForkClosed n parents names groups
-    forks v w pv pw hv hw name one =
-        ap (λ (x : ℕ). getD groups x 0)
-        (arrays .one-child v w pv pw hv hw (same (getD parents v 0) (getD parents w 0) (inside v hv) (inside w hw) one) name)
-
     backs : (ks : List ℕ) → KeyClosed n (numbersFrom n 0) parents ks groups
     backs ks v w hv hw below key one =
         let at-v : getD (numbersFrom n 0) v 0 ≡ v = number-at n v hv in
         let at-w : getD (numbersFrom n 0) w 0 ≡ w = number-at n w hw in
-        ap (λ (x : ℕ). getD groups (getD parents x 0) 0) (same v w hv hw (rw (at-v, at-w) at one))
+        ap (λ (x : ℕ). getD groups (getD parents x 0) 0) (alone-same n groups alone v w hv hw (rw (at-v, at-w) at one))
 
 -- so where the ends join nothing, it is finished
 pub finished-alone :

@@ -9,6 +9,7 @@ pub mod Keys
 pub mod Labels
 pub mod Suffixes
 pub mod Contexts
+pub mod Alone
 pub mod Bits
 pub mod Sets
 pub mod Values

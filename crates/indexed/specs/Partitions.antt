@@ -19,6 +19,10 @@ pub record Labelled (n : ℕ) (groups : List ℕ) : Type 0 where
   pub low : (v : ℕ) → v < n → getD groups v 0 ≤ v
   pub own : (v : ℕ) → v < n → getD groups (getD groups v 0) 0 ≡ getD groups v 0
 
+-- each of the first i states has its own number for its group
+abbrev pub Alone : ℕ → List ℕ → Type 0
+Alone i groups = (v : ℕ) → v < i → getD groups v 0 ≡ v
+
 -- closed along arcs with keys: where `ins` lead into one group under one key, `outs` are in one group. A key of 64 is none
 abbrev pub KeyClosed : ℕ → List ℕ → List ℕ → List ℕ → List ℕ → Type 0
 KeyClosed n ins outs keys groups =

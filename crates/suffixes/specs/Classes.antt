@@ -1,4 +1,4 @@
--- From the classes of equal codes to the classes by last names, and from these to a partition. Assumes nothing.
+-- From the classes of equal codes to the classes by last names. Assumes nothing.
 use mathlib.Core.Path.{_≡_}
 use mathlib.Core.List.{List}
 use Prim.Native.Nat.{ℕ, _<_, _≤_}
@@ -18,13 +18,3 @@ pub record Judged (bound value class class′ : ℕ) : Type 0 where
 pub record Dropped (n bound : ℕ) (values classes classes′ : List ℕ) : Type 0 where
   pub size : length classes′ ≡ length classes
   pub each : (v : ℕ) → v < n → Judged bound (getD values v 0) (getD classes v 0) (getD classes′ v 0)
-
--- a state's group from its class: the class, or the state itself where it has none
-pub record Kept (v class group : ℕ) : Type 0 where
-  pub kept : class < state-limit → group ≡ class
-  pub alone : (class < state-limit → ⊥) → group ≡ v
-
--- from classes to a partition: states without a class each by itself
-pub record Grouped (n : ℕ) (classes groups : List ℕ) : Type 0 where
-  pub size : length groups ≡ length classes
-  pub each : (v : ℕ) → v < n → Kept v (getD classes v 0) (getD groups v 0)

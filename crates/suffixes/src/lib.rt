@@ -1,16 +1,17 @@
 // Classes of the states of a prefix tree by their last names, and the partition by them. A state's class is the first state with
 // the same last names. The last names of each state are one number, its code, seven bits a name; states are compared by their
 // codes. For passes against the arcs the name before the last ones is a state's key.
-use cells::numbers::narrow16;
 use cells::numbers::wide16;
 ghost use mathlib.Core.Path.{_≡_};
+ghost use mathlib.Core.Bool.{false};
 ghost use Prim.Native.Nat.{ℕ, suc, _+_, _-_, _*_, _/_, _%_, _^_, _<_, _≤_};
 ghost use lib.ListN.{length, getD};
 ghost use Rattle.model.specs.Limits.{name-limit, setting-limit};
 ghost use Rattle.indexed.specs.Trees.{Arrays};
+ghost use Rattle.indexed.specs.Partitions.{Alone};
 ghost use Rattle.indexed.specs.Passes.{SuffixClasses, BySuffix, NamesAbove};
 ghost use Rattle.suffixes.specs.Codes.{least, Coded, TopName};
-ghost use Rattle.suffixes.specs.Classes.{above, Judged, Dropped, Kept, Grouped};
+ghost use Rattle.suffixes.specs.Classes.{above, Judged, Dropped};
 
 // The class of a state with too few names: as many states as a tree may have.
 const NONE: u16 = 512;
@@ -159,29 +160,6 @@ fn drop_short(bound: u64, values: &[u64], classes: &mut [u16])
     }
 }
 
-// The group of state v: its class, or v itself where it has none.
-fn group_of(class: u16, v: usize) -> u16
-    requires { ⌜ v < 512 ⌝ }
-    ensures { λ r. ⌜ Kept v class r ⌝ }
-{
-    if class < NONE {
-        return class;
-    }
-    narrow16(v)
-}
-
-// From classes to groups: states without a class each by itself.
-fn group(classes: &mut [u16])
-    requires { ⌜ length (now classes) ≤ 512 ⌝ }
-    ensures { λ _. ⌜ Grouped (length (now (classes .entry))) (now (classes .entry)) (now (classes .exit)) ⌝ }
-{
-    let mut v = 0;
-    while v < classes.len() {
-        classes[v] = group_of(classes[v], v);
-        v += 1;
-    }
-}
-
 // The classes by the last i names, with room for the codes: those of equal codes, none for states with fewer names.
 fn classes_in(i: usize, parents: &[u16], names: &[u8], values: &mut [u64], classes: &mut [u16])
     requires { ⌜ Arrays (length (now classes)) (now parents) (now names) ⌝ }
@@ -207,13 +185,35 @@ pub fn suffix_classes(i: usize, parents: &[u16], names: &[u8], classes: &mut [u1
     classes_in(i, parents, names, &mut values[..n], classes);
 }
 
-// The partition by the last k names, states with fewer each by itself.
-pub fn by_suffix(k: usize, parents: &[u16], names: &[u8], groups: &mut [u16])
-    requires { ⌜ Arrays (length (now groups)) (now parents) (now names) ⌝ }
-    requires { ⌜ k ≤ setting-limit ⌝ }
-    ensures { λ _.
+// The partition by the last k names, with room for the codes: a state with fewer names has a code that no other has, and is by
+// itself. True where any states were joined.
+fn groups_in(
+    k: usize,
+    parents: &[u16],
+    names: &[u8],
+    values: &mut [u64],
+    groups: &mut [u16],
+) -> bool
+    requires arrays { ⌜ Arrays (length (now groups)) (now parents) (now names) ⌝ }
+    requires few { ⌜ k ≤ setting-limit ⌝ }
+    requires values_size { ⌜ length (now values) ≡ length (now groups) ⌝ }
+    ensures by { λ _.
         ⌜ BySuffix (length (now (groups .entry))) k (now (parents .entry)) (now (names .entry)) (now (groups .exit)) ⌝ }
+    ensures none { λ joined. ⌜ (joined ≡ false → Alone (length (now (groups .entry))) (now (groups .exit))) ⌝ }
 {
-    suffix_classes(k, parents, names, groups);
-    group(groups);
+    codes(k, parents, names, values);
+    values::classes_of(values, groups)
+}
+
+// The partition by the last k names, states with fewer each by itself; true where any states were joined.
+pub fn by_suffix(k: usize, parents: &[u16], names: &[u8], groups: &mut [u16]) -> bool
+    requires arrays { ⌜ Arrays (length (now groups)) (now parents) (now names) ⌝ }
+    requires few { ⌜ k ≤ setting-limit ⌝ }
+    ensures by { λ _.
+        ⌜ BySuffix (length (now (groups .entry))) k (now (parents .entry)) (now (names .entry)) (now (groups .exit)) ⌝ }
+    ensures none { λ joined. ⌜ (joined ≡ false → Alone (length (now (groups .entry))) (now (groups .exit))) ⌝ }
+{
+    let n = groups.len();
+    let mut values = [0u64; 512];
+    groups_in(k, parents, names, &mut values[..n], groups)
 }

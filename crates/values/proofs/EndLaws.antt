@@ -11,7 +11,8 @@ use lib.ListN.{length, getD, set}
 use borrow.Author.Tests.{eqb-true, eqb-false, not-false}
 use Rattle.indexed.specs.Passes.{ByEnds, ByValue}
 use Rattle.indexed.proofs.Fills.{Filled, fill-more}
-use Rattle.values.specs.Buckets.{FirstEnd, EndLabel, Alone}
+use Rattle.indexed.specs.Partitions.{Alone}
+use Rattle.values.specs.Buckets.{FirstEnd, EndLabel}
 
 -- a state's group, where it accepts and where not
 pub label-end :

@@ -1,6 +1,6 @@
 -- Lists of first accepting states, by the buckets of their values: the bucket of a value, the states in a list, all lists of the
--- first states, a state put into its list, the first accepting state with a value, the group that it gives a state, and
--- states that are each by itself. Assumes nothing.
+-- first states, a state put into its list, the first accepting state with a value, and the group that it gives a state. Assumes
+-- nothing.
 use mathlib.Core.Path.{_≡_}
 use mathlib.Core.List.{List}
 use Prim.Native.Nat.{ℕ, _+_, _*_, _/_, _<_, _≤_}
@@ -47,10 +47,6 @@ pub record FirstEnd (accepts values : List ℕ) (v answer : ℕ) : Type 0 where
 pub record EndLabel (accepts values : List ℕ) (v answer : ℕ) : Type 0 where
   pub end : getD accepts v 0 ≡ 1 → FirstEnd accepts values v answer
   pub other : (getD accepts v 0 ≡ 1 → ⊥) → answer ≡ v
-
--- each of the first i states has its own number for its group
-abbrev pub Alone : ℕ → List ℕ → Type 0
-Alone i groups = (v : ℕ) → v < i → getD groups v 0 ≡ v
 
 -- what a search of the lists finds for v, whichever states accept, where v does and the lists are theirs
 pub record FirstAlike (values : List ℕ) (v : ℕ) (links heads : List ℕ) (answer : ℕ) : Type 0 where

@@ -8,8 +8,9 @@ ghost use mathlib.Core.Bool.{false};
 ghost use Prim.Native.Nat.{_+_, _<_, _≤_};
 ghost use lib.ListN.{length, getD};
 ghost use Rattle.model.specs.Limits.{state-limit};
+ghost use Rattle.indexed.specs.Partitions.{Alone};
 ghost use Rattle.indexed.specs.Passes.{ByEnds, ByValue};
-ghost use Rattle.values.specs.Buckets.{bucketOf, Buckets, SomeBuckets, Linked, FirstAlike, EndLabel, Alone};
+ghost use Rattle.values.specs.Buckets.{bucketOf, Buckets, SomeBuckets, Linked, FirstAlike, EndLabel};
 
 // The bucket of a value: nine bits from the middle of the two halves' products with large odd numbers, so that values which differ
 // in few bits fall apart. A product of two numbers of 32 bits fits; its highest bits would be 0 for small values.
@@ -105,13 +106,14 @@ pub fn by_ends(accepts: &[u8], values: &[u64], groups: &mut [u16]) -> bool
     joined
 }
 
-// Each state's class: the first state with the same value.
-pub fn classes_of(values: &[u64], classes: &mut [u16])
+// Each state's class: the first state with the same value. True where any states have one value.
+pub fn classes_of(values: &[u64], classes: &mut [u16]) -> bool
     requires few { ⌜ length (now classes) ≤ state-limit ⌝ }
     requires values_size { ⌜ length (now values) ≡ length (now classes) ⌝ }
-    ensures { λ _. ⌜ ByValue (length (now (classes .entry))) (now (values .entry)) (now (classes .exit)) ⌝ }
+    ensures classes { λ _. ⌜ ByValue (length (now (classes .entry))) (now (values .entry)) (now (classes .exit)) ⌝ }
+    ensures none { λ joined. ⌜ (joined ≡ false → Alone (length (now (classes .entry))) (now (classes .exit))) ⌝ }
 {
     let n = classes.len();
     let all = [1u8; 512];
-    by_ends(&all[..n], values, classes);
+    by_ends(&all[..n], values, classes)
 }

@@ -47,8 +47,8 @@ returns c =
     let classes = classed .classes-of .last .1 .0 in
     let classes′ = dropped .drop-short .last .1 .1 .0 in
     dropped-classes n i parents names values classes classes′ (start .pre .0)
-    (subst (λ (m : ℕ). Coded m i parents names values) (start .pre .1 .1) (coded .codes .ensures)) (classed .classes-of .ensures)
-    (subst₂ (λ (m bound : ℕ). Dropped m bound values classes classes′) (classed .classes-of .ensures .labelled .size)
+    (subst (λ (m : ℕ). Coded m i parents names values) (start .pre .1 .1) (coded .codes .ensures)) (classed .classes-of .ensures .0)
+    (subst₂ (λ (m bound : ℕ). Dropped m bound values classes classes′) (classed .classes-of .ensures .0 .labelled .size)
     (least-is .least-code .ensures) (dropped .drop-short .ensures))
 
 pub classes-in-spec : {M : Type 1} → statement M

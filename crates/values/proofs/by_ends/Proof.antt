@@ -6,7 +6,8 @@ use Prim.Native.Nat.{_-_, _≤_}
 use native.Mathlib.Omega.{arith}
 use lib.ListN.{length}
 use Rattle.indexed.proofs.Fills.{Filled, filled-none, filled-more}
-use Rattle.values.specs.Buckets.{Buckets, EndLabel, Alone}
+use Rattle.indexed.specs.Partitions.{Alone}
+use Rattle.values.specs.Buckets.{Buckets, EndLabel}
 use Rattle.values.proofs.BucketLaws.{buckets-none}
 use Rattle.values.proofs.EndLaws.{by-ends-all, label-low, alone-more}
 use Rattle.values.proofs.by_ends.Statement.{statement}
