@@ -4,9 +4,11 @@ use mathlib.Core.Path.{_≡_, refl, sym, ap, _∙_, subst}
 use mathlib.Core.Bool.{Bool, true, false, true≢false}
 use mathlib.Core.List.{List}
 use Prim.Native.Nat.{ℕ, _<_}
+use native.Mathlib.Omega.{arith}
 use lib.ListN.{length, getD}
 use Rattle.model.specs.Limits.{name-limit}
 use Rattle.suffixes.proofs.AboveLaws.{codes-alike}
+use Rattle.worklist.specs.Settling.{NoKeys}
 use Rattle.functions.specs.Parts.{SetsAndKeys, CodesAndKeys, ValuesAndKeys}
 use Rattle.functions.specs.Rounds.{FinishReady, Finished}
 use Rattle.functions.specs.Results.{JoinReady, JoinedByF}
@@ -47,6 +49,15 @@ prepared-ready false n j parents names accepts unused values keys more ready siz
       keys-size = by .above .size;
       more-size = ap length (by .same-more) ∙ size;
     }
+
+-- the rule of last names has no second set of keys
+pub last-keys :
+    (seen : Bool) (n j : ℕ) (parents names unused values keys more : List ℕ) →
+    ((v : ℕ) → v < n → getD unused v 0 ≡ name-limit) → ValuesAndKeys seen n j parents names unused values keys more →
+    seen ≡ false → NoKeys n more
+last-keys seen n j parents names unused values keys more none told is v h =
+    let same : getD more v 0 ≡ getD unused v 0 = ap (λ (l : List ℕ). getD l v 0) (told .of-last is .same-more) in
+    omega (arith, none v h)
 
 -- joined with them until closed is joined by the rule of f
 pub joined-by-f :

@@ -67,7 +67,17 @@ fn join_in(
         (now (groups .exit)) ⌝ }
 {
     prepare(seen, j, parents, names, values, keys, more);
-    rounds::finish(parents, names, accepts, values, keys, more, numbers, groups);
+    rounds::finish(
+        seen,
+        parents,
+        names,
+        accepts,
+        values,
+        keys,
+        more,
+        numbers,
+        groups,
+    );
 }
 
 // Joins by the set of names seen, or else by the last j names. One function for both: what is called from one place only shares

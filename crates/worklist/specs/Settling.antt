@@ -21,6 +21,10 @@ pub record RoundReady (n : ℕ) (parents names numbers keys more groups : List �
   pub own : numbers ≡ numbersFrom n 0
   pub labelled : Labelled n groups
 
+-- no state has a key
+abbrev pub NoKeys : ℕ → List ℕ → Type 0
+NoKeys n keys = (v : ℕ) → v < n → name-limit ≤ getD keys v 0
+
 -- closed under forks and under both sets of keys against the arcs
 pub record RoundClosed (n : ℕ) (parents names numbers keys more groups : List ℕ) : Type 0 where
   pub forks : KeyClosed n parents numbers names groups

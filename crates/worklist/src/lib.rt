@@ -1,23 +1,25 @@
 // Joins until closed, by a queue of pairs of states. For each group one arc of each key is kept, in lists by ascending key; where
 // two groups become one their lists are merged, and two arcs of one key put a pair into the queue. There are three kinds of arcs:
-// along the tree's arcs by their names, and two sets of keys against them; links1 and heads1 are the lists of the first, and so
-// on.
+// along the tree's arcs by their names, and two sets of keys against them, of which the second may have none; links1 and heads1
+// are the lists of the first kind, and so on.
 pub mod forks;
 pub mod lists;
 
 use cells::numbers::wide16;
 use partition::forest;
 ghost use mathlib.Core.Path.{_≡_};
+ghost use mathlib.Core.Bool.{false};
 ghost use mathlib.Core.List.{List};
 ghost use Prim.Native.Nat.{ℕ, _<_};
 ghost use lib.ListN.{length};
 ghost use Rattle.model.specs.Limits.{state-limit};
 ghost use Rattle.partition.specs.Forests.{Forest, rootsOf};
-ghost use Rattle.worklist.specs.Settling.{RoundReady, RoundClosed, JoinedUntil, NoLists, QueueRoom, FilledAll, ListedAll};
-ghost use Rattle.worklist.specs.Settling.{MergedAll, Settling, SettledAt, SettledAll};
+ghost use Rattle.worklist.specs.Settling.{RoundReady, RoundClosed, JoinedUntil, NoKeys, NoLists, QueueRoom, FilledAll};
+ghost use Rattle.worklist.specs.Settling.{ListedAll, MergedAll, Settling, SettledAt, SettledAll};
 
-// Puts all arcs of three kinds into their lists. Returns the queue's tail.
+// Puts all arcs of three kinds into their lists, of two where the second set has no keys. Returns the queue's tail.
 fn fill_all(
+    both: bool,
     parents: &[u16],
     names: &[u8],
     numbers: &[u16],
@@ -39,6 +41,7 @@ fn fill_all(
     requires no_backs { ⌜ NoLists (now links2) (now heads2) ⌝ }
     requires no_others { ⌜ NoLists (now links3) (now heads3) ⌝ }
     requires queue { ⌜ QueueRoom (now firsts) (now seconds) ⌝ }
+    requires one_set { ⌜ (both ≡ false → NoKeys (length (now groups)) (now more)) ⌝ }
     ensures { λ r.
         ⌜ FilledAll (length (now (groups .entry))) (now (parents .entry)) (now (names .entry)) (now (numbers .entry))
         (now (keys .entry)) (now (more .entry)) (now (groups .entry)) (now (links1 .exit)) (now (heads1 .exit))
@@ -67,6 +70,9 @@ fn fill_all(
         seconds,
         forks,
     );
+    if !both {
+        return backs;
+    }
     lists::fill(
         numbers,
         parents,
@@ -261,6 +267,7 @@ fn settle(
 
 // What `close` does, with its arrays made. Where no pair is queued the partition is closed as it is, and is left.
 fn close_in(
+    both: bool,
     parents: &[u16],
     names: &[u8],
     numbers: &[u16],
@@ -282,6 +289,7 @@ fn close_in(
     requires no_backs { ⌜ NoLists (now links2) (now heads2) ⌝ }
     requires no_others { ⌜ NoLists (now links3) (now heads3) ⌝ }
     requires queue { ⌜ QueueRoom (now firsts) (now seconds) ⌝ }
+    requires one_set { ⌜ (both ≡ false → NoKeys (length (now groups)) (now more)) ⌝ }
     ensures { λ _.
         ⌜ JoinedUntil
         (RoundClosed (length (now (groups .entry))) (now (parents .entry)) (now (names .entry)) (now (numbers .entry))
@@ -289,6 +297,7 @@ fn close_in(
         (length (now (groups .entry))) (now (groups .entry)) (now (groups .exit)) ⌝ }
 {
     let tail = fill_all(
+        both,
         parents,
         names,
         numbers,
@@ -327,8 +336,10 @@ fn close_in(
     forest::flatten(groups);
 }
 
-// Joins groups until the partition is closed under forks and under both sets of keys against the arcs.
+// Joins groups until the partition is closed under forks and under both sets of keys against the arcs; `both` is false where the
+// second set has none.
 pub fn close(
+    both: bool,
     parents: &[u16],
     names: &[u8],
     numbers: &[u16],
@@ -338,6 +349,7 @@ pub fn close(
 )
     requires ready { ⌜ RoundReady (length (now groups)) (now parents) (now names) (now numbers) (now keys) (now more)
         (now groups) ⌝ }
+    requires one_set { ⌜ (both ≡ false → NoKeys (length (now groups)) (now more)) ⌝ }
     ensures { λ _.
         ⌜ JoinedUntil
         (RoundClosed (length (now (groups .entry))) (now (parents .entry)) (now (names .entry)) (now (numbers .entry))
@@ -353,6 +365,7 @@ pub fn close(
     let mut firsts = [0u16; 1536];
     let mut seconds = [0u16; 1536];
     close_in(
+        both,
         parents,
         names,
         numbers,

@@ -4,7 +4,7 @@ use Prim.Native.Nat.{ℕ}
 use lib.ListN.{length}
 use Rattle.functions.specs.Parts.{ValuesAndKeys}
 use Rattle.functions.proofs.FLaws.{arrays-for}
-use Rattle.functions.proofs.PreparedLaws.{prepared-ready, joined-by-f}
+use Rattle.functions.proofs.PreparedLaws.{prepared-ready, last-keys, joined-by-f}
 use borrow.Author.Needs.{needs}
 use Rattle.functions.proofs.join_in.Statement.{statement}
 use Rattle.functions.proofs.join_in.Tie as tie
@@ -52,7 +52,12 @@ finish-requires c κs =
           (args .accepts .now) (args .more .now) (prepared .prepare .last .1 .1 .1 .1 .0)
           (prepared .prepare .last .1 .1 .1 .1 .1 .0) (prepared .prepare .last .1 .1 .1 .1 .1 .1 .0) (at .pre .1 .0)
           (at .pre .1 .1 .1 .1 .0) (told-here prepared),
-      at .pre .1 .1 .1 .1 .1 .1,
+      (
+        at .pre .1 .1 .1 .1 .1 .1,
+        last-keys (args .seen) (length (args .groups .now)) (args .j) (args .parents .now) (args .names .now) (args .more .now)
+            (prepared .prepare .last .1 .1 .1 .1 .0) (prepared .prepare .last .1 .1 .1 .1 .1 .0)
+            (prepared .prepare .last .1 .1 .1 .1 .1 .1 .0) (at .pre .1 .1 .1 .1 .1 .0) (told-here prepared),
+      ),
     )
 
 same-length : tie.Need-same-length
@@ -79,7 +84,7 @@ returns c =
     joined-by-f (args .seen) (length (args .groups .now)) (args .j) (args .parents .now) (args .names .now)
     (args .accepts .now) (args .more .now) (prepared .prepare .last .1 .1 .1 .1 .0)
     (prepared .prepare .last .1 .1 .1 .1 .1 .0) (prepared .prepare .last .1 .1 .1 .1 .1 .1 .0)
-    (finishes .finish .last .1 .1 .1 .1 .1 .1 .1 .0) (at .pre .1 .0) (at .pre .1 .1 .1 .1 .1 .0) (told-here prepared)
+    (finishes .finish .last .1 .1 .1 .1 .1 .1 .1 .1 .0) (at .pre .1 .0) (at .pre .1 .1 .1 .1 .1 .0) (told-here prepared)
     (finishes .finish .ensures)
 
 pub join-in-spec : {M : Type 1} → statement M

@@ -27,8 +27,7 @@ returns : tie.Need-returns
 returns c =
     let done = c .before .before in
     let start = done .before .before .before .before .before in
-    let n = length (start .args .classes .now) in
-    (
+    let n = length (start .args .classes .now) in (
       ends-classes n _ (start .args .values .now) (done .by-ends .last .1 .1 .0) (λ v h. cut-at n 1 v (start .pre .0) h)
           (done .by-ends .ensures .0),
       done .by-ends .ensures .1,

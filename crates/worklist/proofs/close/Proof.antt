@@ -10,7 +10,7 @@ entry c = c .before .before .before .before .before .before .before .before .bef
     .before
 
 close-in-requires : tie.Need-close-in-requires
-close-in-requires c κs = (entry c .pre, (no-lists, (no-lists, (no-lists, no-pairs))))
+close-in-requires c κs = (entry c .pre .0, (no-lists, (no-lists, (no-lists, (no-pairs, entry c .pre .1)))))
 
 same-length : tie.Need-same-length
 same-length c = search needs

@@ -31,10 +31,10 @@ Pending fills groups =
     let at = entry (fills .before) in
     let last = fills .fill-all .last in
     Settling (length (at .args .groups .now)) (at .args .parents .now) (at .args .names .now) (at .args .numbers .now)
-    (at .args .keys .now) (at .args .more .now) (at .args .groups .now) groups (last .1 .1 .1 .1 .1 .1 .0)
-    (last .1 .1 .1 .1 .1 .1 .1 .0) (last .1 .1 .1 .1 .1 .1 .1 .1 .0) (last .1 .1 .1 .1 .1 .1 .1 .1 .1 .0)
-    (last .1 .1 .1 .1 .1 .1 .1 .1 .1 .1 .0) (last .1 .1 .1 .1 .1 .1 .1 .1 .1 .1 .1 .0)
-    (last .1 .1 .1 .1 .1 .1 .1 .1 .1 .1 .1 .1 .0) (last .1 .1 .1 .1 .1 .1 .1 .1 .1 .1 .1 .1 .1 .0) 0 (fills .fill-all .result)
+    (at .args .keys .now) (at .args .more .now) (at .args .groups .now) groups (last .1 .1 .1 .1 .1 .1 .1 .0)
+    (last .1 .1 .1 .1 .1 .1 .1 .1 .0) (last .1 .1 .1 .1 .1 .1 .1 .1 .1 .0) (last .1 .1 .1 .1 .1 .1 .1 .1 .1 .1 .0)
+    (last .1 .1 .1 .1 .1 .1 .1 .1 .1 .1 .1 .0) (last .1 .1 .1 .1 .1 .1 .1 .1 .1 .1 .1 .1 .0)
+    (last .1 .1 .1 .1 .1 .1 .1 .1 .1 .1 .1 .1 .1 .0) (last .1 .1 .1 .1 .1 .1 .1 .1 .1 .1 .1 .1 .1 .1 .0) 0 (fills .fill-all .result)
 
 -- as it is, and as a forest
 filled : (fills : tie.After-fill-all) → Pending fills (entry (fills .before) .args .groups .now)
@@ -42,21 +42,21 @@ filled fills =
     let at = entry (fills .before) in
     let last = fills .fill-all .last in
     settling-filled (length (at .args .groups .now)) (at .args .parents .now) (at .args .names .now) (at .args .numbers .now)
-    (at .args .keys .now) (at .args .more .now) (at .args .groups .now) (last .1 .1 .1 .1 .1 .1 .0)
-    (last .1 .1 .1 .1 .1 .1 .1 .0) (last .1 .1 .1 .1 .1 .1 .1 .1 .0) (last .1 .1 .1 .1 .1 .1 .1 .1 .1 .0)
-    (last .1 .1 .1 .1 .1 .1 .1 .1 .1 .1 .0) (last .1 .1 .1 .1 .1 .1 .1 .1 .1 .1 .1 .0) (at .args .firsts .now)
-    (at .args .seconds .now) (last .1 .1 .1 .1 .1 .1 .1 .1 .1 .1 .1 .1 .0) (last .1 .1 .1 .1 .1 .1 .1 .1 .1 .1 .1 .1 .1 .0)
-    (fills .fill-all .result) (at .pre .0) (at .pre .1 .1 .1 .1) (fills .fill-all .ensures)
+    (at .args .keys .now) (at .args .more .now) (at .args .groups .now) (last .1 .1 .1 .1 .1 .1 .1 .0)
+    (last .1 .1 .1 .1 .1 .1 .1 .1 .0) (last .1 .1 .1 .1 .1 .1 .1 .1 .1 .0) (last .1 .1 .1 .1 .1 .1 .1 .1 .1 .1 .0)
+    (last .1 .1 .1 .1 .1 .1 .1 .1 .1 .1 .1 .0) (last .1 .1 .1 .1 .1 .1 .1 .1 .1 .1 .1 .1 .0) (at .args .firsts .now)
+    (at .args .seconds .now) (last .1 .1 .1 .1 .1 .1 .1 .1 .1 .1 .1 .1 .1 .0) (last .1 .1 .1 .1 .1 .1 .1 .1 .1 .1 .1 .1 .1 .1 .0)
+    (fills .fill-all .result) (at .pre .0) (at .pre .1 .1 .1 .1 .0) (fills .fill-all .ensures)
 
 pending : (fills : tie.After-fill-all) → Pending fills (rootsOf (entry (fills .before) .args .groups .now))
 pending fills =
     let at = entry (fills .before) in
     let last = fills .fill-all .last in
     settling-flat (length (at .args .groups .now)) (at .args .parents .now) (at .args .names .now) (at .args .numbers .now)
-    (at .args .keys .now) (at .args .more .now) (at .args .groups .now) (at .args .groups .now) (last .1 .1 .1 .1 .1 .1 .0)
-    (last .1 .1 .1 .1 .1 .1 .1 .0) (last .1 .1 .1 .1 .1 .1 .1 .1 .0) (last .1 .1 .1 .1 .1 .1 .1 .1 .1 .0)
-    (last .1 .1 .1 .1 .1 .1 .1 .1 .1 .1 .0) (last .1 .1 .1 .1 .1 .1 .1 .1 .1 .1 .1 .0)
-    (last .1 .1 .1 .1 .1 .1 .1 .1 .1 .1 .1 .1 .0) (last .1 .1 .1 .1 .1 .1 .1 .1 .1 .1 .1 .1 .1 .0) 0 (fills .fill-all .result)
+    (at .args .keys .now) (at .args .more .now) (at .args .groups .now) (at .args .groups .now) (last .1 .1 .1 .1 .1 .1 .1 .0)
+    (last .1 .1 .1 .1 .1 .1 .1 .1 .0) (last .1 .1 .1 .1 .1 .1 .1 .1 .1 .0) (last .1 .1 .1 .1 .1 .1 .1 .1 .1 .1 .0)
+    (last .1 .1 .1 .1 .1 .1 .1 .1 .1 .1 .1 .0) (last .1 .1 .1 .1 .1 .1 .1 .1 .1 .1 .1 .1 .0)
+    (last .1 .1 .1 .1 .1 .1 .1 .1 .1 .1 .1 .1 .1 .0) (last .1 .1 .1 .1 .1 .1 .1 .1 .1 .1 .1 .1 .1 .1 .0) 0 (fills .fill-all .result)
     (filled fills)
 
 fill-all-requires : tie.Need-fill-all-requires
@@ -71,10 +71,10 @@ returns c =
     let at = entry (fills .before) in
     let last = fills .fill-all .last in
     settling-done (length (at .args .groups .now)) (at .args .parents .now) (at .args .names .now) (at .args .numbers .now)
-    (at .args .keys .now) (at .args .more .now) (at .args .groups .now) (at .args .groups .now) (last .1 .1 .1 .1 .1 .1 .0)
-    (last .1 .1 .1 .1 .1 .1 .1 .0) (last .1 .1 .1 .1 .1 .1 .1 .1 .0) (last .1 .1 .1 .1 .1 .1 .1 .1 .1 .0)
-    (last .1 .1 .1 .1 .1 .1 .1 .1 .1 .1 .0) (last .1 .1 .1 .1 .1 .1 .1 .1 .1 .1 .1 .0)
-    (last .1 .1 .1 .1 .1 .1 .1 .1 .1 .1 .1 .1 .0) (last .1 .1 .1 .1 .1 .1 .1 .1 .1 .1 .1 .1 .1 .0) 0 (fills .fill-all .result)
+    (at .args .keys .now) (at .args .more .now) (at .args .groups .now) (at .args .groups .now) (last .1 .1 .1 .1 .1 .1 .1 .0)
+    (last .1 .1 .1 .1 .1 .1 .1 .1 .0) (last .1 .1 .1 .1 .1 .1 .1 .1 .1 .0) (last .1 .1 .1 .1 .1 .1 .1 .1 .1 .1 .0)
+    (last .1 .1 .1 .1 .1 .1 .1 .1 .1 .1 .1 .0) (last .1 .1 .1 .1 .1 .1 .1 .1 .1 .1 .1 .1 .0)
+    (last .1 .1 .1 .1 .1 .1 .1 .1 .1 .1 .1 .1 .1 .0) (last .1 .1 .1 .1 .1 .1 .1 .1 .1 .1 .1 .1 .1 .1 .0) 0 (fills .fill-all .result)
     (omega (arith, c .if1 .taken)) (filled fills)
 
 settle-requires : tie.Need-settle-requires

@@ -1,9 +1,10 @@
 -- `finish` meets its contract: own numbers, the partition by ends, and joins until closed where the ends joined any states.
 -- Assumes nothing.
-use mathlib.Core.Path.{_≡_, ap, _∙_}
+use mathlib.Core.Path.{_≡_, sym, ap, _∙_, subst}
 use Prim.Native.Nat.{ℕ}
 use lib.ListN.{length}
 use Rattle.model.specs.Lists.{numbersFrom}
+use Rattle.worklist.specs.Settling.{NoKeys}
 use Rattle.functions.proofs.RoundLaws.{finish-ready, finished, finished-alone}
 use borrow.Author.Needs.{needs}
 use borrow.Author.Tests.{not-true}
@@ -22,7 +23,7 @@ from-ends c = c .before .before .before .before
 own-here :
     (c : tie.After-own) → let at = from-own c in
     c .own .last .0 ≡ numbersFrom (length (at .args .groups .now)) 0
-own-here c = c .own .ensures ∙ ap (λ (m : ℕ). numbersFrom m 0) (from-own c .pre .1)
+own-here c = c .own .ensures ∙ ap (λ (m : ℕ). numbersFrom m 0) (from-own c .pre .1 .0)
 
 own-requires : tie.Need-own-requires
 own-requires c κs = search needs
@@ -50,10 +51,12 @@ close-requires c κs =
     let ends = c .before .before .before .before .before in
     let own = from-ends ends in
     let at = from-own own in
-    finish-ready (length (at .args .groups .now)) (at .args .parents .now) (at .args .names .now) (at .args .accepts .now)
-    (at .args .values .now) (at .args .keys .now) (at .args .more .now) (own .own .last .0) (ends .by-ends .last .1 .1 .0)
-    (at .pre .0)
-    (own-here own) (ends .by-ends .ensures .0 .labelled)
+    let labelled = ends .by-ends .ensures .0 .labelled in (
+      finish-ready (length (at .args .groups .now)) (at .args .parents .now) (at .args .names .now) (at .args .accepts .now)
+          (at .args .values .now) (at .args .keys .now) (at .args .more .now) (own .own .last .0) (ends .by-ends .last .1 .1 .0)
+          (at .pre .0) (own-here own) labelled,
+      λ none. subst (λ (m : ℕ). NoKeys m (at .args .more .now)) (sym (labelled .size)) (at .pre .1 .1 none),
+    )
 
 same-length-3 : tie.Need-same-length-3
 same-length-3 c = search needs
@@ -69,7 +72,7 @@ returns-2 c =
     let at = from-own own in
     finished (length (at .args .groups .now)) (at .args .parents .now) (at .args .names .now) (at .args .accepts .now)
     (at .args .values .now) (at .args .keys .now) (at .args .more .now) (own .own .last .0) (ends .by-ends .last .1 .1 .0)
-    (closes .close .last .1 .1 .1 .1 .1 .0) (own-here own) (ends .by-ends .ensures .0) (closes .close .ensures)
+    (closes .close .last .1 .1 .1 .1 .1 .1 .0) (own-here own) (ends .by-ends .ensures .0) (closes .close .ensures)
 
 pub finish-spec : {M : Type 1} → statement M
 finish-spec =
