@@ -1,12 +1,12 @@
 -- Which two names in succession lead on from each group, as sets of 16 bits: one arc more, why two names in common are a bit in
 -- common, and that the sets of no names have one. Assumes nothing.
-use mathlib.Core.Path.{_≡_, sym, ap, _∙_, subst, subst₂}
+use mathlib.Core.Path.{_≡_, refl, sym, ap, _∙_, subst, subst₂}
 use mathlib.Core.Logic.{inl, inr}
 use mathlib.Core.List.{List}
 use Prim.Native.Nat.{ℕ, zero, suc, _+_, _*_, _%_, _^_, _<_, _≤_}
 use native.Mathlib.Omega.{arith}
 use lib.Bits.{bitAnd, bitOr, and-le-r}
-use lib.ListN.{length, getD, set}
+use lib.ListN.{length, getD, set, replicate}
 use lib.Seq.{getD-set-same}
 use Rattle.model.specs.Limits.{state-limit}
 use Rattle.cells.specs.Cells.{cellAt}
@@ -56,6 +56,11 @@ bits-meet i x y in-x in-y apart =
     omega (arith, bit-zero i)
 
 -- the sets of no names
+pub no-names : (n x : ℕ) → x < n → _≡_ {A = ℕ} (getD (replicate n 1) x 0) 1
+no-names zero x low = let z : ⊥ = omega arith in absurd z
+no-names (suc n) zero low = refl
+no-names (suc n) (suc x) low = no-names n x (omega arith)
+
 pub no-names-tell :
     (j : ℕ) (next work ahead : List ℕ) → ((x : ℕ) → x < state-limit → getD ahead x 0 ≡ 1) → Telling j next work ahead
 no-names-tell j next work ahead ones x y x-low y-low common =

@@ -7,7 +7,6 @@ use lib.ListN.{length, getD}
 use borrow.Author.Needs.{needs}
 use Rattle.partition.specs.Joins.{JoinedTwo}
 use Rattle.contexts.specs.Sweeps.{Common}
-use Rattle.contexts.proofs.CommonLaws.{common-apart}
 use Rattle.contexts.proofs.ChainLaws.{pair-left, pair-joined}
 use Rattle.contexts.proofs.pairs.join_pair.Statement.{statement}
 use Rattle.contexts.proofs.pairs.join_pair.Tie as tie
@@ -39,35 +38,33 @@ wide16-requires-2 : tie.Need-wide16-requires-2
 wide16-requires-2 c κs = tt
 
 mul-if1 : tie.Need-mul-if1
-mul-if1 c =
-    let start = entry c in
-    omega (arith, c .before .before .wide16 .ensures, start .pre .1 .0 .group-below, start .pre .0 .few)
+mul-if1 c = search needs
 
-shared-slice-read-if1 : tie.Need-shared-slice-read-if1
-shared-slice-read-if1 c = omega (arith, c .before .before .before .wide16 .ensures, entry (c .before) .pre .1 .0 .group-below)
+element-copy-out-if1 : tie.Need-element-copy-out-if1
+element-copy-out-if1 c = search needs
 
 mul-if1-2 : tie.Need-mul-if1-2
-mul-if1-2 c =
-    let start = entry (c .before) in
-    omega (arith, c .before .wide162 .ensures, start .pre .1 .1 .0 .group-below, start .pre .0 .few)
+mul-if1-2 c = search needs
 
-shared-slice-read-if1-2 : tie.Need-shared-slice-read-if1-2
-shared-slice-read-if1-2 c =
-    let both = c .before .before in
-    omega (arith, both .wide162 .ensures, entry both .pre .1 .1 .0 .group-below)
+element-copy-out-if1-2 : tie.Need-element-copy-out-if1-2
+element-copy-out-if1-2 c = search needs
 
--- no name leaves both groups
+-- the sets have no bit in common
 returns : tie.Need-returns
 returns c =
     let both = c .before .before .before in
     let start = entry both in
     let into = both .before .before .wide16 in
+    let few = start .pre .0 .few in
     pair-left (start .pre .1 .1 .1 .0)
     (λ common.
     absurd
-    (common-apart (start .args .j) (into .result) (both .wide162 .result) (start .pre .0) (start .pre .1 .1 .1 .1) (c .if1 .taken)
+    (start .pre .1 .1 .1 .1 .1 (into .result) (both .wide162 .result)
+    (omega (arith, into .ensures, start .pre .1 .0 .group-below, few))
+    (omega (arith, both .wide162 .ensures, start .pre .1 .1 .0 .group-below, few))
     (subst₂ (λ (x y : ℕ). Common (start .args .next .now) (start .args .work .now) (start .args .j) x y) (sym (into .ensures))
-    (sym (both .wide162 .ensures)) common)))
+    (sym (both .wide162 .ensures)) common)
+    (c .if1 .taken)))
 
 mul-wide16-3 : tie.Need-mul-wide16-3
 mul-wide16-3 c = search needs
@@ -124,7 +121,7 @@ common-requires c κs =
       start .pre .0,
       (
         omega (arith, both .before .before .wide16 .ensures, start .pre .1 .0 .group-below),
-        (omega (arith, both .wide162 .ensures, start .pre .1 .1 .0 .group-below), start .pre .1 .1 .1 .1),
+        (omega (arith, both .wide162 .ensures, start .pre .1 .1 .0 .group-below), start .pre .1 .1 .1 .1 .0),
       ),
     )
 
@@ -182,9 +179,9 @@ join-pair-spec =
     shared-slice-read-wide16-2
     wide16-requires-2
     mul-if1
-    shared-slice-read-if1
+    element-copy-out-if1
     mul-if1-2
-    shared-slice-read-if1-2
+    element-copy-out-if1-2
     returns
     mul-wide16-3
     shared-slice-read-wide16-3
