@@ -88,6 +88,12 @@ trying-none {next} {work} {j} {x} {y} {left} trying none k k-is leads =
         let set-in-none : bit (c .0) 0 ≡ 1 = subst (λ (l : ℕ). bit (c .0) l ≡ 1) none set in
         omega (arith, bit-zero (c .0))
 
+-- no name at all leaves both groups
+pub common-apart :
+    {next work : List ℕ} (j x y : ℕ) → Targets next work → 0 < j → bitAnd (getD next x 0) (getD next y 0) ≡ 0 →
+    Common next work j x y → ⊥
+common-apart j x y targets some none leads = trying-none (trying-all (j - 1) x y targets) none j (omega arith) leads
+
 -- one name leads out of both groups exactly if some name is in both sets
 pub common-one :
     {next work : List ℕ} (j x y : ℕ) → Targets next work → 0 < j → j < 2 →

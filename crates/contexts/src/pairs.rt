@@ -198,7 +198,7 @@ fn common(j: usize, x: usize, y: usize, next: &[u64], work: &[u8]) -> bool
 }
 
 // Joins the sources of arcs v and w where j names in succession lead on after both; true where they were in two groups. Most
-// pairs are told apart by the sets of two names, without a search.
+// pairs are told apart without a search: no two names lead on after both, or no name does.
 fn join_pair(
     j: usize,
     v: usize,
@@ -223,6 +223,9 @@ fn join_pair(
     let into = wide16(old[v]);
     let other = wide16(old[w]);
     if ahead[into] & ahead[other] == 0 {
+        return false;
+    }
+    if next[into] & next[other] == 0 {
         return false;
     }
     let x = wide16(parents[v]);
