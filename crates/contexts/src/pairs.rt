@@ -344,6 +344,6 @@ pub fn sweep(
     );
     link_far(classes, &heads, &mut links);
     let mut ahead = [1u16; STATE_LIMIT];
-    names_ahead(j, parents, names, before, &mut ahead);
+    names_ahead(j, parents, names, before, &next, &mut ahead);
     sweep_pairs(j, parents, before, &next, &ahead, &links, groups, work)
 }

@@ -3,12 +3,12 @@
 use mathlib.Core.Path.{_≡_, refl, sym, ap, _∙_, subst}
 use mathlib.Core.Logic.{_⊎_, inl, inr, ⊎-elim, _↔_}
 use Prim.Native.Nat.{ℕ, zero, suc, _+_, _-_, _*_, _/_, _%_, _^_, _<_, _≤_, max, min}
-use native.Mathlib.Nat.{zero-add, suc-add, mul-one, pow-suc}
-use native.Mathlib.Numerals.{add-one}
+use native.Mathlib.Nat.{zero-add, suc-add, mul-one, div-one, pow-suc}
+use native.Mathlib.Numerals.{add-one, one-add}
 use native.Mathlib.Omega.{arith}
 use lib.Bits.{bitAnd, bitOr, and-step, or-step, and-self, shifted-half}
 use lib.Count.{trailingZeros, under}
-use lib.Pow.{field, mod-mod-pow}
+use lib.Pow.{field, mod-mod-pow, shr-shr}
 use Rattle.model.proofs.Tests.{eq-dec}
 
 -- bit a of n, counted from the lowest
@@ -217,11 +217,10 @@ bit-moved zero a x = ap (λ (d : ℕ). bit d (x * 1)) (zero-add a) ∙ ap (bit a
 bit-moved (suc s) a x =
     ap (λ (d : ℕ). bit d (x * 2 ^ suc s)) (suc-add s a) ∙ ap (bit (s + a)) (shifted-half x s) ∙ bit-moved s a x
 
-bit-below : (k a x : ℕ) → a < k → bit a (x % 2 ^ k) ≡ bit a x
+pub bit-below : (k a x : ℕ) → a < k → bit a (x % 2 ^ k) ≡ bit a x
 unfolding bit
 bit-below zero a x low = let z : ⊥ = omega arith in absurd z
-bit-below (suc k) zero x low =
-    subst (λ (d : ℕ). x % 2 ^ d % 2 ≡ x % 2) (add-one k) (mod-mod-pow x k 1)
+bit-below (suc k) zero x low = subst (λ (d : ℕ). x % 2 ^ d % 2 ≡ x % 2) (add-one k) (mod-mod-pow x k 1)
 bit-below (suc k) (suc a) x low =
     let half : x % 2 ^ suc k / 2 ≡ x / 2 % 2 ^ k =
     subst (λ (d : ℕ). x % 2 ^ d / 2 ≡ x / 2 % 2 ^ k) (add-one k) (field x k 1) in
@@ -229,3 +228,12 @@ bit-below (suc k) (suc a) x low =
 
 pub bit-shifted : (k s a x : ℕ) → s + a < k → bit a x ≡ 1 → bit (s + a) ((x * 2 ^ s) % 2 ^ k) ≡ 1
 bit-shifted k s a x low one = bit-below k (s + a) (x * 2 ^ s) low ∙ bit-moved s a x ∙ one
+
+-- a shift down moves each bit down
+pub bit-fallen : (s a x : ℕ) → bit a (x / 2 ^ s) ≡ bit (s + a) x
+unfolding bit
+bit-fallen zero a x = ap (bit a) (div-one x) ∙ ap (λ (d : ℕ). bit d x) (sym (zero-add a))
+bit-fallen (suc s) a x =
+    let halves : x / 2 ^ suc s ≡ x / 2 / 2 ^ s =
+    ap (λ (d : ℕ). x / 2 ^ d) (sym (one-add s)) ∙ sym (shr-shr x 1 s) in
+    ap (bit a) halves ∙ bit-fallen s a (x / 2) ∙ ap (λ (d : ℕ). bit d x) (sym (suc-add s a))

@@ -10,7 +10,7 @@ use Rattle.indexed.specs.Partitions.{Labelled}
 use Rattle.indexed.proofs.Chains.{heads-none}
 use Rattle.indexed.proofs.Suffixes.{parent-below}
 use Rattle.contexts.specs.Sweeps.{ArcsLinked, ArcsReady, Comparing, PairsJoined}
-use Rattle.contexts.proofs.AheadLaws.{no-names}
+use Rattle.contexts.proofs.AheadLaws.{all-ones}
 use Rattle.contexts.proofs.NearLaws.{distances-none, arcs-none, arcs-ready}
 use Rattle.contexts.proofs.ReadyLaws.{arcs-comparing}
 use Rattle.contexts.proofs.SweepLaws.{pairs-sweep}
@@ -33,7 +33,7 @@ linked c = c .before .before .before .before .before .before .before .before
 
 -- that place, from where the sets of two names are made
 abbrev far : tie.After-names-ahead → tie.After-link-far
-far c = c .before .before .before .before
+far c = c .before .before .before .before .before
 
 sub-j : tie.Need-sub-j
 sub-j c = omega (arith, c .before .before .before .before .before .before .pre .1 .1 .1 .1 .1 .0)
@@ -146,11 +146,11 @@ ready-here c =
 
 names-ahead-requires : tie.Need-names-ahead-requires
 names-ahead-requires c κs =
-    let at = copied (linked (c .before .before .before)) in
+    let at = copied (linked (c .before .before .before .before)) in
     let start = entry at in
     let same = at .copy .ensures in (
       subst (λ (l : List ℕ). Arrays (length l) (start .args .parents .now) (start .args .names .now)) (sym same) (start .pre .0),
-      (subst (λ (l : List ℕ). Labelled (length l) l) (sym same) (start .pre .1 .1 .1 .0), no-names 512),
+      (subst (λ (l : List ℕ). Labelled (length l) l) (sym same) (start .pre .1 .1 .1 .0), all-ones 512),
     )
 
 slice-aggregate-sweep-pairs : tie.Need-slice-aggregate-sweep-pairs
@@ -183,7 +183,7 @@ sweep-pairs-requires c κs =
         start .pre .1 .1 .1 .0,
         (
           omega (arith, start .pre .1 .1 .1 .1 .1 .0),
-          sets .names-ahead .ensures (made .0) (made .1 .1 .1 .0) (linked arcs .link-arcs .ensures .linked),
+          sets .names-ahead .ensures (made .1 .1 .1 .0) (linked arcs .link-arcs .ensures .linked),
         ),
       ),
     )

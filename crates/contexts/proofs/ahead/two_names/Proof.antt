@@ -1,35 +1,34 @@
--- `ahead::longer` meets its contract. The invariant: the arcs into the states below v have their bits. Assumes nothing.
+-- `ahead::two_names` meets its contract. The invariant: the arcs into the states below v have their bits. Assumes nothing.
 use mathlib.Core.Path.{_≡_, refl, _∙_}
-use Prim.Native.Nat.{ℕ, _-_, _<_, _≤_}
-use native.Mathlib.Nat.{mul-le-mul}
+use Prim.Native.Nat.{_-_, _*_, _<_, _≤_}
 use native.Mathlib.Numerals.{add-one}
 use native.Mathlib.Omega.{arith}
 use lib.Bits.{and-le-r}
 use lib.ListN.{length, getD, length-set}
 use borrow.Author.Needs.{needs}
 use Rattle.indexed.proofs.Suffixes.{parent-below}
-use Rattle.contexts.specs.Ahead.{shiftOf, ShiftedBelow}
-use Rattle.contexts.proofs.AheadLaws.{shifted-more}
-use Rattle.contexts.proofs.ahead.longer.Statement.{statement}
-use Rattle.contexts.proofs.ahead.longer.Tie as tie
+use Rattle.contexts.specs.Ahead.{lowOf, LeadOnBelow}
+use Rattle.contexts.proofs.AheadLaws.{lead-more}
+use Rattle.contexts.proofs.ahead.two_names.Statement.{statement}
+use Rattle.contexts.proofs.ahead.two_names.Tie as tie
 
 abbrev Inv-loop : tie.InvT-loop
-Inv-loop width parents names old below above₀ v₀ above v =
-    (0 < v) × (v ≤ length old) × (length above ≡ length above₀) × ShiftedBelow v width parents names old below above
+Inv-loop parents names old next ahead₀ v₀ ahead v =
+    (0 < v) × (v ≤ length old) × (length ahead ≡ length ahead₀) × LeadOnBelow v parents names old next ahead
 
 abbrev μ-loop : tie.MeasureT-loop
-μ-loop width parents names old below above₀ v₀ above v = length old - v
+μ-loop parents names old next ahead₀ v₀ ahead v = length old - v
 
 -- the function's entry, from the loop's head
 abbrev entry : tie.At-loop Inv-loop μ-loop → tie.Start Inv-loop μ-loop
 entry c = c .before .before .before .before
 
--- the loop's turn, from where an arc's groups are known, and that place, from where its name is
+-- the loop's turn, from where an arc's groups are known; and that place, from where its name is, too
 abbrev turn : tie.After-wide16 Inv-loop μ-loop → tie.In-loop Inv-loop μ-loop
 turn c = c .before .before .before
 
 abbrev arc : tie.After-shared-slice-known5 Inv-loop μ-loop → tie.After-wide16 Inv-loop μ-loop
-arc c = c .before .before .before
+arc c = c .before .before .before .before
 
 -- the source of an arc is a state
 source-low :
@@ -55,11 +54,11 @@ into-low c =
 
 -- an arc shifts by 12 bits at most
 shift-low :
-    (c : tie.After-shared-slice-known5 Inv-loop μ-loop) → let start = entry (turn (arc c) .before) in
-    shiftOf (start .args .width) (getD (start .args .names .now) (turn (arc c) .before .loop .v) 0) ≤ 12
+    (c : tie.After-shared-slice-known5 Inv-loop μ-loop) → let loop = turn (arc c) .before in
+    4 * lowOf (getD (entry loop .args .names .now) (loop .loop .v) 0) ≤ 12
 shift-low c =
     let loop = turn (arc c) .before in
-    mul-le-mul (entry loop .pre .1 .1 .0) (and-le-r (getD (entry loop .args .names .now) (loop .loop .v) 0) 3)
+    omega (arith, and-le-r (getD (entry loop .args .names .now) (loop .loop .v) 0) 3)
 
 loop-holds : tie.Need-loop-holds Inv-loop μ-loop
 loop-holds c =
@@ -78,35 +77,38 @@ shared-slice-read-wide16 c = search needs
 wide16-requires : tie.Need-wide16-requires Inv-loop μ-loop
 wide16-requires c κs = search needs
 
-mul-above : tie.Need-mul-above Inv-loop μ-loop
-mul-above c = omega (arith, from-low c)
+mul-low-names : tie.Need-mul-low-names Inv-loop μ-loop
+mul-low-names c = omega (arith, into-low c)
 
-element-copy-out-above : tie.Need-element-copy-out-above Inv-loop μ-loop
-element-copy-out-above c = from-low c
+element-copy-out-low-names : tie.Need-element-copy-out-low-names Inv-loop μ-loop
+element-copy-out-low-names c = into-low c
 
-mul-above-2 : tie.Need-mul-above-2 Inv-loop μ-loop
-mul-above-2 c = omega (arith, into-low (c .before))
+low-names-requires : tie.Need-low-names-requires Inv-loop μ-loop
+low-names-requires c κs = search needs
 
-element-copy-out-above-2 : tie.Need-element-copy-out-above-2 Inv-loop μ-loop
-element-copy-out-above-2 c = into-low (c .before)
+mul-ahead : tie.Need-mul-ahead Inv-loop μ-loop
+mul-ahead c = omega (arith, from-low (c .before .before))
 
-shared-slice-read-above : tie.Need-shared-slice-read-above Inv-loop μ-loop
-shared-slice-read-above c = search needs
+element-copy-out-ahead : tie.Need-element-copy-out-ahead Inv-loop μ-loop
+element-copy-out-ahead c = from-low (c .before .before)
 
-mul-above-3 : tie.Need-mul-above-3 Inv-loop μ-loop
-mul-above-3 c = omega (arith, shift-low c)
+shared-slice-read-ahead : tie.Need-shared-slice-read-ahead Inv-loop μ-loop
+shared-slice-read-ahead c = search needs
 
-cast-above : tie.Need-cast-above Inv-loop μ-loop
-cast-above c = omega (arith, shift-low c)
+mul-ahead-2 : tie.Need-mul-ahead-2 Inv-loop μ-loop
+mul-ahead-2 c = omega (arith, shift-low c)
 
-shl-above : tie.Need-shl-above Inv-loop μ-loop
-shl-above c = omega (arith, shift-low c)
+cast-ahead : tie.Need-cast-ahead Inv-loop μ-loop
+cast-ahead c = omega (arith, shift-low c)
 
-mul-above-4 : tie.Need-mul-above-4 Inv-loop μ-loop
-mul-above-4 c = omega (arith, from-low (arc c))
+shl-ahead : tie.Need-shl-ahead Inv-loop μ-loop
+shl-ahead c = omega (arith, shift-low c)
 
-element-write-above : tie.Need-element-write-above Inv-loop μ-loop
-element-write-above c = from-low (arc c)
+mul-ahead-3 : tie.Need-mul-ahead-3 Inv-loop μ-loop
+mul-ahead-3 c = omega (arith, from-low (arc c))
+
+element-write-ahead : tie.Need-element-write-ahead Inv-loop μ-loop
+element-write-ahead c = from-low (arc c)
 
 add-v : tie.Need-add-v Inv-loop μ-loop
 add-v c =
@@ -123,14 +125,15 @@ loop-again c =
     let loop = here .before .loop in
     let start = entry (here .before) in
     let from = groups .before .before .class-above in
-    let size : length (loop .above) ≡ 512 = loop .inv .2 ∙ start .pre .1 .1 .1 in (
+    let size : length (loop .ahead) ≡ 512 = loop .inv .2 ∙ start .pre .1 .1 in (
       omega arith,
       omega (arith, here .loop-test .taken),
       simp length-set (loop .inv .2),
       rw add-one
-          (shifted-more (loop .v) (start .args .width) (start .args .parents .now) (start .args .names .now)
-          (start .args .old .now) (start .args .below .now) (loop .above) (from .result) (groups .wide16 .result) (from .ensures)
-          (groups .wide16 .ensures) (omega (arith, from-low groups)) (loop .inv .3)),
+          (lead-more (loop .v) (start .args .parents .now) (start .args .names .now) (start .args .old .now)
+          (start .args .next .now) (loop .ahead) (from .result) (groups .wide16 .result) (c .before .before .low-names .result)
+          (from .ensures) (groups .wide16 .ensures) (c .before .before .low-names .ensures) (omega (arith, from-low groups))
+          (loop .inv .3)),
     )
 
 returns : tie.Need-returns Inv-loop μ-loop
@@ -138,8 +141,8 @@ returns c =
     let loop = c .before .loop in
     λ v pos low. loop .inv .3 v pos (omega (arith, c .loop-test .left))
 
-pub longer-spec : {M : Type 1} → statement M
-longer-spec =
+pub two-names-spec : {M : Type 1} → statement M
+two-names-spec =
     tie.close
     (tie.spec
     Inv-loop
@@ -149,16 +152,17 @@ longer-spec =
     mul-wide16
     shared-slice-read-wide16
     wide16-requires
-    mul-above
-    element-copy-out-above
-    mul-above-2
-    element-copy-out-above-2
-    shared-slice-read-above
-    mul-above-3
-    cast-above
-    shl-above
-    mul-above-4
-    element-write-above
+    mul-low-names
+    element-copy-out-low-names
+    low-names-requires
+    mul-ahead
+    element-copy-out-ahead
+    shared-slice-read-ahead
+    mul-ahead-2
+    cast-ahead
+    shl-ahead
+    mul-ahead-3
+    element-write-ahead
     add-v
     loop-less
     loop-again
