@@ -19,8 +19,8 @@ returns-2 : tie.Need-returns-2
 returns-2 c =
     let some = c .before .before .before in
     let start = some .before .before .before .before in
-    λ work linked. two-names-tell (c .two-names .last .1 .1 .1 .1 .0) (start .pre .0) linked (c .two-names .ensures) (start .args .j)
-    (omega (arith, some .if1 .left))
+    λ work linked. two-names-tell (c .two-names .last .1 .1 .1 .1 .0) (start .pre .0) linked (c .two-names .ensures)
+    (start .args .j) (omega (arith, some .if1 .left))
 
 pub names-ahead-spec : {M : Type 1} → statement M
 names-ahead-spec = tie.close (tie.spec returns two-names-requires returns-2)

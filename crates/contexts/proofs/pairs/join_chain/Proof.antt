@@ -72,7 +72,7 @@ join-pair-requires c κs =
         inside (start .args .v) (start .pre .1 .0),
         (
           inside w (come turn .0),
-          (subst (λ (k : ℕ). Labelled k (loop .groups)) size (loop .inv .1 .labelled), (start .pre .1 .1 .1 .0, start .pre .1 .1 .1 .1)),
+          (subst (λ (k : ℕ). Labelled k (loop .groups)) size (loop .inv .1 .labelled), start .pre .1 .1 .1),
         ),
       ),
     )

@@ -88,7 +88,8 @@ returns-2 c =
     pair-left (start .pre .1 .1 .1 .0)
     (λ common.
     absurd
-    (common-apart (start .args .j) (into .result) (both .wide162 .result) (start .pre .0) (start .pre .1 .1 .1 .1 .0) (c .if2 .taken)
+    (common-apart (start .args .j) (into .result) (both .wide162 .result) (start .pre .0) (start .pre .1 .1 .1 .1 .0)
+    (c .if2 .taken)
     (subst₂ (λ (x y : ℕ). Common (start .args .next .now) (start .args .work .now) (start .args .j) x y) (sym (into .ensures))
     (sym (both .wide162 .ensures)) common)))
 

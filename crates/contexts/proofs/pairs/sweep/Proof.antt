@@ -210,8 +210,8 @@ returns c =
     let m-is : suc j ≡ start .args .m = omega (arith, start .pre .1 .1 .1 .1 .1 .0) in
     pairs-sweep (start .pre .0) (start .pre .1 .1 .1 .0) (ready-here arcs) (spread at .distances .ensures)
     (subst (λ (l : List ℕ). PairsJoined (length groups) (length groups) j (start .args .parents .now) l (made .0)
-    (arcs .link-far .last .1 .1 .0) (made .1 .1 .1 .0) groups (pairs .last .1 .1 .1 .1 .1 .1 .0) (pairs .result)) (at .copy .ensures)
-    (pairs .ensures))
+    (arcs .link-far .last .1 .1 .0) (made .1 .1 .1 .0) groups (pairs .last .1 .1 .1 .1 .1 .1 .0) (pairs .result))
+    (at .copy .ensures) (pairs .ensures))
     m-is (at .copy .ensures)
 
 pub sweep-spec : {M : Type 1} → statement M
