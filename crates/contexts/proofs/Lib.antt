@@ -1,4 +1,5 @@
 -- Why climbing and the sweeps give what the context rule asks for. Assumes nothing.
+pub mod AheadLaws
 pub mod ClimbLaws
 pub mod CommonLaws
 pub mod DistanceLaws

@@ -16,7 +16,7 @@ use Rattle.cells.specs.Cells.{work-bytes, cellAt, withCell}
 use Rattle.cells.proofs.CellLaws.{cell-same, cell-other}
 use Rattle.indexed.specs.Trees.{Arrays}
 use Rattle.indexed.specs.Partitions.{Labelled, ForkClosed, Share}
-use Rattle.indexed.proofs.Bits.{bit, bit-zero, bit-set, bit-of-set, set-again}
+use Rattle.indexed.proofs.Bits.{bit, bit-zero, bit-set, bit-of-set, bit-of-either, set-again}
 use Rattle.contexts.specs.Sweeps.{FirstArc, ArcOf, Linked, Targets, Common}
 use Rattle.contexts.proofs.ClimbLaws.{below-suc}
 
@@ -70,6 +70,19 @@ pub first-arc :
 first-arc {i} {parents} {names} {old} {next} linked new u some low same-name same-source =
     new (subst₂ (λ (a x : ℕ). bit a (getD next x 0) ≡ 1) same-name same-source (linked .leaves u some low))
 
+-- bits set besides in one number of a list leave all that were set
+pub bits-grow :
+    (l : List ℕ) (i more : ℕ) → i < length l → (x a : ℕ) → bit a (getD l x 0) ≡ 1 →
+    bit a (getD (set l i (bitOr (getD l i 0) more)) x 0) ≡ 1
+bits-grow l i more inside x a one = go (eq-dec x i)
+  where
+    go : (x ≡ i) ⊎ (x ≡ i → ⊥) → bit a (getD (set l i (bitOr (getD l i 0) more)) x 0) ≡ 1
+    go (inl e) =
+        subst (λ (z : ℕ). bit a (getD (set l i (bitOr (getD l i 0) more)) z 0) ≡ 1) (sym e)
+        (ap (bit a) (getD-set-same l i (bitOr (getD l i 0) more) 0 inside)
+        ∙ bit-of-either a (getD l i 0) more (inl (subst (λ (z : ℕ). bit a (getD l z 0) ≡ 1) e one)))
+    go (inr apart) = ap (bit a) (getD-set-other l i x (bitOr (getD l i 0) more) 0 apart) ∙ one
+
 -- one arc more, the first of its name out of its group: its name is put into a set, and the group that it leads to into a cell
 module _ {n i : ℕ} {parents names old next work : List ℕ} (arrays : Arrays n parents names) (pos : 0 < i) (inside : i < n)
     (linked : Linked i parents names old next work) (from name to : ℕ) (from-is : from ≡ getD old (getD parents i 0) 0)
@@ -105,8 +118,7 @@ module _ {n i : ℕ} {parents names old next work : List ℕ} (arrays : Arrays n
 
   grows : (x a : ℕ) → bit a (getD next x 0) ≡ 1 → bit a (getD next′ x 0) ≡ 1
   grows x a set =
-      ⊎-elim (λ e. ap (bit a) (at-from x e) ∙ bit-of-set a (getD next x 0) name .1 (inl set))
-      (λ apart. ap (bit a) (elsewhere x apart) ∙ set) (eq-dec x from)
+      subst (λ (l : List ℕ). bit a (getD l x 0) ≡ 1) (sym next-is) (bits-grow next from (2 ^ name) in-next x a set)
 
   more-leaves : (v : ℕ) → v < suc i → 0 < v → bit (getD names v 0) (getD next′ (getD old (getD parents v 0) 0) 0) ≡ 1
   more-leaves =

@@ -6,6 +6,7 @@
 // the last sweep, else far, and what leads on from two far arcs was compared by the last sweep. So the chain of a class has its
 // near arcs alone; each of them is compared with those before it, and each far arc with all of them.
 use crate::STATE_LIMIT;
+use crate::ahead::names_ahead;
 use crate::distances::distances;
 use cells::cell;
 use cells::numbers::narrow16;
@@ -21,6 +22,7 @@ ghost use Rattle.indexed.specs.Trees.{Arrays};
 ghost use Rattle.indexed.specs.Partitions.{Labelled};
 ghost use Rattle.model.specs.Limits.{setting-limit, state-limit};
 ghost use Rattle.contexts.specs.Sweeps.{Sizes, Placed, ArcsLinked, waiting, Settled, FarLinked, Targets, Common};
+ghost use Rattle.contexts.specs.Ahead.{Telling};
 ghost use Rattle.contexts.specs.Sweeps.{ArcInside, Comparing, PairJoined, ChainJoined, PairsJoined, SweptBy};
 
 // The class of a state with too few names.
@@ -195,7 +197,8 @@ fn common(j: usize, x: usize, y: usize, next: &[u64], work: &[u8]) -> bool
     false
 }
 
-// Joins the sources of arcs v and w where j names in succession lead on after both; true where they were in two groups.
+// Joins the sources of arcs v and w where j names in succession lead on after both; true where they were in two groups. Most
+// pairs are told apart without a search: no two names lead on after both, or no name does.
 fn join_pair(
     j: usize,
     v: usize,
@@ -203,6 +206,7 @@ fn join_pair(
     parents: &[u16],
     old: &[u16],
     next: &[u64],
+    ahead: &[u16; STATE_LIMIT],
     groups: &mut [u16],
     work: &[u8],
 ) -> bool
@@ -211,12 +215,16 @@ fn join_pair(
     requires w_inside { ⌜ ArcInside (length (now groups)) (length (now next)) (now parents) (now old) w ⌝ }
     requires labelled { ⌜ Labelled (length (now groups)) (now groups) ⌝ }
     requires some { ⌜ 0 < j ⌝ }
+    requires telling { ⌜ Telling j (now next) (now work) (now ahead) ⌝ }
     ensures { λ r.
         ⌜ PairJoined (length (now (groups .entry))) j (now (parents .entry)) (now (old .entry)) (now (next .entry))
         (now (work .entry)) v w (now (groups .entry)) (now (groups .exit)) r ⌝ }
 {
     let into = wide16(old[v]);
     let other = wide16(old[w]);
+    if ahead[into] & ahead[other] == 0 {
+        return false;
+    }
     if next[into] & next[other] == 0 {
         return false;
     }
@@ -239,6 +247,7 @@ fn join_chain(
     parents: &[u16],
     old: &[u16],
     next: &[u64],
+    ahead: &[u16; STATE_LIMIT],
     links: &[u16],
     groups: &mut [u16],
     work: &[u8],
@@ -247,6 +256,7 @@ fn join_chain(
     requires inside { ⌜ v < length (now groups) ⌝ }
     requires labelled { ⌜ Labelled (length (now groups)) (now groups) ⌝ }
     requires some { ⌜ 0 < j ⌝ }
+    requires telling { ⌜ Telling j (now next) (now work) (now ahead) ⌝ }
     ensures { λ r.
         ⌜ ChainJoined (length (now (groups .entry))) j (now (parents .entry)) (now (old .entry)) (now (next .entry))
         (now (links .entry)) (now (work .entry)) v (now (groups .entry)) (now (groups .exit)) r ⌝ }
@@ -255,7 +265,7 @@ fn join_chain(
     let mut at = wide16(links[v]);
     while 0 < at {
         let w = at - 1;
-        let joins = join_pair(j, v, w, parents, old, next, groups, work);
+        let joins = join_pair(j, v, w, parents, old, next, ahead, groups, work);
         joined = joined | joins;
         at = wide16(links[w]);
     }
@@ -268,6 +278,7 @@ fn sweep_pairs(
     parents: &[u16],
     old: &[u16],
     next: &[u64],
+    ahead: &[u16; STATE_LIMIT],
     links: &[u16],
     groups: &mut [u16],
     work: &[u8],
@@ -275,6 +286,7 @@ fn sweep_pairs(
     requires comparing { ⌜ Comparing (length (now groups)) (now parents) (now old) (now next) (now links) (now work) ⌝ }
     requires labelled { ⌜ Labelled (length (now groups)) (now groups) ⌝ }
     requires some { ⌜ 0 < j ⌝ }
+    requires telling { ⌜ Telling j (now next) (now work) (now ahead) ⌝ }
     ensures { λ r.
         ⌜ PairsJoined (length (now (groups .entry))) (length (now (groups .entry))) j (now (parents .entry)) (now (old .entry))
         (now (next .entry)) (now (links .entry)) (now (work .entry)) (now (groups .entry)) (now (groups .exit)) r ⌝ }
@@ -282,7 +294,7 @@ fn sweep_pairs(
     let mut joined = false;
     let mut v = 0;
     while v < old.len() {
-        let joins = join_chain(j, v, parents, old, next, links, groups, work);
+        let joins = join_chain(j, v, parents, old, next, ahead, links, groups, work);
         joined = joined | joins;
         v += 1;
     }
@@ -331,5 +343,7 @@ pub fn sweep(
         work,
     );
     link_far(classes, &heads, &mut links);
-    sweep_pairs(j, parents, before, &next, &links, groups, work)
+    let mut ahead = [1u16; STATE_LIMIT];
+    names_ahead(j, parents, names, before, &next, &mut ahead);
+    sweep_pairs(j, parents, before, &next, &ahead, &links, groups, work)
 }

@@ -1,12 +1,14 @@
 -- The bits of a number: of a number with one bit set besides, that numbers with the same bits are equal, the bits that two numbers
--- have in common, and the lowest bit, found and taken away. Assumes nothing.
+-- have in common, the lowest bit, found and taken away, and the bits of a shifted number. Assumes nothing.
 use mathlib.Core.Path.{_≡_, refl, sym, ap, _∙_, subst}
 use mathlib.Core.Logic.{_⊎_, inl, inr, ⊎-elim, _↔_}
 use Prim.Native.Nat.{ℕ, zero, suc, _+_, _-_, _*_, _/_, _%_, _^_, _<_, _≤_, max, min}
-use native.Mathlib.Nat.{pow-suc}
+use native.Mathlib.Nat.{zero-add, suc-add, mul-one, div-one, pow-suc}
+use native.Mathlib.Numerals.{add-one, one-add}
 use native.Mathlib.Omega.{arith}
-use lib.Bits.{bitAnd, bitOr, and-step, or-step, and-self}
+use lib.Bits.{bitAnd, bitOr, and-step, or-step, and-self, shifted-half}
 use lib.Count.{trailingZeros, under}
+use lib.Pow.{field, mod-mod-pow, shr-shr}
 use Rattle.model.proofs.Tests.{eq-dec}
 
 -- bit a of n, counted from the lowest
@@ -54,7 +56,7 @@ power-odd b =
     let double : 2 ^ suc b ≡ 2 ^ b * 2 = pow-suc 2 b in
     omega arith
 
-bit-power-same : (a : ℕ) → bit a (2 ^ a) ≡ 1
+pub bit-power-same : (a : ℕ) → bit a (2 ^ a) ≡ 1
 unfolding bit
 bit-power-same zero = refl
 bit-power-same (suc a) = ap (bit a) (power-half a) ∙ bit-power-same a
@@ -65,6 +67,14 @@ bit-power-other zero zero d = absurd (d refl)
 bit-power-other zero (suc b) d = power-odd b
 bit-power-other (suc a) zero d = bit-zero a
 bit-power-other (suc a) (suc b) d = ap (bit a) (power-half b) ∙ bit-power-other a b (λ e. d (ap suc e))
+
+-- a bit of one of two numbers
+pub bit-of-either : (a x y : ℕ) → (bit a x ≡ 1) ⊎ (bit a y ≡ 1) → bit a (bitOr x y) ≡ 1
+bit-of-either a x y which =
+    let both : bit a (bitOr x y) ≡ max (bit a x) (bit a y) = bit-or a x y in
+    let small-x : bit a x < 2 = bit-small a x in
+    let small-y : bit a y < 2 = bit-small a y in
+    ⊎-elim (λ one. omega arith) (λ one. omega arith) which
 
 -- with bit b set besides: that bit, and otherwise as before
 pub bit-set : (a x b : ℕ) → a ≡ b → bit a (bitOr x (2 ^ b)) ≡ 1
@@ -199,3 +209,31 @@ without-lowest (suc d) n a some small one =
         let half : bitAnd n (n - 1) / 2 ≡ n / 2 =
         and-half n (n - 1) ∙ ap (λ (z : ℕ). bitAnd (n / 2) z) low ∙ and-self (n / 2) in
         inr (ap (bit b) half ∙ one)
+
+-- a shift moves each bit up, and cutting off at k bits leaves those below
+bit-moved : (s a x : ℕ) → bit (s + a) (x * 2 ^ s) ≡ bit a x
+unfolding bit
+bit-moved zero a x = ap (λ (d : ℕ). bit d (x * 1)) (zero-add a) ∙ ap (bit a) (mul-one x)
+bit-moved (suc s) a x =
+    ap (λ (d : ℕ). bit d (x * 2 ^ suc s)) (suc-add s a) ∙ ap (bit (s + a)) (shifted-half x s) ∙ bit-moved s a x
+
+pub bit-below : (k a x : ℕ) → a < k → bit a (x % 2 ^ k) ≡ bit a x
+unfolding bit
+bit-below zero a x low = let z : ⊥ = omega arith in absurd z
+bit-below (suc k) zero x low = subst (λ (d : ℕ). x % 2 ^ d % 2 ≡ x % 2) (add-one k) (mod-mod-pow x k 1)
+bit-below (suc k) (suc a) x low =
+    let half : x % 2 ^ suc k / 2 ≡ x / 2 % 2 ^ k =
+    subst (λ (d : ℕ). x % 2 ^ d / 2 ≡ x / 2 % 2 ^ k) (add-one k) (field x k 1) in
+    ap (bit a) half ∙ bit-below k a (x / 2) (omega arith)
+
+pub bit-shifted : (k s a x : ℕ) → s + a < k → bit a x ≡ 1 → bit (s + a) ((x * 2 ^ s) % 2 ^ k) ≡ 1
+bit-shifted k s a x low one = bit-below k (s + a) (x * 2 ^ s) low ∙ bit-moved s a x ∙ one
+
+-- a shift down moves each bit down
+pub bit-fallen : (s a x : ℕ) → bit a (x / 2 ^ s) ≡ bit (s + a) x
+unfolding bit
+bit-fallen zero a x = ap (bit a) (div-one x) ∙ ap (λ (d : ℕ). bit d x) (sym (zero-add a))
+bit-fallen (suc s) a x =
+    let halves : x / 2 ^ suc s ≡ x / 2 / 2 ^ s =
+    ap (λ (d : ℕ). x / 2 ^ d) (sym (one-add s)) ∙ sym (shr-shr x 1 s) in
+    ap (bit a) halves ∙ bit-fallen s a (x / 2) ∙ ap (λ (d : ℕ). bit d x) (sym (suc-add s a))

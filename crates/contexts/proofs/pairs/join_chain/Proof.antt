@@ -11,11 +11,11 @@ use Rattle.contexts.proofs.pairs.join_chain.Statement.{statement}
 use Rattle.contexts.proofs.pairs.join_chain.Tie as tie
 
 abbrev Inv-loop : tie.InvT-loop
-Inv-loop j v parents old next links groups₀ work joined₀ at₀ groups joined at =
+Inv-loop j v parents old next ahead links groups₀ work joined₀ at₀ groups joined at =
     (length groups ≡ length groups₀) × Chaining (length groups₀) j parents old next links work v groups₀ at groups joined
 
 abbrev μ-loop : tie.MeasureT-loop
-μ-loop j v parents old next links groups₀ work joined₀ at₀ groups joined at = at
+μ-loop j v parents old next ahead links groups₀ work joined₀ at₀ groups joined at = at
 
 -- the function's entry, from the loop's head
 abbrev entry : tie.At-loop Inv-loop μ-loop → tie.Start Inv-loop μ-loop
@@ -101,14 +101,14 @@ loop-again c =
     let loop = turn .before .loop in
     let start = entry (turn .before) in
     let pair = c .before .before .before .before .join-pair in
-    let groups′ = pair .last .1 .1 .1 .1 .1 .1 .0 in
+    let groups′ = pair .last .1 .1 .1 .1 .1 .1 .1 .0 in
     let joins =
     subst (λ (k : ℕ). PairJoined k (start .args .j) (start .args .parents .now) (start .args .old .now) (start .args .next .now)
     (start .args .work .now) (start .args .v) (loop .at - 1) (loop .groups) groups′ (pair .result)) (loop .inv .0) (pair .ensures) in
     let more =
     chaining-more (start .pre .0 .falling (start .args .v) (start .pre .1 .0)) (head-is turn) (loop .inv .1)
     (λ u below. start .pre .0 .arcs u below .source-below) (start .pre .1 .0) joins in (
-      pair .kept .1 .1 .1 .1 .1 .1 .0 ∙ loop .inv .0,
+      pair .kept .1 .1 .1 .1 .1 .1 .1 .0 ∙ loop .inv .0,
       subst (λ (k : ℕ). Chaining (length (start .args .groups .now)) (start .args .j) (start .args .parents .now)
           (start .args .old .now) (start .args .next .now) (start .args .links .now) (start .args .work .now) (start .args .v)
           (start .args .groups .now) k groups′ (loop .joined || pair .result)) (sym (c .wide162 .ensures)) more,

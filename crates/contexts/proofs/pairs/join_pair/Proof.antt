@@ -18,7 +18,7 @@ entry c = c .before .before .before .before .before .before .before .before .bef
 
 -- that place, from where the sources of both arcs are read
 abbrev targets : tie.After-wide164 → tie.After-wide162
-targets c = c .before .before .before .before .before .before .before
+targets c = c .before .before .before .before .before .before .before .before .before .before
 
 mul-wide16 : tie.Need-mul-wide16
 mul-wide16 c = search needs
@@ -39,33 +39,57 @@ wide16-requires-2 : tie.Need-wide16-requires-2
 wide16-requires-2 c κs = tt
 
 mul-if1 : tie.Need-mul-if1
-mul-if1 c =
-    let start = entry c in
-    omega (arith, c .before .before .wide16 .ensures, start .pre .1 .0 .group-below, start .pre .0 .few)
+mul-if1 c = search needs
 
-shared-slice-read-if1 : tie.Need-shared-slice-read-if1
-shared-slice-read-if1 c = omega (arith, c .before .before .before .wide16 .ensures, entry (c .before) .pre .1 .0 .group-below)
+element-copy-out-if1 : tie.Need-element-copy-out-if1
+element-copy-out-if1 c = search needs
 
 mul-if1-2 : tie.Need-mul-if1-2
-mul-if1-2 c =
-    let start = entry (c .before) in
-    omega (arith, c .before .wide162 .ensures, start .pre .1 .1 .0 .group-below, start .pre .0 .few)
+mul-if1-2 c = search needs
 
-shared-slice-read-if1-2 : tie.Need-shared-slice-read-if1-2
-shared-slice-read-if1-2 c =
-    let both = c .before .before in
-    omega (arith, both .wide162 .ensures, entry both .pre .1 .1 .0 .group-below)
+element-copy-out-if1-2 : tie.Need-element-copy-out-if1-2
+element-copy-out-if1-2 c = search needs
 
--- no name leaves both groups
+-- no two names lead on from both groups
 returns : tie.Need-returns
 returns c =
     let both = c .before .before .before in
     let start = entry both in
     let into = both .before .before .wide16 in
+    let few = start .pre .0 .few in
     pair-left (start .pre .1 .1 .1 .0)
     (λ common.
     absurd
-    (common-apart (start .args .j) (into .result) (both .wide162 .result) (start .pre .0) (start .pre .1 .1 .1 .1) (c .if1 .taken)
+    (start .pre .1 .1 .1 .1 .1 (into .result) (both .wide162 .result)
+    (omega (arith, into .ensures, start .pre .1 .0 .group-below, few))
+    (omega (arith, both .wide162 .ensures, start .pre .1 .1 .0 .group-below, few))
+    (subst₂ (λ (x y : ℕ). Common (start .args .next .now) (start .args .work .now) (start .args .j) x y) (sym (into .ensures))
+    (sym (both .wide162 .ensures)) common)
+    (c .if1 .taken)))
+
+mul-if2 : tie.Need-mul-if2
+mul-if2 c = search needs
+
+shared-slice-read-if2 : tie.Need-shared-slice-read-if2
+shared-slice-read-if2 c = search needs
+
+mul-if2-2 : tie.Need-mul-if2-2
+mul-if2-2 c = search needs
+
+shared-slice-read-if2-2 : tie.Need-shared-slice-read-if2-2
+shared-slice-read-if2-2 c = search needs
+
+-- no name does
+returns-2 : tie.Need-returns-2
+returns-2 c =
+    let both = c .before .before .before .before .before .before in
+    let start = entry both in
+    let into = both .before .before .wide16 in
+    pair-left (start .pre .1 .1 .1 .0)
+    (λ common.
+    absurd
+    (common-apart (start .args .j) (into .result) (both .wide162 .result) (start .pre .0) (start .pre .1 .1 .1 .1 .0)
+    (c .if2 .taken)
     (subst₂ (λ (x y : ℕ). Common (start .args .next .now) (start .args .work .now) (start .args .j) x y) (sym (into .ensures))
     (sym (both .wide162 .ensures)) common)))
 
@@ -87,35 +111,35 @@ shared-slice-read-wide16-4 c = search needs
 wide16-requires-4 : tie.Need-wide16-requires-4
 wide16-requires-4 c κs = tt
 
-mul-if2 : tie.Need-mul-if2
-mul-if2 c =
+mul-if3 : tie.Need-mul-if3
+mul-if3 c =
     let start = entry (targets c) in
     omega (arith, c .before .before .wide163 .ensures, start .pre .1 .0 .source-below, start .pre .1 .0 .few)
 
-slice-read-if2 : tie.Need-slice-read-if2
-slice-read-if2 c =
+slice-read-if3 : tie.Need-slice-read-if3
+slice-read-if3 c =
     let both = c .before in
     omega (arith, both .before .before .wide163 .ensures, entry (targets both) .pre .1 .0 .source-below)
 
-mul-if2-2 : tie.Need-mul-if2-2
-mul-if2-2 c =
+mul-if3-2 : tie.Need-mul-if3-2
+mul-if3-2 c =
     let start = entry (targets (c .before)) in
     omega (arith, c .before .wide164 .ensures, start .pre .1 .1 .0 .source-below, start .pre .1 .1 .0 .few)
 
-slice-read-if2-2 : tie.Need-slice-read-if2-2
-slice-read-if2-2 c =
+slice-read-if3-2 : tie.Need-slice-read-if3-2
+slice-read-if3-2 c =
     let both = c .before .before in
     omega (arith, both .wide164 .ensures, entry (targets both) .pre .1 .1 .0 .source-below)
 
 -- the sources are in one group
-returns-2 : tie.Need-returns-2
-returns-2 c =
+returns-3 : tie.Need-returns-3
+returns-3 c =
     let both = c .before .before .before in
     let start = entry (targets both) in
     let groups = start .args .groups .now in
     pair-left (start .pre .1 .1 .1 .0)
     (λ common. subst₂ (λ (x y : ℕ). getD groups x 0 ≡ getD groups y 0) (both .before .before .wide163 .ensures)
-    (both .wide164 .ensures) (c .if2 .taken))
+    (both .wide164 .ensures) (c .if3 .taken))
 
 common-requires : tie.Need-common-requires
 common-requires c κs =
@@ -124,7 +148,7 @@ common-requires c κs =
       start .pre .0,
       (
         omega (arith, both .before .before .wide16 .ensures, start .pre .1 .0 .group-below),
-        (omega (arith, both .wide162 .ensures, start .pre .1 .1 .0 .group-below), start .pre .1 .1 .1 .1),
+        (omega (arith, both .wide162 .ensures, start .pre .1 .1 .0 .group-below), start .pre .1 .1 .1 .1 .0),
       ),
     )
 
@@ -142,8 +166,8 @@ join-states-requires c κs =
 same-length : tie.Need-same-length
 same-length c = search needs
 
-returns-3 : tie.Need-returns-3
-returns-3 c =
+returns-4 : tie.Need-returns-4
+returns-4 c =
     let compared = c .before .before .before .before .before in
     let both = compared .before .before .before .before in
     let into = targets both in
@@ -153,12 +177,12 @@ returns-3 c =
     pair-joined
     (subst₂ (λ (x y : ℕ). Common (start .args .next .now) (start .args .work .now) (start .args .j) x y)
     (into .before .before .wide16 .ensures) (into .wide162 .ensures)
-    (compared .common .ensures .0 (c .before .before .before .before .if3 .taken)))
+    (compared .common .ensures .0 (c .before .before .before .before .if4 .taken)))
     (subst₂ (λ (x y : ℕ). JoinedTwo (length groups) x y groups (join .last .0) (join .result))
     (both .before .before .wide163 .ensures) (both .wide164 .ensures) (join .ensures))
 
-returns-4 : tie.Need-returns-4
-returns-4 c =
+returns-5 : tie.Need-returns-5
+returns-5 c =
     let into = targets (c .before .before .before .before .before) in
     let start = entry into in
     pair-left (start .pre .1 .1 .1 .0)
@@ -169,7 +193,7 @@ returns-4 c =
     (c .before .common .ensures .1
     (subst₂ (λ (x y : ℕ). Common (start .args .next .now) (start .args .work .now) (start .args .j) x y)
     (sym (into .before .before .wide16 .ensures)) (sym (into .wide162 .ensures)) common))
-    ∙ c .if3 .left)))
+    ∙ c .if4 .left)))
 
 pub join-pair-spec : {M : Type 1} → statement M
 join-pair-spec =
@@ -182,23 +206,28 @@ join-pair-spec =
     shared-slice-read-wide16-2
     wide16-requires-2
     mul-if1
-    shared-slice-read-if1
+    element-copy-out-if1
     mul-if1-2
-    shared-slice-read-if1-2
+    element-copy-out-if1-2
     returns
+    mul-if2
+    shared-slice-read-if2
+    mul-if2-2
+    shared-slice-read-if2-2
+    returns-2
     mul-wide16-3
     shared-slice-read-wide16-3
     wide16-requires-3
     mul-wide16-4
     shared-slice-read-wide16-4
     wide16-requires-4
-    mul-if2
-    slice-read-if2
-    mul-if2-2
-    slice-read-if2-2
-    returns-2
+    mul-if3
+    slice-read-if3
+    mul-if3-2
+    slice-read-if3-2
+    returns-3
     common-requires
     join-states-requires
     same-length
-    returns-3
-    returns-4)
+    returns-4
+    returns-5)

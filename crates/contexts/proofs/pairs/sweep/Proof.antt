@@ -10,6 +10,7 @@ use Rattle.indexed.specs.Partitions.{Labelled}
 use Rattle.indexed.proofs.Chains.{heads-none}
 use Rattle.indexed.proofs.Suffixes.{parent-below}
 use Rattle.contexts.specs.Sweeps.{ArcsLinked, ArcsReady, Comparing, PairsJoined}
+use Rattle.contexts.proofs.AheadLaws.{all-ones}
 use Rattle.contexts.proofs.NearLaws.{distances-none, arcs-none, arcs-ready}
 use Rattle.contexts.proofs.ReadyLaws.{arcs-comparing}
 use Rattle.contexts.proofs.SweepLaws.{pairs-sweep}
@@ -29,6 +30,10 @@ copied c = c .before .before .before .before .before .before .before .before .be
 
 abbrev linked : tie.After-link-far → tie.After-link-arcs
 linked c = c .before .before .before .before .before .before .before .before
+
+-- that place, from where the sets of two names are made
+abbrev far : tie.After-names-ahead → tie.After-link-far
+far c = c .before .before .before .before .before
 
 sub-j : tie.Need-sub-j
 sub-j c = omega (arith, c .before .before .before .before .before .before .pre .1 .1 .1 .1 .1 .0)
@@ -139,6 +144,15 @@ ready-here c =
     let start = entry (copied (linked c)) in
     arcs-ready (arcs-here (linked c)) (λ v low. c .link-far .ensures v (omega (arith, start .pre .1 .0)))
 
+names-ahead-requires : tie.Need-names-ahead-requires
+names-ahead-requires c κs =
+    let at = copied (linked (c .before .before .before .before)) in
+    let start = entry at in
+    let same = at .copy .ensures in (
+      subst (λ (l : List ℕ). Arrays (length l) (start .args .parents .now) (start .args .names .now)) (sym same) (start .pre .0),
+      (subst (λ (l : List ℕ). Labelled (length l) l) (sym same) (start .pre .1 .1 .1 .0), all-ones 512),
+    )
+
 slice-aggregate-sweep-pairs : tie.Need-slice-aggregate-sweep-pairs
 slice-aggregate-sweep-pairs c = search needs
 
@@ -147,28 +161,36 @@ slice-aggregate-sweep-pairs-2 c = search needs
 
 sweep-pairs-requires : tie.Need-sweep-pairs-requires
 sweep-pairs-requires c κs =
-    let far = c .before .before .before .before .before .before in
-    let at = copied (linked far) in
+    let sets = c .before .before .before .before .before .before in
+    let arcs = far sets in
+    let at = copied (linked arcs) in
     let start = entry at in
     let groups = start .args .groups .now in
-    let links = linked far .link-arcs in
+    let links = linked arcs .link-arcs in
     let made = links .last .1 .1 .1 .1 .1 .1 in
     let sizes = links .kept .1 .1 .1 .1 .1 .1 in (
-      subst (λ (l : List ℕ). Comparing (length groups) (start .args .parents .now) l (made .0) (far .link-far .last .1 .1 .0)
+      subst (λ (l : List ℕ). Comparing (length groups) (start .args .parents .now) l (made .0) (arcs .link-far .last .1 .1 .0)
           (made .1 .1 .1 .0)) (sym (at .copy .ensures))
-          (arcs-comparing (ready-here far) (start .pre .0) (start .pre .1 .1 .1 .0)
+          (arcs-comparing (ready-here arcs) (start .pre .0) (start .pre .1 .1 .1 .0)
           (record {
             classes-size = start .pre .1 .0;
             next-size = sizes .0;
-            links-size = far .link-far .kept .1 .1 .0 ∙ sizes .1 .0;
+            links-size = arcs .link-far .kept .1 .1 .0 ∙ sizes .1 .0;
             heads-size = sizes .1 .1 .0;
             room = omega (arith, sizes .1 .1 .1 .0, start .pre .1 .1 .1 .1 .0);
           })),
-      (start .pre .1 .1 .1 .0, omega (arith, start .pre .1 .1 .1 .1 .1 .0)),
+      (
+        start .pre .1 .1 .1 .0,
+        (
+          omega (arith, start .pre .1 .1 .1 .1 .1 .0),
+          sets .names-ahead .ensures (made .1 .1 .1 .0) (linked arcs .link-arcs .ensures .linked),
+        ),
+      ),
     )
 
 same-length : tie.Need-same-length
-same-length c = search needs
+same-length c =
+    copied (linked (far (c .before .before .before .before .before .before .before .before .before))) .copy .kept .1 .0
 
 same-length-2 : tie.Need-same-length-2
 same-length-2 c = search needs
@@ -178,18 +200,18 @@ same-length-3 c = search needs
 
 returns : tie.Need-returns
 returns c =
-    let far = c .before .before .before .before .before .before .before .before .before in
-    let at = copied (linked far) in
+    let arcs = far (c .before .before .before .before .before .before .before .before .before) in
+    let at = copied (linked arcs) in
     let start = entry at in
     let groups = start .args .groups .now in
-    let made = linked far .link-arcs .last .1 .1 .1 .1 .1 .1 in
+    let made = linked arcs .link-arcs .last .1 .1 .1 .1 .1 .1 in
     let pairs = c .before .before .sweep-pairs in
     let j = start .args .m - 1 in
     let m-is : suc j ≡ start .args .m = omega (arith, start .pre .1 .1 .1 .1 .1 .0) in
-    pairs-sweep (start .pre .0) (start .pre .1 .1 .1 .0) (ready-here far) (spread at .distances .ensures)
+    pairs-sweep (start .pre .0) (start .pre .1 .1 .1 .0) (ready-here arcs) (spread at .distances .ensures)
     (subst (λ (l : List ℕ). PairsJoined (length groups) (length groups) j (start .args .parents .now) l (made .0)
-    (far .link-far .last .1 .1 .0) (made .1 .1 .1 .0) groups (pairs .last .1 .1 .1 .1 .1 .0) (pairs .result)) (at .copy .ensures)
-    (pairs .ensures))
+    (arcs .link-far .last .1 .1 .0) (made .1 .1 .1 .0) groups (pairs .last .1 .1 .1 .1 .1 .1 .0) (pairs .result))
+    (at .copy .ensures) (pairs .ensures))
     m-is (at .copy .ensures)
 
 pub sweep-spec : {M : Type 1} → statement M
@@ -206,6 +228,7 @@ sweep-spec =
     slice-aggregate-link-far
     slice-aggregate-link-far-2
     link-far-requires
+    names-ahead-requires
     slice-aggregate-sweep-pairs
     slice-aggregate-sweep-pairs-2
     sweep-pairs-requires

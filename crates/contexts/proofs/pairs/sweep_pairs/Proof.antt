@@ -10,12 +10,12 @@ use Rattle.contexts.proofs.pairs.sweep_pairs.Statement.{statement}
 use Rattle.contexts.proofs.pairs.sweep_pairs.Tie as tie
 
 abbrev Inv-loop : tie.InvT-loop
-Inv-loop j parents old next links groups₀ work joined₀ v₀ groups joined v =
+Inv-loop j parents old next ahead links groups₀ work joined₀ v₀ groups joined v =
     (v ≤ length old) × (length groups ≡ length groups₀)
     × PairsJoined (length groups₀) v j parents old next links work groups₀ groups joined
 
 abbrev μ-loop : tie.MeasureT-loop
-μ-loop j parents old next links groups₀ work joined₀ v₀ groups joined v = length old - v
+μ-loop j parents old next ahead links groups₀ work joined₀ v₀ groups joined v = length old - v
 
 -- the function's entry, from the loop's head
 abbrev entry : tie.At-loop Inv-loop μ-loop → tie.Start Inv-loop μ-loop
@@ -56,10 +56,10 @@ loop-again c =
     let inside : loop .v < length (start .args .groups .now) = omega (arith, turn .loop-test .taken, start .pre .0 .old-size) in
     let chain =
     subst (λ (k : ℕ). ChainJoined k (start .args .j) (start .args .parents .now) (start .args .old .now) (start .args .next .now)
-    (start .args .links .now) (start .args .work .now) (loop .v) (loop .groups) (arc .last .1 .1 .1 .1 .1 .1 .0) (arc .result))
+    (start .args .links .now) (start .args .work .now) (loop .v) (loop .groups) (arc .last .1 .1 .1 .1 .1 .1 .1 .0) (arc .result))
     (loop .inv .1) (arc .ensures) in (
       omega (arith, turn .loop-test .taken),
-      arc .kept .1 .1 .1 .1 .1 .1 .0 ∙ loop .inv .1,
+      arc .kept .1 .1 .1 .1 .1 .1 .1 .0 ∙ loop .inv .1,
       pairs-more (start .pre .0) inside (loop .inv .2) chain,
     )
 
