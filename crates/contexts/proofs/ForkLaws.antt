@@ -40,6 +40,12 @@ coarser-sum n groups groups′ labelled labelled′ coarser =
         coarser (getD groups v 0) v hg hv (labelled .own v hv) in
         omega (arith, labelled′ .low (getD groups v 0) hg)
 
+-- and where two groups have become one the sum is lower
+pub coarser-less :
+    (n : ℕ) (groups groups′ : List ℕ) → Labelled n groups → Labelled n groups′ → Refines n groups groups′ → (x y : ℕ) → x < n →
+    y < n → (getD groups x 0 ≡ getD groups y 0 → ⊥) → getD groups′ x 0 ≡ getD groups′ y 0 → sum groups′ < sum groups
+coarser-less n groups groups′ labelled labelled′ coarser x y hx hy apart one = ?
+
 -- arrays of zeros are lists without arcs
 pub no-lists : NoLists (replicate 512 0) (replicate 512 0)
 no-lists =
@@ -70,7 +76,7 @@ module _ (n : ℕ) (parents names numbers : List ℕ) (arrays : Arrays n parents
       }
 
   -- a partition without forks is closed along the arcs
-  forks-closed : (others : List ℕ) → ForkClosed n parents names others → KeyClosed n parents numbers names others
+  pub forks-closed : (others : List ℕ) → ForkClosed n parents names others → KeyClosed n parents numbers names others
   forks-closed others closed =
       subst (λ (l : List ℕ). KeyClosed n parents l names others) (sym own) (forks-keys n parents names others arrays closed)
 
