@@ -5,9 +5,10 @@ use mathlib.Core.List.{List}
 use Prim.Native.Nat.{ℕ, _+_, _*_, _<_}
 use lib.Bits.{bitAnd}
 use lib.ListN.{getD}
-use Rattle.model.specs.Limits.{name-limit, state-limit}
+use Rattle.model.specs.Limits.{name-limit}
+use Rattle.indexed.specs.Partitions.{Share}
 use Rattle.indexed.proofs.Bits.{bit}
-use Rattle.contexts.specs.Sweeps.{Linked, Common}
+use Rattle.contexts.specs.Sweeps.{Linked}
 
 -- the low two bits of a name
 abbrev pub lowOf : ℕ → ℕ
@@ -31,13 +32,12 @@ LeadsOn parents names old next ahead v =
 abbrev pub LeadOnBelow : ℕ → List ℕ → List ℕ → List ℕ → List ℕ → List ℕ → Type 0
 LeadOnBelow i parents names old next ahead = (v : ℕ) → 0 < v → v < i → LeadsOn parents names old next ahead v
 
--- groups out of which j names in succession lead in common have a bit in common
-abbrev pub Telling : ℕ → List ℕ → List ℕ → List ℕ → Type 0
-Telling j next work ahead =
-    (x y : ℕ) → x < state-limit → y < state-limit → Common next work j x y →
-    bitAnd (getD ahead x 0) (getD ahead y 0) ≡ 0 → ⊥
+-- arcs after which j names in succession lead on in common lead into groups that have a bit in common
+abbrev pub Telling : ℕ → ℕ → List ℕ → List ℕ → List ℕ → List ℕ → Type 0
+Telling n j parents names old ahead =
+    (v w : ℕ) → v < n → w < n → Share n parents names old j v w →
+    bitAnd (getD ahead (getD old v 0) 0) (getD ahead (getD old w 0) 0) ≡ 0 → ⊥
 
--- the same where the sets and whatever cells have the arcs into n states
+-- the same where the sets have the arcs into n states
 abbrev pub AheadOf : ℕ → ℕ → List ℕ → List ℕ → List ℕ → List ℕ → List ℕ → Type 0
-AheadOf n j parents names old next ahead =
-    (work : List ℕ) → Linked n parents names old next work → Telling j next work ahead
+AheadOf n j parents names old next ahead = Linked n parents names old next → Telling n j parents names old ahead
