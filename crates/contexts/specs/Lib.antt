@@ -4,4 +4,5 @@ pub mod Climbs
 pub mod Rounds
 pub mod Sweeps
 pub mod Pairs
+pub mod Stubs
 pub mod Distances

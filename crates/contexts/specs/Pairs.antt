@@ -3,8 +3,10 @@
 -- by the names that lead on at the beginning of the sweep, in `old`; and the sweep. Assumes nothing.
 use mathlib.Core.Path.{_≡_}
 use mathlib.Core.Bool.{Bool, true, false}
+use mathlib.Core.Logic.{_⊎_}
 use mathlib.Core.List.{List}
 use Prim.Native.Nat.{ℕ, _+_, _<_, _≤_}
+use lib.Bits.{bitAnd}
 use lib.ListN.{length, getD}
 use Rattle.model.specs.Limits.{state-limit}
 use Rattle.model.specs.Lists.{numbersFrom}
@@ -22,6 +24,12 @@ use Rattle.contexts.specs.Ahead.{Telling}
 pub record Live (n : ℕ) (parents names numbers above links heads firsts seconds : List ℕ) : Type 0 where
   pub forest : Forest n above
   pub kept : Kept n parents names numbers (rootsOf above) links heads firsts seconds 0
+
+-- by their sets, of two names in succession or of one, the groups that arcs v and w led into have no names in common
+abbrev pub Apart : List ℕ → List ℕ → List ℕ → ℕ → ℕ → Type 0
+Apart old next ahead v w =
+    (bitAnd (getD ahead (getD old v 0) 0) (getD ahead (getD old w 0) 0) ≡ 0)
+    ⊎ (bitAnd (getD next (getD old v 0) 0) (getD next (getD old w 0) 0) ≡ 0)
 
 -- what the comparisons of a sweep need of the groups at its beginning, `old`: the sets of names that lead out of them, of one name
 -- and of two in succession

@@ -3,6 +3,8 @@
 pub mod ahead;
 pub mod distances;
 pub mod forks;
+pub mod joins;
+pub mod stubs;
 pub mod pairs;
 
 use cells::numbers::wide16;

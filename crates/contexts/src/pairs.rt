@@ -8,22 +8,16 @@
 use crate::STATE_LIMIT;
 use crate::ahead::names_ahead;
 use crate::distances::distances;
-use cells::cell;
 use cells::numbers::narrow16;
 use cells::numbers::wide8;
 use cells::numbers::wide16;
 ghost use mathlib.Core.Path.{_≡_};
-ghost use mathlib.Core.Bool.{true};
-ghost use mathlib.Core.Logic.{_↔_};
 ghost use Prim.Native.Nat.{ℕ, _+_, _<_, _≤_};
 ghost use lib.ListN.{length, getD};
-ghost use Rattle.cells.specs.Cells.{work-bytes};
 ghost use Rattle.indexed.specs.Trees.{Arrays};
 ghost use Rattle.indexed.specs.Partitions.{Labelled};
-ghost use Rattle.model.specs.Limits.{setting-limit, state-limit};
-ghost use Rattle.contexts.specs.Sweeps.{Sizes, Placed, ArcsLinked, waiting, Settled, FarLinked, Targets, Common};
-ghost use Rattle.contexts.specs.Ahead.{Telling};
-ghost use Rattle.contexts.specs.Sweeps.{ArcInside, Comparing, PairJoined, ChainJoined, PairsJoined, SweptBy};
+ghost use Rattle.model.specs.Limits.{state-limit};
+ghost use Rattle.contexts.specs.Sweeps.{Sizes, Placed, ArcsLinked, waiting, Settled, FarLinked};
 
 // The class of a state with too few names.
 const NONE: u16 = 512;
@@ -79,18 +73,17 @@ fn link_arc(
     next: &mut [u64],
     links: &mut [u16],
     heads: &mut [u16],
-    work: &mut [u8],
 )
     requires arrays { ⌜ Arrays (length (now old)) (now parents) (now names) ⌝ }
     requires labelled { ⌜ Labelled (length (now old)) (now old) ⌝ }
     requires no_root { ⌜ 0 < v ⌝ }
     requires inside { ⌜ v < length (now old) ⌝ }
-    requires sizes { ⌜ Sizes (length (now old)) (now classes) (now next) (now links) (now heads) (now work) ⌝ }
+    requires sizes { ⌜ Sizes (length (now old)) (now classes) (now next) (now links) (now heads) ⌝ }
     requires so_far { ⌜ ArcsLinked v j (now parents) (now names) (now classes) (now old) (now dist) (now next)
-        (now links) (now heads) (now work) ⌝ }
+        (now links) (now heads) ⌝ }
     ensures { λ _.
         ⌜ ArcsLinked (v + 1) j (now (parents .entry)) (now (names .entry)) (now (classes .entry)) (now (old .entry))
-        (now (dist .entry)) (now (next .exit)) (now (links .exit)) (now (heads .exit)) (now (work .exit)) ⌝ }
+        (now (dist .entry)) (now (next .exit)) (now (links .exit)) (now (heads .exit)) ⌝ }
 {
     let from = suffixes::class_above(old, parents, v);
     let name = names[v];
@@ -100,13 +93,12 @@ fn link_arc(
         return;
     }
     next[from] = all;
-    cells::set_cell(work, from, wide8(name), wide16(old[v]));
     place_arc(j, v, classes, old, dist, links, heads);
 }
 
 // The set of names that lead out of each group, in `next`, the groups that they lead to, in the cells, and the chains of near
 // arcs.
-fn link_arcs(
+pub fn link_arcs(
     j: usize,
     parents: &[u16],
     names: &[u8],
@@ -116,16 +108,15 @@ fn link_arcs(
     next: &mut [u64],
     links: &mut [u16],
     heads: &mut [u16],
-    work: &mut [u8],
 )
     requires arrays { ⌜ Arrays (length (now old)) (now parents) (now names) ⌝ }
     requires labelled { ⌜ Labelled (length (now old)) (now old) ⌝ }
-    requires sizes { ⌜ Sizes (length (now old)) (now classes) (now next) (now links) (now heads) (now work) ⌝ }
+    requires sizes { ⌜ Sizes (length (now old)) (now classes) (now next) (now links) (now heads) ⌝ }
     requires none { ⌜ ArcsLinked 1 j (now parents) (now names) (now classes) (now old) (now dist) (now next)
-        (now links) (now heads) (now work) ⌝ }
+        (now links) (now heads) ⌝ }
     ensures { λ _.
         ⌜ ArcsLinked (length (now (old .entry))) j (now (parents .entry)) (now (names .entry)) (now (classes .entry))
-        (now (old .entry)) (now (dist .entry)) (now (next .exit)) (now (links .exit)) (now (heads .exit)) (now (work .exit)) ⌝ }
+        (now (old .entry)) (now (dist .entry)) (now (next .exit)) (now (links .exit)) (now (heads .exit)) ⌝ }
 {
     let mut v = 1;
     while v < old.len() {
@@ -140,7 +131,6 @@ fn link_arcs(
             next,
             links,
             heads,
-            work,
         );
         v += 1;
     }
@@ -159,7 +149,7 @@ fn settled(link: u16, class: u16, heads: &[u16]) -> u16
 }
 
 // Links the far arcs, when all near arcs are in their chains.
-fn link_far(classes: &[u16], heads: &[u16], links: &mut [u16])
+pub fn link_far(classes: &[u16], heads: &[u16], links: &mut [u16])
     requires few { ⌜ length (now classes) ≤ state-limit ⌝ }
     requires heads_size { ⌜ length (now heads) ≡ state-limit ⌝ }
     requires links_size { ⌜ length (now links) ≡ state-limit ⌝ }
@@ -173,177 +163,4 @@ fn link_far(classes: &[u16], heads: &[u16], links: &mut [u16])
         links[v] = settled(links[v], classes[v], heads);
         v += 1;
     }
-}
-
-// Whether j names in succession lead out of both x and y. At the last name the cells are not read.
-fn common(j: usize, x: usize, y: usize, next: &[u64], work: &[u8]) -> bool
-    requires targets { ⌜ Targets (now next) (now work) ⌝ }
-    requires x_inside { ⌜ x < length (now next) ⌝ }
-    requires y_inside { ⌜ y < length (now next) ⌝ }
-    requires some { ⌜ 0 < j ⌝ }
-    ensures { λ r. ⌜ (r ≡ true) ↔ Common (now (next .entry)) (now (work .entry)) j x y ⌝ }
-{
-    let mut left = next[x] & next[y];
-    if j < 2 {
-        return left != 0;
-    }
-    while left != 0 {
-        let name = u64::trailing_zeros(left) as usize;
-        if common(j - 1, cell(work, x, name), cell(work, y, name), next, work) {
-            return true;
-        }
-        left = left & (left - 1);
-    }
-    false
-}
-
-// Joins the sources of arcs v and w where j names in succession lead on after both; true where they were in two groups. Most
-// pairs are told apart without a search: no two names lead on after both, or no name does.
-fn join_pair(
-    j: usize,
-    v: usize,
-    w: usize,
-    parents: &[u16],
-    old: &[u16],
-    next: &[u64],
-    ahead: &[u16; STATE_LIMIT],
-    groups: &mut [u16],
-    work: &[u8],
-) -> bool
-    requires targets { ⌜ Targets (now next) (now work) ⌝ }
-    requires v_inside { ⌜ ArcInside (length (now groups)) (length (now next)) (now parents) (now old) v ⌝ }
-    requires w_inside { ⌜ ArcInside (length (now groups)) (length (now next)) (now parents) (now old) w ⌝ }
-    requires labelled { ⌜ Labelled (length (now groups)) (now groups) ⌝ }
-    requires some { ⌜ 0 < j ⌝ }
-    requires telling { ⌜ Telling j (now next) (now work) (now ahead) ⌝ }
-    ensures { λ r.
-        ⌜ PairJoined (length (now (groups .entry))) j (now (parents .entry)) (now (old .entry)) (now (next .entry))
-        (now (work .entry)) v w (now (groups .entry)) (now (groups .exit)) r ⌝ }
-{
-    let into = wide16(old[v]);
-    let other = wide16(old[w]);
-    if ahead[into] & ahead[other] == 0 {
-        return false;
-    }
-    if next[into] & next[other] == 0 {
-        return false;
-    }
-    let x = wide16(parents[v]);
-    let y = wide16(parents[w]);
-    if groups[x] == groups[y] {
-        return false;
-    }
-    if common(j, into, other, next, work) {
-        return partition::join_states(groups, x, y);
-    }
-    false
-}
-
-// Joins the source of arc v with those of the arcs further down its chain after which j names in succession lead on as after v;
-// true where anything was joined.
-fn join_chain(
-    j: usize,
-    v: usize,
-    parents: &[u16],
-    old: &[u16],
-    next: &[u64],
-    ahead: &[u16; STATE_LIMIT],
-    links: &[u16],
-    groups: &mut [u16],
-    work: &[u8],
-) -> bool
-    requires comparing { ⌜ Comparing (length (now groups)) (now parents) (now old) (now next) (now links) (now work) ⌝ }
-    requires inside { ⌜ v < length (now groups) ⌝ }
-    requires labelled { ⌜ Labelled (length (now groups)) (now groups) ⌝ }
-    requires some { ⌜ 0 < j ⌝ }
-    requires telling { ⌜ Telling j (now next) (now work) (now ahead) ⌝ }
-    ensures { λ r.
-        ⌜ ChainJoined (length (now (groups .entry))) j (now (parents .entry)) (now (old .entry)) (now (next .entry))
-        (now (links .entry)) (now (work .entry)) v (now (groups .entry)) (now (groups .exit)) r ⌝ }
-{
-    let mut joined = false;
-    let mut at = wide16(links[v]);
-    while 0 < at {
-        let w = at - 1;
-        let joins = join_pair(j, v, w, parents, old, next, ahead, groups, work);
-        joined = joined | joins;
-        at = wide16(links[w]);
-    }
-    joined
-}
-
-// Compares all arcs; true where anything was joined.
-fn sweep_pairs(
-    j: usize,
-    parents: &[u16],
-    old: &[u16],
-    next: &[u64],
-    ahead: &[u16; STATE_LIMIT],
-    links: &[u16],
-    groups: &mut [u16],
-    work: &[u8],
-) -> bool
-    requires comparing { ⌜ Comparing (length (now groups)) (now parents) (now old) (now next) (now links) (now work) ⌝ }
-    requires labelled { ⌜ Labelled (length (now groups)) (now groups) ⌝ }
-    requires some { ⌜ 0 < j ⌝ }
-    requires telling { ⌜ Telling j (now next) (now work) (now ahead) ⌝ }
-    ensures { λ r.
-        ⌜ PairsJoined (length (now (groups .entry))) (length (now (groups .entry))) j (now (parents .entry)) (now (old .entry))
-        (now (next .entry)) (now (links .entry)) (now (work .entry)) (now (groups .entry)) (now (groups .exit)) r ⌝ }
-{
-    let mut joined = false;
-    let mut v = 0;
-    while v < old.len() {
-        let joins = join_chain(j, v, parents, old, next, ahead, links, groups, work);
-        joined = joined | joins;
-        v += 1;
-    }
-    joined
-}
-
-// The sweep for m names, by the groups as they are at first; true where anything was joined. `before` has the groups that the
-// last sweep went by, and gets those of this one.
-pub fn sweep(
-    m: usize,
-    parents: &[u16],
-    names: &[u8],
-    classes: &[u16],
-    before: &mut [u16],
-    groups: &mut [u16],
-    work: &mut [u8],
-) -> bool
-    requires arrays { ⌜ Arrays (length (now groups)) (now parents) (now names) ⌝ }
-    requires classes_size { ⌜ length (now classes) ≡ length (now groups) ⌝ }
-    requires before_size { ⌜ length (now before) ≡ length (now groups) ⌝ }
-    requires labelled { ⌜ Labelled (length (now groups)) (now groups) ⌝ }
-    requires room { ⌜ work-bytes ≤ length (now work) ⌝ }
-    requires some { ⌜ 1 < m ⌝ }
-    requires limit { ⌜ m ≤ setting-limit ⌝ }
-    ensures { λ r.
-        ⌜ SweptBy (length (now (groups .entry))) m (now (parents .entry)) (now (names .entry)) (now (classes .entry))
-        (now (before .entry)) (now (before .exit)) (now (groups .entry)) (now (groups .exit)) r ⌝ }
-{
-    let j = m - 1;
-    let mut dist = [8u8; STATE_LIMIT];
-    distances(j, parents, before, groups, &mut dist);
-    suffixes::copy(groups, before);
-    let mut next = [0u64; STATE_LIMIT];
-    let mut links = [0u16; STATE_LIMIT];
-    let mut heads = [0u16; STATE_LIMIT];
-    link_arcs(
-        j,
-        parents,
-        names,
-        classes,
-        before,
-        &dist,
-        &mut next,
-        &mut links,
-        &mut heads,
-        work,
-    );
-    link_far(classes, &heads, &mut links);
-    let mut ahead = [1u16; STATE_LIMIT];
-    names_ahead(j, parents, names, before, &next, &mut ahead);
-    sweep_pairs(j, parents, before, &next, &ahead, &links, groups, work)
 }
