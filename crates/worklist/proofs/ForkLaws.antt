@@ -54,7 +54,7 @@ module _ (n : ℕ) (parents names numbers : List ℕ) where
       }
 
   -- lists kept: nothing is pending, and the round's start is a coarser partition
-  closing-kept :
+  pub closing-kept :
       (joined groups links heads firsts seconds : List ℕ) (tail : ℕ) → ForksReady n parents names numbers →
       Kept n parents names numbers groups links heads firsts seconds tail → Refines n groups joined →
       Closing n parents names numbers joined groups links heads firsts seconds tail tail

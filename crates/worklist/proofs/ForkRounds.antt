@@ -7,12 +7,14 @@ use Prim.Native.Nat.{ℕ, suc, _+_, _<_, _≤_}
 use native.Mathlib.Omega.{arith}
 use lib.ListN.{length, getD}
 use Rattle.model.proofs.Tests.{eq-dec}
-use Rattle.indexed.specs.Partitions.{Refines, Labelled}
+use Rattle.indexed.specs.Partitions.{Refines, Labelled, KeyClosed}
+use Rattle.indexed.specs.Passes.{relabelled}
+use Rattle.indexed.proofs.Keys.{relabelled-coarser, relabelled-refines, relabelled-joins}
 use Rattle.partition.specs.Forests.{Forest, rootsOf}
-use Rattle.partition.proofs.ForestLaws.{flat-roots, root-up, roots-at}
-use Rattle.worklist.specs.Forks.{Closing, JoinedPair, JoinedAll, SettledForks, KeptClosed}
+use Rattle.partition.proofs.ForestLaws.{flat-roots, root-up, roots-at, roots-length}
+use Rattle.worklist.specs.Forks.{ForksReady, Kept, Closing, JoinedPair, JoinedAll, SettledForks, KeptClosed, TwoClosed}
 use Rattle.worklist.proofs.SettleLaws.{One}
-use Rattle.worklist.proofs.ForkLaws.{closing-next, kept-closed}
+use Rattle.worklist.proofs.ForkLaws.{closing-kept, closing-next, kept-closed}
 
 -- a pair joined, by the number of states
 pair-by-states :
@@ -226,4 +228,81 @@ module _ (n : ℕ) (names numbers joined above₀ links₀ heads₀ firsts₀ se
                 so-far .each x hx (omega arith) ∙ ap (λ (z : ℕ). getD (rootsOf above) z 0) e
                 ∙ sym (so-far .each y hy (omega arith));
             closing = so-far .closing;
+          }
+
+-- ---- two states joined, and pair after pair of the queue
+
+-- from the queue's start there is room too
+pub kept-from-start :
+    (n : ℕ) (parents names numbers groups links heads firsts seconds : List ℕ) (tail : ℕ) →
+    Kept n parents names numbers groups links heads firsts seconds tail →
+    Kept n parents names numbers groups links heads firsts seconds 0
+kept-from-start n parents names numbers groups links heads firsts seconds tail kept =
+    record {
+      rows = kept .rows;
+      labelled = kept .labelled;
+      kind = kept .kind;
+      room = omega (arith, kept .room);
+      queue = kept .queue;
+    }
+
+-- the roots with the groups of two states one, where the round starts
+abbrev pub united : List ℕ → ℕ → ℕ → List ℕ
+united above v w = relabelled (getD (rootsOf above) v 0) (getD (rootsOf above) w 0) (rootsOf above)
+
+module _ (n : ℕ) (parents names numbers above links heads firsts seconds : List ℕ) (v w : ℕ) (size : length above ≡ n)
+    (below-v : v < n) (below-w : w < n) (ready : ForksReady n parents names numbers)
+    (kept : Kept n parents names numbers (rootsOf above) links heads firsts seconds 0)
+    (above₁ links₁ heads₁ firsts₁ seconds₁ : List ℕ) (end : ℕ)
+    (pair : JoinedPair n names numbers above above₁ links heads links₁ heads₁ firsts seconds firsts₁ seconds₁ v w 0 end) where
+  sizes : length (rootsOf above) ≡ n
+  sizes = roots-length above ∙ size
+
+  -- every partition that is coarser than the roots and joins both is coarser than it
+  united-refines : (others : List ℕ) → One others v w → Refines n (rootsOf above) others → Refines n (united above v w) others
+  united-refines others one refines = relabelled-refines n v w (rootsOf above) others sizes below-v below-w refines one
+
+  -- what joining them queued is pending
+  pub closing-two : Closing n parents names numbers (united above v w) (rootsOf above₁) links₁ heads₁ firsts₁ seconds₁ 0 end
+  closing-two =
+      pair .closing parents (united above v w) 0
+      (λ closed by refines. refines v w below-v below-w (relabelled-joins n v w (rootsOf above) sizes below-v below-w))
+      (closing-kept n parents names numbers (united above v w) (rootsOf above) links heads firsts seconds 0 ready kept
+      (relabelled-coarser n (getD (rootsOf above) v 0) (getD (rootsOf above) w 0) (rootsOf above) sizes))
+
+  -- all of it joined
+  pub two-closed :
+      (above₂ links₂ heads₂ firsts₂ seconds₂ : List ℕ) (tail : ℕ) →
+      SettledForks (length above₁) names numbers above₁ above₂ links₁ heads₁ links₂ heads₂ firsts₁ seconds₁ firsts₂ seconds₂ 0 end
+      tail tail →
+      TwoClosed n parents names numbers v w above above₂ links₂ heads₂ firsts₂ seconds₂
+  two-closed above₂ links₂ heads₂ firsts₂ seconds₂ tail settled₀ =
+      go
+      (subst
+      (λ (m : ℕ).
+      SettledForks m names numbers above₁ above₂ links₁ heads₁ links₂ heads₂ firsts₁ seconds₁ firsts₂ seconds₂ 0 end tail tail)
+      (pair .forest .size) settled₀)
+    where
+      go :
+          SettledForks n names numbers above₁ above₂ links₁ heads₁ links₂ heads₂ firsts₁ seconds₁ firsts₂ seconds₂ 0 end tail
+          tail →
+          TwoClosed n parents names numbers v w above above₂ links₂ heads₂ firsts₂ seconds₂
+      go settled =
+          let coarser : Refines n (rootsOf above) (rootsOf above₂) =
+          λ x y hx hy e. settled .coarser x y hx hy (pair .coarser x y hx hy e) in
+          let one : One (rootsOf above₂) v w = settled .coarser v w below-v below-w (pair .one) in
+          let round : KeptClosed n parents names numbers (united above v w) (rootsOf above₂) links₂ heads₂ firsts₂ seconds₂ tail =
+          kept-closed n parents names numbers (united above v w) (rootsOf above₂) links₂ heads₂ firsts₂ seconds₂ tail
+          (united-refines (rootsOf above₂) one coarser) (settled .closing parents (united above v w) closing-two) in
+          record {
+            forest = settled .forest;
+            until =
+                record {
+                  labelled = round .until .labelled;
+                  coarser = coarser;
+                  sound = λ others by refines. round .until .sound others (by .0) (united-refines others (by .1) refines);
+                  closed = (round .until .closed, one);
+                };
+            kept =
+                kept-from-start n parents names numbers (rootsOf above₂) links₂ heads₂ firsts₂ seconds₂ tail (round .kept);
           }

@@ -89,3 +89,12 @@ pub record KeptClosed
     (n : ℕ) (parents names numbers start groups′ links′ heads′ firsts′ seconds′ : List ℕ) (tail′ : ℕ) : Type 0 where
   pub until : JoinedUntil (KeyClosed n parents numbers names) n start groups′
   pub kept : Kept n parents names numbers groups′ links′ heads′ firsts′ seconds′ tail′
+
+-- two states joined and forks closed again: nothing else is joined, and the lists are kept
+pub record TwoClosed
+    (n : ℕ) (parents names numbers : List ℕ) (v w : ℕ) (above above′ links′ heads′ firsts′ seconds′ : List ℕ) : Type 0 where
+  pub forest : Forest n above′
+  pub until :
+      JoinedUntil (λ (others : List ℕ). KeyClosed n parents numbers names others × (getD others v 0 ≡ getD others w 0)) n
+      (rootsOf above) (rootsOf above′)
+  pub kept : Kept n parents names numbers (rootsOf above′) links′ heads′ firsts′ seconds′ 0
