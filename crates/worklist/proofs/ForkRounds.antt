@@ -1,18 +1,16 @@
--- Laws of a round of closing forks: pair after pair of the queue joined, until none is left; and state after state of a coarser
--- partition joined with its label. Assumes nothing.
-use mathlib.Core.Path.{_≡_, sym, ap, _∙_, subst, subst₂}
-use mathlib.Core.Logic.{_⊎_, inl, inr}
+-- Laws of a round of closing forks: pair after pair of the queue joined, until none is left; and such a round after two states
+-- are joined. Assumes nothing.
+use mathlib.Core.Path.{_≡_, sym, _∙_, subst, subst₂}
 use mathlib.Core.List.{List}
-use Prim.Native.Nat.{ℕ, suc, _+_, _<_, _≤_}
+use Prim.Native.Nat.{ℕ, suc, _<_, _≤_}
 use native.Mathlib.Omega.{arith}
 use lib.ListN.{length, getD}
-use Rattle.model.proofs.Tests.{eq-dec}
-use Rattle.indexed.specs.Partitions.{Refines, Labelled, KeyClosed}
+use Rattle.indexed.specs.Partitions.{Refines, Labelled}
 use Rattle.indexed.specs.Passes.{relabelled}
 use Rattle.indexed.proofs.Keys.{relabelled-coarser, relabelled-refines, relabelled-joins}
 use Rattle.partition.specs.Forests.{Forest, rootsOf}
-use Rattle.partition.proofs.ForestLaws.{flat-roots, root-up, roots-at, roots-length}
-use Rattle.worklist.specs.Forks.{ForksReady, Kept, Closing, JoinedPair, JoinedAll, SettledForks, KeptClosed, TwoClosed}
+use Rattle.partition.proofs.ForestLaws.{flat-roots, roots-length}
+use Rattle.worklist.specs.Forks.{ForksReady, Kept, Closing, JoinedPair, SettledForks, KeptClosed, TwoClosed}
 use Rattle.worklist.proofs.SettleLaws.{One}
 use Rattle.worklist.proofs.ForkLaws.{closing-kept, closing-next, kept-closed}
 
@@ -123,112 +121,6 @@ round-ended n parents names numbers start above above′ links heads links′ he
 pub flat-coarser : (n : ℕ) (groups : List ℕ) → Labelled n groups → Refines n groups (rootsOf groups)
 flat-coarser n groups labelled x y hx hy e =
     subst (λ (l : List ℕ). One l x y) (sym (flat-roots n groups labelled)) e
-
--- ---- state after state of another partition
-
--- a label is a state
-pub label-inside : (n : ℕ) (joined : List ℕ) (v : ℕ) → Labelled n joined → v < n → getD joined v 0 < n
-label-inside n joined v labelled h =
-    let low : getD joined v 0 ≤ v = labelled .low v h in
-    omega arith
-
--- states before v joined with their labels in another partition
-pub record Joining
-    (n : ℕ) (names numbers joined above₀ above links₀ heads₀ links heads firsts₀ seconds₀ firsts seconds : List ℕ)
-    (tail end v : ℕ) : Type 0 where
-  pub forest : Forest n above
-  pub each : (x : ℕ) → x < n → x < v → One (rootsOf above) x (getD joined x 0)
-  pub closing :
-      (parents : List ℕ) →
-      Closing n parents names numbers joined (rootsOf above₀) links₀ heads₀ firsts₀ seconds₀ tail tail →
-      Closing n parents names numbers joined (rootsOf above) links heads firsts seconds tail end
-
-module _ (n : ℕ) (names numbers joined above₀ links₀ heads₀ firsts₀ seconds₀ : List ℕ) (tail : ℕ) where
-  -- none joined yet
-  pub joining-none :
-      Forest n above₀ →
-      Joining n names numbers joined above₀ above₀ links₀ heads₀ links₀ heads₀ firsts₀ seconds₀ firsts₀ seconds₀ tail tail 0
-  joining-none forest =
-      record {
-        forest = forest;
-        each = λ x h none. let z : ⊥ = omega arith in absurd z;
-        closing = λ parents closing. closing;
-      }
-
-  module _ (above links heads firsts seconds : List ℕ) (end v : ℕ) (labelled : Labelled n joined)
-      (so-far : Joining n names numbers joined above₀ above links₀ heads₀ links heads firsts₀ seconds₀ firsts seconds tail end v)
-    where
-      -- v stands right below its label already
-      pub joining-skipped :
-          v < n → getD above v 0 ≡ getD joined v 0 →
-          Joining n names numbers joined above₀ above links₀ heads₀ links heads firsts₀ seconds₀ firsts seconds tail end (v + 1)
-      joining-skipped inside same =
-          record {
-            forest = so-far .forest;
-            each = λ x h low. each x h low (eq-dec x v);
-            closing = so-far .closing;
-          }
-        where
-          here : One (rootsOf above) v (getD joined v 0)
-          here =
-              roots-at n above (so-far .forest) v inside ∙ root-up n above (so-far .forest) v inside
-              ∙ sym (roots-at n above (so-far .forest) (getD above v 0)
-              (subst (λ (x : ℕ). x < n) (sym same) (label-inside n joined v labelled inside)))
-              ∙ ap (λ (x : ℕ). getD (rootsOf above) x 0) same
-
-          each :
-              (x : ℕ) → x < n → x < v + 1 → (x ≡ v) ⊎ (x ≡ v → ⊥) → One (rootsOf above) x (getD joined x 0)
-          each x h low (inl e) = subst (λ (y : ℕ). One (rootsOf above) y (getD joined y 0)) (sym e) here
-          each x h low (inr d) = so-far .each x h (omega arith)
-
-      -- v and its label are joined
-      pub joining-more :
-          (above′ links′ heads′ firsts′ seconds′ : List ℕ) (w end′ : ℕ) → v < n → w ≡ getD joined v 0 →
-          JoinedPair (length above) names numbers above above′ links heads links′ heads′ firsts seconds firsts′ seconds′ v w end
-          end′ →
-          Joining n names numbers joined above₀ above′ links₀ heads₀ links′ heads′ firsts₀ seconds₀ firsts′ seconds′ tail end′
-          (v + 1)
-      joining-more above′ links′ heads′ firsts′ seconds′ w end′ inside label pair₀ =
-          go
-          (pair-by-states n names numbers above above′ links heads links′ heads′ firsts seconds firsts′ seconds′ v w end end′
-          (so-far .forest .size) pair₀)
-        where
-          go :
-              JoinedPair n names numbers above above′ links heads links′ heads′ firsts seconds firsts′ seconds′ v w end end′ →
-              Joining n names numbers joined above₀ above′ links₀ heads₀ links′ heads′ firsts₀ seconds₀ firsts′ seconds′ tail end′
-              (v + 1)
-          go pair =
-              record {
-                forest = pair .forest;
-                each = λ x h low. each x h low (eq-dec x v);
-                closing = λ parents before.
-                    pair .closing parents joined tail
-                    (λ closed by refines.
-                    subst (One closed v) (sym label)
-                    (refines v (getD joined v 0) inside (label-inside n joined v labelled inside) (sym (labelled .own v inside))))
-                    (so-far .closing parents before);
-              }
-            where
-              each :
-                  (x : ℕ) → x < n → x < v + 1 → (x ≡ v) ⊎ (x ≡ v → ⊥) → One (rootsOf above′) x (getD joined x 0)
-              each x h low (inl e) =
-                  subst (λ (y : ℕ). One (rootsOf above′) y (getD joined y 0)) (sym e)
-                  (subst (One (rootsOf above′) v) label (pair .one))
-              each x h low (inr d) =
-                  pair .coarser x (getD joined x 0) h (label-inside n joined x labelled h) (so-far .each x h (omega arith))
-
-      -- all states are joined with their labels
-      pub joining-all :
-          n ≤ v →
-          JoinedAll n names numbers joined above₀ above links₀ heads₀ links heads firsts₀ seconds₀ firsts seconds tail end
-      joining-all over =
-          record {
-            forest = so-far .forest;
-            coarser = λ x y hx hy e.
-                so-far .each x hx (omega arith) ∙ ap (λ (z : ℕ). getD (rootsOf above) z 0) e
-                ∙ sym (so-far .each y hy (omega arith));
-            closing = so-far .closing;
-          }
 
 -- ---- two states joined, and pair after pair of the queue
 

@@ -1,5 +1,5 @@
--- Forks closed again and again while groups are joined from outside, with lists of the tree's arcs by name that are kept in
--- between. The arcs are of one kind: from parents, by names, to the states' own numbers. Assumes nothing.
+-- Forks closed at the start, and again with each pair of states that is joined from outside, with lists of the tree's arcs by
+-- name that are kept in between. The arcs are of one kind: from parents, by names, to the states' own numbers. Assumes nothing.
 use mathlib.Core.Path.{_≡_}
 use mathlib.Core.List.{List}
 use Prim.Native.Nat.{ℕ, _+_, _<_, _≤_}
@@ -23,7 +23,7 @@ pub record ForksReady (n : ℕ) (parents names numbers : List ℕ) : Type 0 wher
 abbrev pub Nothing : List ℕ → Type 0
 Nothing others = Unit {0}
 
--- what is kept between two rounds: lists of a partition that is closed, and room in the queue for a pair for each arc in a list
+-- what is kept from pair to pair: lists of a partition that is closed, and room in the queue for a pair for each arc in a list
 pub record Kept (n : ℕ) (parents names numbers groups links heads firsts seconds : List ℕ) (tail : ℕ) : Type 0 where
   pub rows : List ℕ
   pub labelled : Labelled n groups
@@ -61,17 +61,6 @@ pub record JoinedPair
       getD closed v 0 ≡ getD closed w 0) →
       Closing n parents names numbers start (rootsOf above) links heads firsts seconds done tail →
       Closing n parents names numbers start (rootsOf above′) links′ heads′ firsts′ seconds′ done tail′
-
--- all joined that another partition joins, and what that queued is pending
-pub record JoinedAll
-    (n : ℕ) (names numbers joined above above′ links heads links′ heads′ firsts seconds firsts′ seconds′ : List ℕ)
-    (tail tail′ : ℕ) : Type 0 where
-  pub forest : Forest n above′
-  pub coarser : Refines n joined (rootsOf above′)
-  pub closing :
-      (parents : List ℕ) →
-      Closing n parents names numbers joined (rootsOf above) links heads firsts seconds tail tail →
-      Closing n parents names numbers joined (rootsOf above′) links′ heads′ firsts′ seconds′ tail tail′
 
 -- the pairs from `done` on joined up to `done′`
 pub record SettledForks
