@@ -53,12 +53,23 @@ module _ (n : ℕ) (parents names numbers : List ℕ) where
         queue = queue-grew firsts seconds firsts′ seconds′ 0 tail (filled .grew) queue;
       }
 
-  -- lists kept: nothing is pending, and the round's start is a coarser partition
-  closing-kept :
-      (joined groups links heads firsts seconds : List ℕ) (tail : ℕ) → ForksReady n parents names numbers →
-      Kept n parents names numbers groups links heads firsts seconds tail → Refines n groups joined →
-      Closing n parents names numbers joined groups links heads firsts seconds tail tail
-  closing-kept joined groups links heads firsts seconds tail ready kept coarser =
+  -- the same, as a forest
+  pub opening-filled :
+      (groups links heads firsts seconds firsts′ seconds′ : List ℕ) (tail : ℕ) → ForksReady n parents names numbers →
+      Labelled n groups → QueueRoom firsts seconds →
+      Filled n parents numbers names groups links heads firsts seconds firsts′ seconds′ 0 tail →
+      Closing n parents names numbers groups (rootsOf groups) links heads firsts′ seconds′ 0 tail
+  opening-filled groups links heads firsts seconds firsts′ seconds′ tail ready labelled queue filled =
+      subst (λ (labels : List ℕ). Closing n parents names numbers groups labels links heads firsts′ seconds′ 0 tail)
+      (sym (flat-roots n groups labelled))
+      (closing-filled groups links heads firsts seconds firsts′ seconds′ tail ready labelled queue filled)
+
+  -- lists kept: nothing is pending, and the start is a coarser partition
+  pub closing-kept :
+      (start groups links heads firsts seconds : List ℕ) (tail : ℕ) → ForksReady n parents names numbers →
+      Kept n parents names numbers groups links heads firsts seconds tail → Refines n groups start →
+      Closing n parents names numbers start groups links heads firsts seconds tail tail
+  closing-kept start groups links heads firsts seconds tail ready kept coarser =
       record {
         rows = kept .rows;
         ready = ready;
@@ -75,33 +86,6 @@ module _ (n : ℕ) (parents names numbers : List ℕ) where
         room = kept .room;
         queue = kept .queue;
       }
-
-  -- a partition by labels, as a forest
-  closing-flat :
-      (start groups links heads firsts seconds : List ℕ) (done tail : ℕ) →
-      Closing n parents names numbers start groups links heads firsts seconds done tail →
-      Closing n parents names numbers start (rootsOf groups) links heads firsts seconds done tail
-  closing-flat start groups links heads firsts seconds done tail closing =
-      subst (λ (labels : List ℕ). Closing n parents names numbers start labels links heads firsts seconds done tail)
-      (sym (flat-roots n groups (closing .labelled))) closing
-
-  -- both as a forest
-  pub opening-filled :
-      (groups links heads firsts seconds firsts′ seconds′ : List ℕ) (tail : ℕ) → ForksReady n parents names numbers →
-      Labelled n groups → QueueRoom firsts seconds →
-      Filled n parents numbers names groups links heads firsts seconds firsts′ seconds′ 0 tail →
-      Closing n parents names numbers groups (rootsOf groups) links heads firsts′ seconds′ 0 tail
-  opening-filled groups links heads firsts seconds firsts′ seconds′ tail ready labelled queue filled =
-      closing-flat groups groups links heads firsts′ seconds′ 0 tail
-      (closing-filled groups links heads firsts seconds firsts′ seconds′ tail ready labelled queue filled)
-
-  pub opening-kept :
-      (joined groups links heads firsts seconds : List ℕ) (tail : ℕ) → ForksReady n parents names numbers →
-      Kept n parents names numbers groups links heads firsts seconds tail → Refines n groups joined →
-      Closing n parents names numbers joined (rootsOf groups) links heads firsts seconds tail tail
-  opening-kept joined groups links heads firsts seconds tail ready kept coarser =
-      closing-flat joined groups links heads firsts seconds tail tail
-      (closing-kept joined groups links heads firsts seconds tail ready kept coarser)
 
   -- the lists, by a forest's own length, and the room left
   pub closing-sorted :

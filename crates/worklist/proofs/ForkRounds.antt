@@ -1,18 +1,18 @@
--- Laws of a round of closing forks: pair after pair of the queue joined, until none is left; and state after state of a coarser
--- partition joined with its label. Assumes nothing.
-use mathlib.Core.Path.{_≡_, sym, ap, _∙_, subst, subst₂}
-use mathlib.Core.Logic.{_⊎_, inl, inr}
+-- Laws of a round of closing forks: pair after pair of the queue joined, until none is left; and such a round after two states
+-- are joined. Assumes nothing.
+use mathlib.Core.Path.{_≡_, sym, _∙_, subst, subst₂}
 use mathlib.Core.List.{List}
-use Prim.Native.Nat.{ℕ, suc, _+_, _<_, _≤_}
+use Prim.Native.Nat.{ℕ, suc, _<_, _≤_}
 use native.Mathlib.Omega.{arith}
 use lib.ListN.{length, getD}
-use Rattle.model.proofs.Tests.{eq-dec}
 use Rattle.indexed.specs.Partitions.{Refines, Labelled}
+use Rattle.indexed.specs.Passes.{relabelled}
+use Rattle.indexed.proofs.Keys.{relabelled-coarser, relabelled-refines, relabelled-joins}
 use Rattle.partition.specs.Forests.{Forest, rootsOf}
-use Rattle.partition.proofs.ForestLaws.{flat-roots, root-up, roots-at}
-use Rattle.worklist.specs.Forks.{Closing, JoinedPair, JoinedAll, SettledForks, KeptClosed}
+use Rattle.partition.proofs.ForestLaws.{flat-roots, roots-length}
+use Rattle.worklist.specs.Forks.{ForksReady, Kept, Closing, JoinedPair, SettledForks, KeptClosed, TwoClosed}
 use Rattle.worklist.proofs.SettleLaws.{One}
-use Rattle.worklist.proofs.ForkLaws.{closing-next, kept-closed}
+use Rattle.worklist.proofs.ForkLaws.{closing-kept, closing-next, kept-closed}
 
 -- a pair joined, by the number of states
 pair-by-states :
@@ -122,108 +122,79 @@ pub flat-coarser : (n : ℕ) (groups : List ℕ) → Labelled n groups → Refin
 flat-coarser n groups labelled x y hx hy e =
     subst (λ (l : List ℕ). One l x y) (sym (flat-roots n groups labelled)) e
 
--- ---- state after state of another partition
+-- ---- two states joined, and pair after pair of the queue
 
--- a label is a state
-pub label-inside : (n : ℕ) (joined : List ℕ) (v : ℕ) → Labelled n joined → v < n → getD joined v 0 < n
-label-inside n joined v labelled h =
-    let low : getD joined v 0 ≤ v = labelled .low v h in
-    omega arith
+-- from the queue's start there is room too
+pub kept-from-start :
+    (n : ℕ) (parents names numbers groups links heads firsts seconds : List ℕ) (tail : ℕ) →
+    Kept n parents names numbers groups links heads firsts seconds tail →
+    Kept n parents names numbers groups links heads firsts seconds 0
+kept-from-start n parents names numbers groups links heads firsts seconds tail kept =
+    record {
+      rows = kept .rows;
+      labelled = kept .labelled;
+      kind = kept .kind;
+      room = omega (arith, kept .room);
+      queue = kept .queue;
+    }
 
--- states before v joined with their labels in another partition
-pub record Joining
-    (n : ℕ) (names numbers joined above₀ above links₀ heads₀ links heads firsts₀ seconds₀ firsts seconds : List ℕ)
-    (tail end v : ℕ) : Type 0 where
-  pub forest : Forest n above
-  pub each : (x : ℕ) → x < n → x < v → One (rootsOf above) x (getD joined x 0)
-  pub closing :
-      (parents : List ℕ) →
-      Closing n parents names numbers joined (rootsOf above₀) links₀ heads₀ firsts₀ seconds₀ tail tail →
-      Closing n parents names numbers joined (rootsOf above) links heads firsts seconds tail end
+-- the roots with the groups of two states one, where the round starts
+abbrev pub united : List ℕ → ℕ → ℕ → List ℕ
+united above v w = relabelled (getD (rootsOf above) v 0) (getD (rootsOf above) w 0) (rootsOf above)
 
-module _ (n : ℕ) (names numbers joined above₀ links₀ heads₀ firsts₀ seconds₀ : List ℕ) (tail : ℕ) where
-  -- none joined yet
-  pub joining-none :
-      Forest n above₀ →
-      Joining n names numbers joined above₀ above₀ links₀ heads₀ links₀ heads₀ firsts₀ seconds₀ firsts₀ seconds₀ tail tail 0
-  joining-none forest =
-      record {
-        forest = forest;
-        each = λ x h none. let z : ⊥ = omega arith in absurd z;
-        closing = λ parents closing. closing;
-      }
+module _ (n : ℕ) (parents names numbers above links heads firsts seconds : List ℕ) (v w : ℕ) (size : length above ≡ n)
+    (below-v : v < n) (below-w : w < n) (ready : ForksReady n parents names numbers)
+    (kept : Kept n parents names numbers (rootsOf above) links heads firsts seconds 0)
+    (above₁ links₁ heads₁ firsts₁ seconds₁ : List ℕ) (end : ℕ)
+    (pair : JoinedPair n names numbers above above₁ links heads links₁ heads₁ firsts seconds firsts₁ seconds₁ v w 0 end) where
+  sizes : length (rootsOf above) ≡ n
+  sizes = roots-length above ∙ size
 
-  module _ (above links heads firsts seconds : List ℕ) (end v : ℕ) (labelled : Labelled n joined)
-      (so-far : Joining n names numbers joined above₀ above links₀ heads₀ links heads firsts₀ seconds₀ firsts seconds tail end v)
+  -- every partition that is coarser than the roots and joins both is coarser than it
+  united-refines : (others : List ℕ) → One others v w → Refines n (rootsOf above) others → Refines n (united above v w) others
+  united-refines others one refines = relabelled-refines n v w (rootsOf above) others sizes below-v below-w refines one
+
+  -- what joining them queued is pending
+  pub closing-two : Closing n parents names numbers (united above v w) (rootsOf above₁) links₁ heads₁ firsts₁ seconds₁ 0 end
+  closing-two =
+      pair .closing parents (united above v w) 0
+      (λ closed by refines. refines v w below-v below-w (relabelled-joins n v w (rootsOf above) sizes below-v below-w))
+      (closing-kept n parents names numbers (united above v w) (rootsOf above) links heads firsts seconds 0 ready kept
+      (relabelled-coarser n (getD (rootsOf above) v 0) (getD (rootsOf above) w 0) (rootsOf above) sizes))
+
+  -- all of it joined
+  pub two-closed :
+      (above₂ links₂ heads₂ firsts₂ seconds₂ : List ℕ) (tail : ℕ) →
+      SettledForks (length above₁) names numbers above₁ above₂ links₁ heads₁ links₂ heads₂ firsts₁ seconds₁ firsts₂ seconds₂ 0 end
+      tail tail →
+      TwoClosed n parents names numbers v w above above₂ links₂ heads₂ firsts₂ seconds₂
+  two-closed above₂ links₂ heads₂ firsts₂ seconds₂ tail settled₀ =
+      go
+      (subst
+      (λ (m : ℕ).
+      SettledForks m names numbers above₁ above₂ links₁ heads₁ links₂ heads₂ firsts₁ seconds₁ firsts₂ seconds₂ 0 end tail tail)
+      (pair .forest .size) settled₀)
     where
-      -- v stands right below its label already
-      pub joining-skipped :
-          v < n → getD above v 0 ≡ getD joined v 0 →
-          Joining n names numbers joined above₀ above links₀ heads₀ links heads firsts₀ seconds₀ firsts seconds tail end (v + 1)
-      joining-skipped inside same =
+      go :
+          SettledForks n names numbers above₁ above₂ links₁ heads₁ links₂ heads₂ firsts₁ seconds₁ firsts₂ seconds₂ 0 end tail
+          tail →
+          TwoClosed n parents names numbers v w above above₂ links₂ heads₂ firsts₂ seconds₂
+      go settled =
+          let coarser : Refines n (rootsOf above) (rootsOf above₂) =
+          λ x y hx hy e. settled .coarser x y hx hy (pair .coarser x y hx hy e) in
+          let one : One (rootsOf above₂) v w = settled .coarser v w below-v below-w (pair .one) in
+          let round : KeptClosed n parents names numbers (united above v w) (rootsOf above₂) links₂ heads₂ firsts₂ seconds₂ tail =
+          kept-closed n parents names numbers (united above v w) (rootsOf above₂) links₂ heads₂ firsts₂ seconds₂ tail
+          (united-refines (rootsOf above₂) one coarser) (settled .closing parents (united above v w) closing-two) in
           record {
-            forest = so-far .forest;
-            each = λ x h low. each x h low (eq-dec x v);
-            closing = so-far .closing;
-          }
-        where
-          here : One (rootsOf above) v (getD joined v 0)
-          here =
-              roots-at n above (so-far .forest) v inside ∙ root-up n above (so-far .forest) v inside
-              ∙ sym (roots-at n above (so-far .forest) (getD above v 0)
-              (subst (λ (x : ℕ). x < n) (sym same) (label-inside n joined v labelled inside)))
-              ∙ ap (λ (x : ℕ). getD (rootsOf above) x 0) same
-
-          each :
-              (x : ℕ) → x < n → x < v + 1 → (x ≡ v) ⊎ (x ≡ v → ⊥) → One (rootsOf above) x (getD joined x 0)
-          each x h low (inl e) = subst (λ (y : ℕ). One (rootsOf above) y (getD joined y 0)) (sym e) here
-          each x h low (inr d) = so-far .each x h (omega arith)
-
-      -- v and its label are joined
-      pub joining-more :
-          (above′ links′ heads′ firsts′ seconds′ : List ℕ) (w end′ : ℕ) → v < n → w ≡ getD joined v 0 →
-          JoinedPair (length above) names numbers above above′ links heads links′ heads′ firsts seconds firsts′ seconds′ v w end
-          end′ →
-          Joining n names numbers joined above₀ above′ links₀ heads₀ links′ heads′ firsts₀ seconds₀ firsts′ seconds′ tail end′
-          (v + 1)
-      joining-more above′ links′ heads′ firsts′ seconds′ w end′ inside label pair₀ =
-          go
-          (pair-by-states n names numbers above above′ links heads links′ heads′ firsts seconds firsts′ seconds′ v w end end′
-          (so-far .forest .size) pair₀)
-        where
-          go :
-              JoinedPair n names numbers above above′ links heads links′ heads′ firsts seconds firsts′ seconds′ v w end end′ →
-              Joining n names numbers joined above₀ above′ links₀ heads₀ links′ heads′ firsts₀ seconds₀ firsts′ seconds′ tail end′
-              (v + 1)
-          go pair =
-              record {
-                forest = pair .forest;
-                each = λ x h low. each x h low (eq-dec x v);
-                closing = λ parents before.
-                    pair .closing parents joined tail
-                    (λ closed by refines.
-                    subst (One closed v) (sym label)
-                    (refines v (getD joined v 0) inside (label-inside n joined v labelled inside) (sym (labelled .own v inside))))
-                    (so-far .closing parents before);
-              }
-            where
-              each :
-                  (x : ℕ) → x < n → x < v + 1 → (x ≡ v) ⊎ (x ≡ v → ⊥) → One (rootsOf above′) x (getD joined x 0)
-              each x h low (inl e) =
-                  subst (λ (y : ℕ). One (rootsOf above′) y (getD joined y 0)) (sym e)
-                  (subst (One (rootsOf above′) v) label (pair .one))
-              each x h low (inr d) =
-                  pair .coarser x (getD joined x 0) h (label-inside n joined x labelled h) (so-far .each x h (omega arith))
-
-      -- all states are joined with their labels
-      pub joining-all :
-          n ≤ v →
-          JoinedAll n names numbers joined above₀ above links₀ heads₀ links heads firsts₀ seconds₀ firsts seconds tail end
-      joining-all over =
-          record {
-            forest = so-far .forest;
-            coarser = λ x y hx hy e.
-                so-far .each x hx (omega arith) ∙ ap (λ (z : ℕ). getD (rootsOf above) z 0) e
-                ∙ sym (so-far .each y hy (omega arith));
-            closing = so-far .closing;
+            forest = settled .forest;
+            until =
+                record {
+                  labelled = round .until .labelled;
+                  coarser = coarser;
+                  sound = λ others by refines. round .until .sound others (by .0) (united-refines others (by .1) refines);
+                  closed = (round .until .closed, one);
+                };
+            kept =
+                kept-from-start n parents names numbers (rootsOf above₂) links₂ heads₂ firsts₂ seconds₂ tail (round .kept);
           }

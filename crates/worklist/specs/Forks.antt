@@ -1,5 +1,5 @@
--- Forks closed again and again while groups are joined from outside, with lists of the tree's arcs by name that are kept in
--- between. The arcs are of one kind: from parents, by names, to the states' own numbers. Assumes nothing.
+-- Forks closed at the start, and again with each pair of states that is joined from outside, with lists of the tree's arcs by
+-- name that are kept in between. The arcs are of one kind: from parents, by names, to the states' own numbers. Assumes nothing.
 use mathlib.Core.Path.{_≡_}
 use mathlib.Core.List.{List}
 use Prim.Native.Nat.{ℕ, _+_, _<_, _≤_}
@@ -23,7 +23,7 @@ pub record ForksReady (n : ℕ) (parents names numbers : List ℕ) : Type 0 wher
 abbrev pub Nothing : List ℕ → Type 0
 Nothing others = Unit {0}
 
--- what is kept between two rounds: lists of a partition that is closed, and room in the queue for a pair for each arc in a list
+-- what is kept from pair to pair: lists of a partition that is closed, and room in the queue for a pair for each arc in a list
 pub record Kept (n : ℕ) (parents names numbers groups links heads firsts seconds : List ℕ) (tail : ℕ) : Type 0 where
   pub rows : List ℕ
   pub labelled : Labelled n groups
@@ -62,17 +62,6 @@ pub record JoinedPair
       Closing n parents names numbers start (rootsOf above) links heads firsts seconds done tail →
       Closing n parents names numbers start (rootsOf above′) links′ heads′ firsts′ seconds′ done tail′
 
--- all joined that another partition joins, and what that queued is pending
-pub record JoinedAll
-    (n : ℕ) (names numbers joined above above′ links heads links′ heads′ firsts seconds firsts′ seconds′ : List ℕ)
-    (tail tail′ : ℕ) : Type 0 where
-  pub forest : Forest n above′
-  pub coarser : Refines n joined (rootsOf above′)
-  pub closing :
-      (parents : List ℕ) →
-      Closing n parents names numbers joined (rootsOf above) links heads firsts seconds tail tail →
-      Closing n parents names numbers joined (rootsOf above′) links′ heads′ firsts′ seconds′ tail tail′
-
 -- the pairs from `done` on joined up to `done′`
 pub record SettledForks
     (n : ℕ) (names numbers above above′ links heads links′ heads′ firsts seconds firsts′ seconds′ : List ℕ)
@@ -89,3 +78,12 @@ pub record KeptClosed
     (n : ℕ) (parents names numbers start groups′ links′ heads′ firsts′ seconds′ : List ℕ) (tail′ : ℕ) : Type 0 where
   pub until : JoinedUntil (KeyClosed n parents numbers names) n start groups′
   pub kept : Kept n parents names numbers groups′ links′ heads′ firsts′ seconds′ tail′
+
+-- two states joined and forks closed again: nothing else is joined, and the lists are kept
+pub record TwoClosed
+    (n : ℕ) (parents names numbers : List ℕ) (v w : ℕ) (above above′ links′ heads′ firsts′ seconds′ : List ℕ) : Type 0 where
+  pub forest : Forest n above′
+  pub until :
+      JoinedUntil (λ (others : List ℕ). KeyClosed n parents numbers names others × (getD others v 0 ≡ getD others w 0)) n
+      (rootsOf above) (rootsOf above′)
+  pub kept : Kept n parents names numbers (rootsOf above′) links′ heads′ firsts′ seconds′ 0
