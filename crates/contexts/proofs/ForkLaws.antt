@@ -1,19 +1,21 @@
--- Laws of forks joined: what is closed along the arcs by the states' own numbers has no forks; and a coarser partition has no
--- greater sum. Assumes nothing.
+-- Laws of forks joined: what is closed along the arcs by the states' own numbers has no forks; and where a coarser partition has made
+-- two groups one its sum is lower. Assumes nothing.
 use mathlib.Core.Path.{_≡_, sym, _∙_, subst}
+use mathlib.Core.Logic.{⊎-elim}
 use mathlib.Core.List.{List, [], _∷_}
-use Prim.Native.Nat.{ℕ, suc, _<_, _≤_}
+use Prim.Native.Nat.{ℕ, zero, suc, _<_, _≤_}
 use native.Mathlib.Omega.{arith}
-use lib.ListN.{length, getD, replicate, length-replicate}
+use lib.ListN.{length, getD}
 use Rattle.model.specs.Lists.{numbersFrom}
+use Rattle.model.proofs.Tests.{eq-dec}
 use Rattle.indexed.specs.Trees.{Arrays}
 use Rattle.indexed.specs.Partitions.{Refines, Labelled, KeyClosed, ForkClosed, sum}
 use Rattle.indexed.proofs.Keys.{forks-keys, keys-forks}
-use Rattle.indexed.proofs.Chains.{heads-none}
 use Rattle.indexed.proofs.Suffixes.{parent-below}
-use Rattle.worklist.specs.Settling.{JoinedUntil, NoLists, QueueRoom}
-use Rattle.worklist.specs.Forks.{ForksReady, Kept, KeptClosed}
-use Rattle.contexts.specs.Rounds.{ForksJoined, ForksKept}
+use Rattle.worklist.specs.Settling.{JoinedUntil}
+use Rattle.worklist.specs.Forks.{ForksReady, Nothing, Kept}
+use Rattle.worklist.proofs.KindLaws.{kind-closed}
+use Rattle.contexts.specs.Rounds.{ForksJoined}
 
 -- numbers that are each no higher have no higher sum
 sum-low :
@@ -25,43 +27,48 @@ sum-low (x ∷ xs) (y ∷ ys) size low =
     let rest : sum xs ≤ sum ys = sum-low xs ys (omega arith) (λ v h. low (suc v) (omega arith)) in
     omega (arith, low 0 (omega arith))
 
--- the labels of a coarser partition are no higher, for a label is the first state of its group
-pub coarser-sum :
-    (n : ℕ) (groups groups′ : List ℕ) → Labelled n groups → Labelled n groups′ → Refines n groups groups′ →
-    sum groups′ ≤ sum groups
-coarser-sum n groups groups′ labelled labelled′ coarser =
-    sum-low groups′ groups (labelled′ .size ∙ sym (labelled .size)) low-at
-  where
-    low-at : (v : ℕ) → v < length groups → getD groups′ v 0 ≤ getD groups v 0
-    low-at v h =
-        let hv : v < n = omega (arith, labelled .size) in
-        let hg : getD groups v 0 < n = omega (arith, labelled .low v hv) in
-        let same : getD groups′ (getD groups v 0) 0 ≡ getD groups′ v 0 =
-        coarser (getD groups v 0) v hg hv (labelled .own v hv) in
-        omega (arith, labelled′ .low (getD groups v 0) hg)
+-- and a lower sum where one of them is lower
+sum-less :
+    (xs ys : List ℕ) → length xs ≡ length ys → ((v : ℕ) → v < length ys → getD xs v 0 ≤ getD ys v 0) → (u : ℕ) → u < length ys →
+    getD xs u 0 < getD ys u 0 → sum xs < sum ys
+unfolding sum
+sum-less [] ys size low u hu less = let z : ⊥ = omega arith in absurd z
+sum-less (x ∷ xs) [] size low u hu less = let z : ⊥ = omega arith in absurd z
+sum-less (x ∷ xs) (y ∷ ys) size low zero hu less =
+    let rest : sum xs ≤ sum ys = sum-low xs ys (omega arith) (λ v h. low (suc v) (omega arith)) in
+    omega arith
+sum-less (x ∷ xs) (y ∷ ys) size low (suc u) hu less =
+    let rest : sum xs < sum ys = sum-less xs ys (omega arith) (λ v h. low (suc v) (omega arith)) u (omega arith) less in
+    omega (arith, low 0 (omega arith))
 
--- and where two groups have become one the sum is lower
+-- the labels of a coarser partition are no higher, for a label is the first state of its group
+label-low :
+    (n : ℕ) (groups groups′ : List ℕ) → Labelled n groups → Labelled n groups′ → Refines n groups groups′ → (v : ℕ) → v < n →
+    getD groups′ v 0 ≤ getD groups v 0
+label-low n groups groups′ labelled labelled′ coarser v hv =
+    let hg : getD groups v 0 < n = omega (arith, labelled .low v hv) in
+    let same : getD groups′ (getD groups v 0) 0 ≡ getD groups′ v 0 = coarser (getD groups v 0) v hg hv (labelled .own v hv) in
+    omega (arith, labelled′ .low (getD groups v 0) hg)
+
+
+-- so where two groups have become one the sum is lower
 pub coarser-less :
     (n : ℕ) (groups groups′ : List ℕ) → Labelled n groups → Labelled n groups′ → Refines n groups groups′ → (x y : ℕ) → x < n →
     y < n → (getD groups x 0 ≡ getD groups y 0 → ⊥) → getD groups′ x 0 ≡ getD groups′ y 0 → sum groups′ < sum groups
-coarser-less n groups groups′ labelled labelled′ coarser x y hx hy apart one = ?
+coarser-less n groups groups′ labelled labelled′ coarser x y hx hy apart one =
+    ⊎-elim (λ same-x. less y hy (lower y hy (λ same-y. apart (sym same-x ∙ one ∙ same-y)))) (λ other-x. less x hx (lower x hx other-x))
+    (eq-dec (getD groups′ x 0) (getD groups x 0))
+  where
+    low : (v : ℕ) → v < n → getD groups′ v 0 ≤ getD groups v 0
+    low = label-low n groups groups′ labelled labelled′ coarser
 
--- arrays of zeros are lists without arcs
-pub no-lists : NoLists (replicate 512 0) (replicate 512 0)
-no-lists =
-    record {
-      links-size = length-replicate {A = ℕ} 512 0;
-      heads-size = length-replicate {A = ℕ} 512 0;
-      empty = heads-none 512;
-    }
+    lower : (v : ℕ) → v < n → (getD groups′ v 0 ≡ getD groups v 0 → ⊥) → getD groups′ v 0 < getD groups v 0
+    lower v hv other = omega (arith, low v hv)
 
--- and a queue with room for all pairs
-pub no-pairs : QueueRoom (replicate 1536 0) (replicate 1536 0)
-no-pairs = record { firsts-size = length-replicate {A = ℕ} 1536 0; seconds-size = length-replicate {A = ℕ} 1536 0 }
-
--- what is coarser than a partition is coarser than its copy
-pub copied-coarser : (n : ℕ) (kept groups groups′ : List ℕ) → kept ≡ groups → Refines n groups groups′ → Refines n kept groups′
-copied-coarser n kept groups groups′ same coarser = subst (λ (l : List ℕ). Refines n l groups′) (sym same) coarser
+    less : (v : ℕ) → v < n → getD groups′ v 0 < getD groups v 0 → sum groups′ < sum groups
+    less v hv strict =
+        sum-less groups′ groups (labelled′ .size ∙ sym (labelled .size)) (λ u hu. low u (omega (arith, labelled .size))) v
+        (omega (arith, labelled .size)) strict
 
 module _ (n : ℕ) (parents names numbers : List ℕ) (arrays : Arrays n parents names) (own : numbers ≡ numbersFrom n 0) where
   -- what closing forks needs
@@ -81,7 +88,7 @@ module _ (n : ℕ) (parents names numbers : List ℕ) (arrays : Arrays n parents
       subst (λ (l : List ℕ). KeyClosed n parents l names others) (sym own) (forks-keys n parents names others arrays closed)
 
   -- what is joined until closed is forks joined
-  forks-joined :
+  pub forks-joined :
       (groups groups′ : List ℕ) → Labelled n groups → JoinedUntil (KeyClosed n parents numbers names) n groups groups′ →
       ForksJoined n parents names groups groups′
   forks-joined groups groups′ labelled joined =
@@ -92,28 +99,15 @@ module _ (n : ℕ) (parents names numbers : List ℕ) (arrays : Arrays n parents
         closed =
             keys-forks n parents names groups′ arrays
             (subst (λ (l : List ℕ). KeyClosed n parents l names groups′) own (joined .closed));
-        fewer = coarser-sum n groups groups′ labelled (joined .labelled) (joined .coarser);
       }
 
-  -- the same with the lists, whether the closed partition was copied or is the copy; the queue is used from its beginning again
-  pub forks-kept :
-      (groups closed kept′ groups′ links′ heads′ firsts′ seconds′ : List ℕ) (tail : ℕ) → Labelled n groups →
-      KeptClosed n parents names numbers groups closed links′ heads′ firsts′ seconds′ tail → kept′ ≡ closed → groups′ ≡ closed →
-      ForksKept n parents names numbers groups kept′ groups′ links′ heads′ firsts′ seconds′
-  forks-kept groups closed kept′ groups′ links′ heads′ firsts′ seconds′ tail labelled done kept-is groups-is =
-      let lists = done .kept in
-      record {
-        joined =
-            subst (λ (l : List ℕ). ForksJoined n parents names groups l) (sym groups-is)
-            (forks-joined groups closed labelled (done .until));
-        copied = kept-is ∙ sym groups-is;
-        lists =
-            subst (λ (l : List ℕ). Kept n parents names numbers l links′ heads′ firsts′ seconds′ 0) (sym kept-is)
-            (record {
-              rows = lists .rows;
-              labelled = lists .labelled;
-              kind = lists .kind;
-              room = omega (arith, lists .room);
-              queue = lists .queue;
-            });
-      }
+  -- kept lists are of a partition without forks
+  pub kept-forks :
+      (groups links heads firsts seconds : List ℕ) (tail : ℕ) →
+      Kept n parents names numbers groups links heads firsts seconds tail → ForkClosed n parents names groups
+  kept-forks groups links heads firsts seconds tail kept =
+      keys-forks n parents names groups arrays
+      (subst (λ (l : List ℕ). KeyClosed n parents l names groups) own
+      (kind-closed n parents numbers names groups (kept .rows) links heads Nothing tt
+      (λ v h. omega (arith, kept .labelled .low (getD parents v 0) (parent-below n parents names arrays v h),
+      parent-below n parents names arrays v h, arrays .few-states)) (kept .kind)))

@@ -6,8 +6,7 @@ use Prim.Native.Nat.{ℕ, _+_, _<_, _≤_}
 use Rattle.model.specs.Limits.{setting-limit}
 use Rattle.model.specs.Lists.{numbersFrom}
 use Rattle.indexed.specs.Trees.{Arrays}
-use Rattle.indexed.specs.Partitions.{Refines, Labelled, ForkClosed, ContextClosed, sum}
-use Rattle.worklist.specs.Forks.{Kept}
+use Rattle.indexed.specs.Partitions.{Refines, Labelled, ForkClosed, ContextClosed}
 use Rattle.contexts.specs.Distances.{Tested}
 
 -- every partition that is closed under forks and the context rule joins as much
@@ -21,13 +20,6 @@ pub record ForksJoined (n : ℕ) (parents names groups groups′ : List ℕ) : T
   pub coarser : Refines n groups groups′
   pub sound : (others : List ℕ) → ForkClosed n parents names others → Refines n groups others → Refines n groups′ others
   pub closed : ForkClosed n parents names groups′
-  pub fewer : sum groups′ ≤ sum groups
-
--- the same, with the lists of arcs for the next time, and a copy of the partition that they are of
-pub record ForksKept (n : ℕ) (parents names numbers groups kept′ groups′ links′ heads′ firsts′ seconds′ : List ℕ) : Type 0 where
-  pub joined : ForksJoined n parents names groups groups′
-  pub copied : kept′ ≡ groups′
-  pub lists : Kept n parents names numbers kept′ links′ heads′ firsts′ seconds′ 0
 
 -- what the rounds of the context rule start from: contexts of two names and more are left to them, and what the tree itself tells
 -- is joined already

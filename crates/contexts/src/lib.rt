@@ -2,17 +2,17 @@
 // in common are in one group, and no group has arcs of one name to two groups.
 pub mod ahead;
 pub mod distances;
-pub mod forks;
 pub mod joins;
 pub mod stubs;
 pub mod pairs;
 
 use cells::numbers::wide16;
+use joins::sweep;
 use partition::forest;
+use worklist::forks::start;
 ghost use mathlib.Core.Path.{_≡_};
 ghost use Prim.Native.Nat.{_+_, _<_, _≤_};
 ghost use lib.ListN.{length};
-ghost use Rattle.cells.specs.Cells.{work-bytes};
 ghost use Rattle.model.specs.Limits.{setting-limit, state-limit};
 ghost use Rattle.model.specs.Lists.{numbersFrom};
 ghost use Rattle.indexed.specs.Trees.{Arrays};
@@ -105,9 +105,9 @@ fn climb_starts(m: usize, parents: &[u16], groups: &mut [u16])
     forest::flatten(groups);
 }
 
-// Rounds of forks and a sweep, until a sweep joins nothing. The first round fills the lists of arcs for the forks, each other one
-// goes on with them. The sweep takes classes by one name more than h: that of an arc. The first sweep compares what has grown
-// since every state was by itself, in `before`, each other what has grown since the last.
+// Sweeps until one joins nothing. Forks are closed and the lists of arcs filled at first, and the sweeps keep them so. They take
+// classes by one name more than h: that of an arc. The first sweep compares what has grown since every state was by itself, in
+// `before`, each other what has grown since the last.
 fn close_contexts(
     h: usize,
     m: usize,
@@ -115,56 +115,45 @@ fn close_contexts(
     names: &[u8],
     numbers: &[u16],
     before: &mut [u16],
-    kept: &mut [u16],
     groups: &mut [u16],
     links: &mut [u16; 512],
     heads: &mut [u16; 512],
     firsts: &mut [u16; 1536],
     seconds: &mut [u16; 1536],
-    work: &mut [u8],
 )
     requires ready { ⌜ RoundReady (length (now groups)) h m (now parents) (now names) (now groups) ⌝ }
     requires own_numbers { ⌜ now numbers ≡ numbersFrom (length (now groups)) 0 ⌝ }
     requires own_before { ⌜ now before ≡ numbersFrom (length (now groups)) 0 ⌝ }
-    requires kept_size { ⌜ length (now kept) ≡ length (now groups) ⌝ }
     requires empty { ⌜ NoLists (now links) (now heads) ⌝ }
     requires queue { ⌜ QueueRoom (now firsts) (now seconds) ⌝ }
-    requires room { ⌜ work-bytes ≤ length (now work) ⌝ }
     ensures { λ _.
         ⌜ ContextJoined (length (now (groups .entry))) (h + m) h (now (parents .entry)) (now (names .entry)) (now (groups .exit)) ⌝ }
 {
     let n = groups.len();
     let mut classes = [0u16; STATE_LIMIT];
     suffixes::suffix_classes(h + 1, parents, names, &mut classes[..n]);
-    forks::close_first(
-        parents,
-        names,
-        numbers,
-        kept,
-        groups,
-        links,
-        heads,
-        firsts,
-        seconds,
-    );
-    let mut joined = pairs::sweep(m, parents, names, &classes[..n], before, groups, work);
+    start(parents, names, numbers, groups, links, heads, firsts, seconds);
+    let mut joined = true;
     while joined {
-        forks::close_again(names, numbers, kept, groups, links, heads, firsts, seconds);
-        joined = pairs::sweep(m, parents, names, &classes[..n], before, groups, work);
+        joined = sweep(
+            m,
+            parents,
+            names,
+            numbers,
+            &classes[..n],
+            before,
+            groups,
+            links,
+            heads,
+            firsts,
+            seconds,
+        );
     }
 }
 
-// The rounds, with the states' own numbers, and with lists and a queue that are empty at first.
-fn run_rounds(
-    h: usize,
-    m: usize,
-    parents: &[u16],
-    names: &[u8],
-    groups: &mut [u16],
-    work: &mut [u8],
-)
+// The sweeps, with the states' own numbers, and with lists and a queue that are empty at first.
+fn run_rounds(h: usize, m: usize, parents: &[u16], names: &[u8], groups: &mut [u16])
     requires ready { ⌜ RoundReady (length (now groups)) h m (now parents) (now names) (now groups) ⌝ }
-    requires room { ⌜ work-bytes ≤ length (now work) ⌝ }
     ensures { λ _.
         ⌜ ContextJoined (length (now (groups .entry))) (h + m) h (now (parents .entry)) (now (names .entry)) (now (groups .exit)) ⌝ }
 {
@@ -173,7 +162,6 @@ fn run_rounds(
     partition::own(&mut numbers[..n]);
     let mut before = [0u16; STATE_LIMIT];
     partition::own(&mut before[..n]);
-    let mut kept = [0u16; STATE_LIMIT];
     let mut links = [0u16; 512];
     let mut heads = [0u16; 512];
     let mut firsts = [0u16; 1536];
@@ -185,31 +173,20 @@ fn run_rounds(
         names,
         &numbers[..n],
         &mut before[..n],
-        &mut kept[..n],
         groups,
         &mut links,
         &mut heads,
         &mut firsts,
         &mut seconds,
-        work,
     );
 }
 
-// Joins by the context rule until it applies no more: not at all where no two states have the same last k names. What the lent
-// area holds at first is all the same.
-pub fn join_by_context(
-    k: usize,
-    h: usize,
-    parents: &[u16],
-    names: &[u8],
-    groups: &mut [u16],
-    work: &mut [u8],
-)
+// Joins by the context rule until it applies no more: not at all where no two states have the same last k names.
+pub fn join_by_context(k: usize, h: usize, parents: &[u16], names: &[u8], groups: &mut [u16])
     requires arrays { ⌜ Arrays (length (now groups)) (now parents) (now names) ⌝ }
     requires some { ⌜ 0 < h ⌝ }
     requires within { ⌜ h ≤ k ⌝ }
     requires limit { ⌜ k ≤ setting-limit ⌝ }
-    requires room { ⌜ work-bytes ≤ length (now work) ⌝ }
     ensures { λ _. ⌜ ContextJoined (length (now (groups .entry))) k h (now (parents .entry)) (now (names .entry)) (now (groups .exit)) ⌝ }
 {
     let joined = suffixes::by_suffix(k, parents, names, groups);
@@ -224,5 +201,5 @@ pub fn join_by_context(
     if m == 1 {
         return;
     }
-    run_rounds(h, m, parents, names, groups, work);
+    run_rounds(h, m, parents, names, groups);
 }

@@ -17,15 +17,14 @@ use Rattle.indexed.specs.Partitions.{Refines, Labelled, ForkClosed, Cont
 unfoldable pub relabelled : ℕ → ℕ → List ℕ → List ℕ
 relabelled x y groups = map (λ (g : ℕ). cond (eqb g y) x g) groups
 
--- a sweep over pairs of groups that m names leave in common
+-- a sweep over pairs of groups that m names leave in common, of a partition without forks
 pub record Swept (n h m : ℕ) (parents names groups groups′ : List ℕ) (joined : Bool) : Type 0 where
   pub labelled : Labelled n groups′
   pub coarser : Refines n groups groups′
   pub sound :
-      (others : List ℕ) → ContextClosed n h m parents names others → Refines n groups others → Refines n groups′ others
-  pub none :
-      joined ≡ false → ForkClosed n parents names groups →
-      (groups′ ≡ groups) × ContextClosed n h m parents names groups
+      (others : List ℕ) → ForkClosed n parents names others → ContextClosed n h m parents names others →
+      Refines n groups others → Refines n groups′ others
+  pub none : joined ≡ false → (groups′ ≡ groups) × ContextClosed n h m parents names groups
   pub some : joined ≡ true → sum groups′ < sum groups
 
 -- suffix classes: states with the same last i names have the same class, the first such state; 512 for states with fewer
