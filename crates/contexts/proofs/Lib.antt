@@ -1,7 +1,6 @@
 -- Why climbing and the sweeps give what the context rule asks for. Assumes nothing.
 pub mod AheadLaws
 pub mod ClimbLaws
-pub mod CommonLaws
 pub mod DistanceLaws
 pub mod FarLaws
 pub mod ForkLaws

@@ -8,20 +8,17 @@
 use crate::STATE_LIMIT;
 use crate::ahead::names_ahead;
 use crate::distances::distances;
-use cells::cell;
 use cells::numbers::narrow16;
 use cells::numbers::wide8;
 use cells::numbers::wide16;
 ghost use mathlib.Core.Path.{_≡_};
-ghost use mathlib.Core.Bool.{true};
-ghost use mathlib.Core.Logic.{_↔_};
 ghost use Prim.Native.Nat.{ℕ, _+_, _<_, _≤_};
 ghost use lib.ListN.{length, getD};
 ghost use Rattle.cells.specs.Cells.{work-bytes};
 ghost use Rattle.indexed.specs.Trees.{Arrays};
 ghost use Rattle.indexed.specs.Partitions.{Labelled};
 ghost use Rattle.model.specs.Limits.{setting-limit, state-limit};
-ghost use Rattle.contexts.specs.Sweeps.{Sizes, Placed, ArcsLinked, waiting, Settled, FarLinked, Targets, Common};
+ghost use Rattle.contexts.specs.Sweeps.{Sizes, Placed, ArcsLinked, waiting, Settled, FarLinked};
 ghost use Rattle.contexts.specs.Ahead.{Telling};
 ghost use Rattle.contexts.specs.Sweeps.{ArcInside, Comparing, PairJoined, ChainJoined, PairsJoined, SweptBy};
 
@@ -66,8 +63,8 @@ fn place_arc(
     heads[class] = narrow16(v + 1);
 }
 
-// One arc more, linked where it is the first of its name out of its group: its name goes into the group's set, the group that it
-// leads to into a cell, and the arc into the chain of its class.
+// One arc more, linked where it is the first of its name out of its group: its name goes into the group's set, and the arc into
+// the chain of its class.
 fn link_arc(
     j: usize,
     v: usize,
@@ -79,18 +76,17 @@ fn link_arc(
     next: &mut [u64],
     links: &mut [u16],
     heads: &mut [u16],
-    work: &mut [u8],
 )
     requires arrays { ⌜ Arrays (length (now old)) (now parents) (now names) ⌝ }
     requires labelled { ⌜ Labelled (length (now old)) (now old) ⌝ }
     requires no_root { ⌜ 0 < v ⌝ }
     requires inside { ⌜ v < length (now old) ⌝ }
-    requires sizes { ⌜ Sizes (length (now old)) (now classes) (now next) (now links) (now heads) (now work) ⌝ }
+    requires sizes { ⌜ Sizes (length (now old)) (now classes) (now next) (now links) (now heads) ⌝ }
     requires so_far { ⌜ ArcsLinked v j (now parents) (now names) (now classes) (now old) (now dist) (now next)
-        (now links) (now heads) (now work) ⌝ }
+        (now links) (now heads) ⌝ }
     ensures { λ _.
         ⌜ ArcsLinked (v + 1) j (now (parents .entry)) (now (names .entry)) (now (classes .entry)) (now (old .entry))
-        (now (dist .entry)) (now (next .exit)) (now (links .exit)) (now (heads .exit)) (now (work .exit)) ⌝ }
+        (now (dist .entry)) (now (next .exit)) (now (links .exit)) (now (heads .exit)) ⌝ }
 {
     let from = suffixes::class_above(old, parents, v);
     let name = names[v];
@@ -100,12 +96,10 @@ fn link_arc(
         return;
     }
     next[from] = all;
-    cells::set_cell(work, from, wide8(name), wide16(old[v]));
     place_arc(j, v, classes, old, dist, links, heads);
 }
 
-// The set of names that lead out of each group, in `next`, the groups that they lead to, in the cells, and the chains of near
-// arcs.
+// The set of names that lead out of each group, in `next`, and the chains of near arcs.
 fn link_arcs(
     j: usize,
     parents: &[u16],
@@ -116,32 +110,19 @@ fn link_arcs(
     next: &mut [u64],
     links: &mut [u16],
     heads: &mut [u16],
-    work: &mut [u8],
 )
     requires arrays { ⌜ Arrays (length (now old)) (now parents) (now names) ⌝ }
     requires labelled { ⌜ Labelled (length (now old)) (now old) ⌝ }
-    requires sizes { ⌜ Sizes (length (now old)) (now classes) (now next) (now links) (now heads) (now work) ⌝ }
+    requires sizes { ⌜ Sizes (length (now old)) (now classes) (now next) (now links) (now heads) ⌝ }
     requires none { ⌜ ArcsLinked 1 j (now parents) (now names) (now classes) (now old) (now dist) (now next)
-        (now links) (now heads) (now work) ⌝ }
+        (now links) (now heads) ⌝ }
     ensures { λ _.
         ⌜ ArcsLinked (length (now (old .entry))) j (now (parents .entry)) (now (names .entry)) (now (classes .entry))
-        (now (old .entry)) (now (dist .entry)) (now (next .exit)) (now (links .exit)) (now (heads .exit)) (now (work .exit)) ⌝ }
+        (now (old .entry)) (now (dist .entry)) (now (next .exit)) (now (links .exit)) (now (heads .exit)) ⌝ }
 {
     let mut v = 1;
     while v < old.len() {
-        link_arc(
-            j,
-            v,
-            parents,
-            names,
-            classes,
-            old,
-            dist,
-            next,
-            links,
-            heads,
-            work,
-        );
+        link_arc(j, v, parents, names, classes, old, dist, next, links, heads);
         v += 1;
     }
 }
@@ -173,28 +154,6 @@ fn link_far(classes: &[u16], heads: &[u16], links: &mut [u16])
         links[v] = settled(links[v], classes[v], heads);
         v += 1;
     }
-}
-
-// Whether j names in succession lead out of both x and y. At the last name the cells are not read.
-fn common(j: usize, x: usize, y: usize, next: &[u64], work: &[u8]) -> bool
-    requires targets { ⌜ Targets (now next) (now work) ⌝ }
-    requires x_inside { ⌜ x < length (now next) ⌝ }
-    requires y_inside { ⌜ y < length (now next) ⌝ }
-    requires some { ⌜ 0 < j ⌝ }
-    ensures { λ r. ⌜ (r ≡ true) ↔ Common (now (next .entry)) (now (work .entry)) j x y ⌝ }
-{
-    let mut left = next[x] & next[y];
-    if j < 2 {
-        return left != 0;
-    }
-    while left != 0 {
-        let name = u64::trailing_zeros(left) as usize;
-        if common(j - 1, cell(work, x, name), cell(work, y, name), next, work) {
-            return true;
-        }
-        left = left & (left - 1);
-    }
-    false
 }
 
 // Joins the sources of arcs v and w where j names in succession lead on after both; true where they were in two groups. Most
@@ -340,7 +299,6 @@ pub fn sweep(
         &mut next,
         &mut links,
         &mut heads,
-        work,
     );
     link_far(classes, &heads, &mut links);
     let mut ahead = [1u16; STATE_LIMIT];
