@@ -1,17 +1,18 @@
 -- Which two names in succession lead on from each group, as sets of 16 bits: the names of a set by their low two bits, one arc
--- more, why two names in common are a bit in common, and that sets of one bit have it in common. Assumes nothing.
+-- more, that sets of one bit have it in common, and why one name in common is in both sets of names and two in succession are a
+-- bit in common. Assumes nothing.
 use mathlib.Core.Path.{_≡_, refl, sym, ap, _∙_, subst, subst₂}
 use mathlib.Core.Logic.{_⊎_, inl, inr}
 use mathlib.Core.List.{List}
-use Prim.Native.Nat.{ℕ, zero, suc, _+_, _-_, _*_, _/_, _%_, _^_, _<_}
+use Prim.Native.Nat.{ℕ, zero, suc, _+_, _-_, _*_, _/_, _%_, _^_, _<_, _≤_}
 use native.Mathlib.Omega.{arith}
 use lib.Bits.{bitAnd, bitOr, and-le-r, and-mask}
 use lib.ListN.{length, getD, set, replicate}
 use lib.Seq.{getD-set-same}
-use Rattle.model.specs.Limits.{name-limit, state-limit}
+use Rattle.model.specs.Limits.{state-limit}
 use Rattle.model.proofs.Tests.{decided, tells-ltb}
-use Rattle.cells.specs.Cells.{cellAt}
 use Rattle.indexed.specs.Trees.{Arrays}
+use Rattle.indexed.specs.Partitions.{Labelled, Share}
 use Rattle.indexed.proofs.Bits.{bit, bit-zero, bit-power-same, bit-of-both, bit-of-either, bit-below, bit-shifted, bit-fallen}
 use Rattle.contexts.specs.Sweeps.{Linked}
 use Rattle.contexts.specs.Ahead.{lowOf, LowNames, pairBit, LeadsOn, LeadOnBelow, Telling}
@@ -105,33 +106,42 @@ all-ones (suc n) zero low = refl
 all-ones (suc n) (suc x) low = all-ones n x (omega arith)
 
 pub ones-tell :
-    (j : ℕ) (next work ahead : List ℕ) → ((x : ℕ) → x < state-limit → getD ahead x 0 ≡ 1) → Telling j next work ahead
-ones-tell j next work ahead ones x y x-low y-low common =
-    bits-meet 0 (getD ahead x 0) (getD ahead y 0) (first x x-low) (first y y-low)
+    (n j : ℕ) (parents names old ahead : List ℕ) → Labelled n old → n ≤ state-limit →
+    ((x : ℕ) → x < state-limit → getD ahead x 0 ≡ 1) → Telling n j parents names old ahead
+ones-tell n j parents names old ahead labelled few ones v w v-low w-low shared =
+    bits-meet 0 (getD ahead (getD old v 0) 0) (getD ahead (getD old w 0) 0) (first v v-low) (first w w-low)
   where
-    first : (z : ℕ) → z < state-limit → bit 0 (getD ahead z 0) ≡ 1
-    first z low = ap (bit 0) (ones z low) ∙ bit-power-same 0
+    first : (u : ℕ) → u < n → bit 0 (getD ahead (getD old u 0) 0) ≡ 1
+    first u low = ap (bit 0) (ones (getD old u 0) (omega (arith, labelled .low u low))) ∙ bit-power-same 0
 
-module _ {n : ℕ} {parents names old next work : List ℕ} (ahead : List ℕ) (arrays : Arrays n parents names)
-    (linked : Linked n parents names old next work) (leads : LeadOnBelow n parents names old next ahead) where
+-- groups out of which a name leads in common have it in both sets
+pub next-common :
+    (n j : ℕ) (parents names old next : List ℕ) → Linked n parents names old next → (v w : ℕ) →
+    Share n parents names old (suc j) v w → bitAnd (getD next (getD old v 0) 0) (getD next (getD old w 0) 0) ≡ 0 → ⊥
+next-common n j parents names old next linked v w s =
+    bits-meet (getD names (s .0) 0) (getD next (getD old v 0) 0) (getD next (getD old w 0) 0)
+    (subst (λ (g : ℕ). bit (getD names (s .0) 0) (getD next g 0) ≡ 1) (s .7) (linked .leaves (s .0) (s .2) (s .4)))
+    (subst₂ (λ (a g : ℕ). bit a (getD next g 0) ≡ 1) (sym (s .6)) (s .8) (linked .leaves (s .1) (s .3) (s .5)))
+
+module _ {n : ℕ} {parents names old next : List ℕ} (ahead : List ℕ) (arrays : Arrays n parents names)
+    (linked : Linked n parents names old next) (leads : LeadOnBelow n parents names old next ahead) where
   -- two names in succession are a bit
   two-ahead :
-      (x a b : ℕ) → bit a (getD next x 0) ≡ 1 → bit b (getD next (cellAt work x a) 0) ≡ 1 →
-      bit (pairBit a b) (getD ahead x 0) ≡ 1
-  two-ahead x a b leaves on =
-      let arc = linked .arc x a leaves in
-      let then = linked .arc (cellAt work x a) b on in
-      let low : b < name-limit =
-      subst (λ (name : ℕ). name < name-limit) (then .name-is) (arrays .name-below (then .target) (then .no-root) (then .below)) in
-      subst₂ (λ (name g : ℕ). bit (pairBit name b) (getD ahead g 0) ≡ 1) (arc .name-is) (arc .from-x)
-      (leads (arc .target) (arc .no-root) (arc .below) b low
-      (subst (λ (g : ℕ). bit b (getD next g 0) ≡ 1) (arc .in-cell) on))
+      (u x y : ℕ) → 0 < x → x < n → 0 < y → y < n → getD old (getD parents x 0) 0 ≡ getD old u 0 →
+      getD old (getD parents y 0) 0 ≡ getD old x 0 →
+      bit (pairBit (getD names x 0) (getD names y 0)) (getD ahead (getD old u 0) 0) ≡ 1
+  two-ahead u x y x-pos x-low y-pos y-low out on =
+      subst (λ (g : ℕ). bit (pairBit (getD names x 0) (getD names y 0)) (getD ahead g 0) ≡ 1) out
+      (leads x x-pos x-low (getD names y 0) (arrays .name-below y y-pos y-low)
+      (subst (λ (g : ℕ). bit (getD names y 0) (getD next g 0) ≡ 1) on (linked .leaves y y-pos y-low)))
 
-  pub two-names-tell : (j : ℕ) → 1 < j → Telling j next work ahead
-  two-names-tell zero some x y x-low y-low common = let z : ⊥ = omega arith in absurd z
-  two-names-tell (suc zero) some x y x-low y-low common = let z : ⊥ = omega arith in absurd z
-  two-names-tell (suc (suc j)) some x y x-low y-low common =
-      let a = common .0 in
-      let b = common .3 .0 in
-      bits-meet (pairBit a b) (getD ahead x 0) (getD ahead y 0) (two-ahead x a b (common .1) (common .3 .1))
-      (two-ahead y a b (common .2) (common .3 .2))
+  pub two-names-tell : (j : ℕ) → 1 < j → Telling n j parents names old ahead
+  two-names-tell zero some v w v-low w-low s = let z : ⊥ = omega arith in absurd z
+  two-names-tell (suc zero) some v w v-low w-low s = let z : ⊥ = omega arith in absurd z
+  two-names-tell (suc (suc j)) some v w v-low w-low s =
+      let on = s .9 in
+      bits-meet (pairBit (getD names (s .0) 0) (getD names (on .0) 0)) (getD ahead (getD old v 0) 0)
+      (getD ahead (getD old w 0) 0)
+      (two-ahead v (s .0) (on .0) (s .2) (s .4) (on .2) (on .4) (s .7) (on .7))
+      (subst₂ (λ (a b : ℕ). bit (pairBit a b) (getD ahead (getD old w 0) 0) ≡ 1) (sym (s .6)) (sym (on .6))
+      (two-ahead w (s .1) (on .1) (s .3) (s .5) (on .3) (on .5) (s .8) (on .8)))

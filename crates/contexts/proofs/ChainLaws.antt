@@ -1,13 +1,33 @@
--- Laws of chains: the arcs further down the chain of an arc are those listed before it. Assumes nothing.
-use mathlib.Core.Path.{_≡_, refl, sym, ap, subst}
+-- Laws of the arcs on a chain: two steps down it, each of which may join; and that the arcs from a head or a link down are those
+-- listed before it. Assumes nothing.
+use mathlib.Core.Path.{_≡_, refl, sym, ap, _∙_, subst}
 use mathlib.Core.Logic.{_⊎_, inl, inr, ⊎-elim}
+use mathlib.Core.Bool.{Bool, true, false, _||_, true≢false, false≢true}
 use mathlib.Core.List.{List}
 use Prim.Native.Nat.{ℕ, zero, suc, _<_, _≤_}
 use native.Mathlib.Omega.{arith}
 use lib.ListN.{getD}
 use Rattle.model.proofs.Tests.{eq-dec}
 use Rattle.indexed.specs.Chains.{Chained}
+use Rattle.indexed.specs.Partitions.{sum}
 use Rattle.contexts.specs.Sweeps.{linkDown, OnChain, Falling}
+
+-- two steps, each of which may join: nothing in neither, or the sum fell
+pub both-none :
+    (a b : Bool) (base groups groups′ : List ℕ) → (a ≡ false → groups ≡ base) → (b ≡ false → groups′ ≡ groups) →
+    (a || b) ≡ false → groups′ ≡ base
+both-none true b base groups groups′ first second e = absurd (true≢false e)
+both-none false b base groups groups′ first second e = second e ∙ first refl
+
+pub both-some :
+    (a b : Bool) (base groups groups′ : List ℕ) → (a ≡ false → groups ≡ base) → (b ≡ false → groups′ ≡ groups) →
+    (a ≡ true → sum groups < sum base) → (b ≡ true → sum groups′ < sum groups) → (a || b) ≡ true → sum groups′ < sum base
+both-some true true base groups groups′ first second less less′ e = omega (arith, less refl, less′ refl)
+both-some true false base groups groups′ first second less less′ e = omega (arith, less refl, ap sum (second refl))
+both-some false true base groups groups′ first second less less′ e = omega (arith, less′ refl, ap sum (first refl))
+both-some false false base groups groups′ first second less less′ e = absurd (false≢true e)
+
+-- ---- the states on a chain
 
 module _ (links : List ℕ) where
   pub on-here : (at v : ℕ) → at ≡ suc v → OnChain links at v

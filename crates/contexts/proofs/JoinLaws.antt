@@ -17,32 +17,7 @@ use Rattle.contexts.specs.Sweeps.{OnChain, Falling}
 use Rattle.contexts.specs.Pairs.{Chains, PairJoined, ChainJoined, PairsJoined}
 use Rattle.contexts.proofs.ClimbLaws.{below-suc}
 use Rattle.contexts.proofs.ForkLaws.{forks-closed, coarser-less}
-use Rattle.contexts.proofs.ChainLaws.{on-here, on-later, on-split, on-none}
-
--- two steps, each of which may join: nothing in neither, or the sum fell
-pub both-none :
-    (a b : Bool) (base groups groups′ : List ℕ) → (a ≡ false → groups ≡ base) → (b ≡ false → groups′ ≡ groups) →
-    (a || b) ≡ false → groups′ ≡ base
-both-none true b base groups groups′ first second e = absurd (true≢false e)
-both-none false b base groups groups′ first second e = second e ∙ first refl
-
-pub both-some :
-    (a b : Bool) (base groups groups′ : List ℕ) → (a ≡ false → groups ≡ base) → (b ≡ false → groups′ ≡ groups) →
-    (a ≡ true → sum groups < sum base) → (b ≡ true → sum groups′ < sum groups) → (a || b) ≡ true → sum groups′ < sum base
-both-some true true base groups groups′ first second less less′ e = omega (arith, less refl, less′ refl)
-both-some true false base groups groups′ first second less less′ e = omega (arith, less refl, ap sum (second refl))
-both-some false true base groups groups′ first second less less′ e = omega (arith, less′ refl, ap sum (first refl))
-both-some false false base groups groups′ first second less less′ e = absurd (false≢true e)
-
--- ---- names that lead on
-
-module _ (n : ℕ) (parents names groups : List ℕ) where
-  -- names in common are told by the groups
-  pub share-groups :
-      (j v w v′ w′ : ℕ) → getD groups v 0 ≡ getD groups v′ 0 → getD groups w 0 ≡ getD groups w′ 0 →
-      Share n parents names groups j v w → Share n parents names groups j v′ w′
-  share-groups zero v w v′ w′ e f s = tt
-  share-groups (suc j) v w v′ w′ e f s = (s .0, s .1, s .2, s .3, s .4, s .5, s .6, s .7 ∙ e, s .8 ∙ f, s .9)
+use Rattle.contexts.proofs.ChainLaws.{both-none, both-some, on-here, on-later, on-split, on-none}
 
 -- names in common under a partition are in common under a coarser one
 pub share-refines :

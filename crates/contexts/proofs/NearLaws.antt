@@ -40,9 +40,9 @@ chained-same same chained =
 
 module _ {j : ℕ} {parents names classes old dist : List ℕ} where
   pub arcs-none :
-      {next links heads work : List ℕ} → ((x : ℕ) → getD next x 0 ≡ 0) → ((v : ℕ) → getD links v 0 ≡ 0) →
-      ((b : ℕ) → getD heads b 0 ≡ 0) → ArcsLinked 1 j parents names classes old dist next links heads work
-  arcs-none {next} {links} {heads} {work} no-names no-links no-heads =
+      {next links heads : List ℕ} → ((x : ℕ) → getD next x 0 ≡ 0) → ((v : ℕ) → getD links v 0 ≡ 0) →
+      ((b : ℕ) → getD heads b 0 ≡ 0) → ArcsLinked 1 j parents names classes old dist next links heads
+  arcs-none {next} {links} {heads} no-names no-links no-heads =
       record {
         linked = linked-none no-names;
         chained =
@@ -54,8 +54,8 @@ module _ {j : ℕ} {parents names classes old dist : List ℕ} where
         waits = λ v mark. let z : ⊥ = omega (arith, no-links v) in absurd z;
       }
 
-  module _ {i : ℕ} {next links heads work : List ℕ}
-      (so-far : ArcsLinked i j parents names classes old dist next links heads work) where
+  module _ {i : ℕ} {next links heads : List ℕ}
+      (so-far : ArcsLinked i j parents names classes old dist next links heads) where
     -- far arcs below i + 1 have the mark if arc i has, and those before it still have it
     far-more :
         (links′ : List ℕ) → ((v : ℕ) → (v ≡ i → ⊥) → getD links′ v 0 ≡ getD links v 0) →
@@ -75,7 +75,7 @@ module _ {j : ℕ} {parents names classes old dist : List ℕ} where
     -- arc i has a name that leads out of its group already
     pub arcs-known :
         bit (getD names i 0) (getD next (getD old (getD parents i 0) 0) 0) ≡ 1 →
-        ArcsLinked (i + 1) j parents names classes old dist next links heads work
+        ArcsLinked (i + 1) j parents names classes old dist next links heads
     arcs-known known =
         record {
           linked = rw add-one (linked-known (so-far .linked) known);
@@ -93,10 +93,10 @@ module _ {j : ℕ} {parents names classes old dist : List ℕ} where
             listed .first (arc .target) (arc .no-root) (arc .below) (arc .name-is) (arc .from-x)
 
     -- arc i is the first of its name out of its group
-    module _ {next′ work′ : List ℕ} (linked : Linked (suc i) parents names old next′ work′) where
+    module _ {next′ : List ℕ} (linked : Linked (suc i) parents names old next′) where
       -- it has no class
       arcs-short :
-          state-limit ≤ getD classes i 0 → ArcsLinked (i + 1) j parents names classes old dist next′ links heads work′
+          state-limit ≤ getD classes i 0 → ArcsLinked (i + 1) j parents names classes old dist next′ links heads
       arcs-short short =
           record {
             linked = rw add-one linked;
@@ -139,7 +139,7 @@ module _ {j : ℕ} {parents names classes old dist : List ℕ} where
 
         -- it is marked
         arcs-far :
-            Far j old dist i → ArcsLinked (i + 1) j parents names classes old dist next′ (set links i waiting) heads work′
+            Far j old dist i → ArcsLinked (i + 1) j parents names classes old dist next′ (set links i waiting) heads
         arcs-far far =
             record {
               linked = rw add-one linked;
@@ -156,7 +156,7 @@ module _ {j : ℕ} {parents names classes old dist : List ℕ} where
         arcs-near :
             getD classes i 0 < length heads → length links ≡ state-limit → Near j old dist i →
             ArcsLinked (i + 1) j parents names classes old dist next′ (set links i (getD heads (getD classes i 0) 0))
-            (set heads (getD classes i 0) (i + 1)) work′
+            (set heads (getD classes i 0) (i + 1))
         arcs-near in-heads links-size near =
             let b = getD classes i 0 in
             let head = getD heads b 0 in
@@ -174,16 +174,16 @@ module _ {j : ℕ} {parents names classes old dist : List ℕ} where
       pub arcs-placed :
           {links′ heads′ : List ℕ} → i < state-limit → length links ≡ state-limit → length heads ≡ state-limit → 0 < i →
           FirstArc parents names old i → Placed j i classes old dist links heads links′ heads′ →
-          ArcsLinked (i + 1) j parents names classes old dist next′ links′ heads′ work′
+          ArcsLinked (i + 1) j parents names classes old dist next′ links′ heads′
       arcs-placed {links′} {heads′} inside links-size heads-size some first placed =
           go (decided (tells-ltb (getD classes i 0) state-limit)) (decided (tells-ltb (getD dist (getD old i 0) 0) j))
         where
           to :
               (l h : List ℕ) → (links′ ≡ l) × (heads′ ≡ h) →
-              ArcsLinked (i + 1) j parents names classes old dist next′ l h work′ →
-              ArcsLinked (i + 1) j parents names classes old dist next′ links′ heads′ work′
+              ArcsLinked (i + 1) j parents names classes old dist next′ l h →
+              ArcsLinked (i + 1) j parents names classes old dist next′ links′ heads′
           to l h e arcs =
-              subst₂ (λ (l h : List ℕ). ArcsLinked (i + 1) j parents names classes old dist next′ l h work′) (sym (e .0))
+              subst₂ (λ (l h : List ℕ). ArcsLinked (i + 1) j parents names classes old dist next′ l h) (sym (e .0))
               (sym (e .1)) arcs
 
           here : getD classes i 0 < state-limit → Listed parents names classes old (getD classes i 0) i
@@ -192,7 +192,7 @@ module _ {j : ℕ} {parents names classes old dist : List ℕ} where
           go :
               (getD classes i 0 < state-limit) ⊎ (getD classes i 0 < state-limit → ⊥) →
               Near j old dist i ⊎ (Near j old dist i → ⊥) →
-              ArcsLinked (i + 1) j parents names classes old dist next′ links′ heads′ work′
+              ArcsLinked (i + 1) j parents names classes old dist next′ links′ heads′
           go (inr not-classed) near =
               let short : state-limit ≤ getD classes i 0 = omega arith in
               to links heads (placed .short short) (arcs-short short)
@@ -205,8 +205,8 @@ module _ {j : ℕ} {parents names classes old dist : List ℕ} where
 
   -- the far arcs are linked
   pub arcs-ready :
-      {n : ℕ} {next links links′ heads work : List ℕ} → ArcsLinked n j parents names classes old dist next links heads work →
-      FarLinked n classes heads links links′ → ArcsReady n j parents names classes old dist next links′ heads work
+      {n : ℕ} {next links links′ heads : List ℕ} → ArcsLinked n j parents names classes old dist next links heads →
+      FarLinked n classes heads links links′ → ArcsReady n j parents names classes old dist next links′ heads
   arcs-ready {n} {next} {links} {links′} arcs settled =
       record {
         linked = arcs .linked;

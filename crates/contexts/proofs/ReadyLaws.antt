@@ -1,5 +1,5 @@
 -- Where the links of the arcs lead, when the far ones are linked too: from each arc with a class to near arcs of this class, from
--- a far arc to all of them, from a near one to those before it; and what the comparisons need. Assumes nothing.
+-- a far arc to all of them, from a near one to those before it. Assumes nothing.
 use mathlib.Core.Path.{_≡_, sym, ap, _∙_, subst}
 use mathlib.Core.Logic.{_⊎_, inl, inr}
 use mathlib.Core.List.{List}
@@ -7,16 +7,12 @@ use Prim.Native.Nat.{ℕ, _<_, _≤_}
 use native.Mathlib.Omega.{arith}
 use lib.ListN.{getD}
 use Rattle.model.proofs.Tests.{eq-dec, decided, tells-ltb}
-use Rattle.indexed.specs.Trees.{Arrays}
-use Rattle.indexed.specs.Partitions.{Labelled}
-use Rattle.indexed.proofs.Suffixes.{parent-below}
 use Rattle.contexts.specs.Distances.{distanceOf}
-use Rattle.contexts.specs.Sweeps.{Listed, Near, Far, ListedNear, ArcsReady, Sizes, OnChain, Falling, Comparing}
-use Rattle.contexts.proofs.LinkLaws.{linked-targets}
+use Rattle.contexts.specs.Sweeps.{Listed, Near, Far, ListedNear, ArcsReady, OnChain, Falling}
 use Rattle.contexts.proofs.ChainLaws.{on-none, From, from-head, from-link, on-listed, listed-on, chain-falls}
 
-module _ {n j : ℕ} {parents names classes groups dist next links heads work : List ℕ}
-    (arcs : ArcsReady n j parents names classes groups dist next links heads work) where
+module _ {n j : ℕ} {parents names classes groups dist next links heads : List ℕ}
+    (arcs : ArcsReady n j parents names classes groups dist next links heads) where
   -- an arc with others on its chain has a class
   pub paired-listed :
       (v w : ℕ) → v < n → OnChain links (getD links v 0) w → Listed parents names classes groups (getD classes v 0) v
@@ -73,30 +69,7 @@ module _ {n j : ℕ} {parents names classes groups dist next links heads work : 
       (link-from (getD classes v 0) v inside (paired-listed v w inside on)) w on
 
   -- so all that is on the chain of an arc is a state's arc, and links down
-  arcs-fall : (v : ℕ) → v < n → Falling links (getD links v 0) n
+  pub arcs-fall : (v : ℕ) → v < n → Falling links (getD links v 0) n
   arcs-fall v inside w on =
       chain-falls links (arcs .chained) (getD classes v 0) (getD links v 0)
       (link-from (getD classes v 0) v inside (paired-listed v w inside on)) w on
-
-  pub arcs-comparing :
-      Arrays n parents names → Labelled n groups → Sizes n classes next links heads work →
-      Comparing n parents groups next links work
-  arcs-comparing arrays labelled sizes =
-      record {
-        few = arrays .few-states;
-        old-size = labelled .size;
-        links-size = omega (arith, arrays .few-states, sizes .links-size);
-        targets =
-            linked-targets labelled (arcs .linked) (omega (arith, arrays .few-states, sizes .next-size))
-            (omega (arith, sizes .next-size)) (sizes .room);
-        arcs = λ v inside.
-            record {
-              few = arrays .few-states;
-              inside = inside;
-              in-parents = omega (arith, arrays .parents-size);
-              in-old = omega (arith, labelled .size);
-              source-below = parent-below n parents names arrays v inside;
-              group-below = omega (arith, labelled .low v inside, arrays .few-states, sizes .next-size);
-            };
-        falling = arcs-fall;
-      }

@@ -14,10 +14,13 @@ use cells::numbers::wide16;
 ghost use mathlib.Core.Path.{_≡_};
 ghost use Prim.Native.Nat.{ℕ, _+_, _<_, _≤_};
 ghost use lib.ListN.{length, getD};
+ghost use Rattle.cells.specs.Cells.{work-bytes};
 ghost use Rattle.indexed.specs.Trees.{Arrays};
 ghost use Rattle.indexed.specs.Partitions.{Labelled};
-ghost use Rattle.model.specs.Limits.{state-limit};
+ghost use Rattle.model.specs.Limits.{setting-limit, state-limit};
 ghost use Rattle.contexts.specs.Sweeps.{Sizes, Placed, ArcsLinked, waiting, Settled, FarLinked};
+ghost use Rattle.contexts.specs.Ahead.{Telling};
+ghost use Rattle.contexts.specs.Sweeps.{ArcInside, Comparing, PairJoined, ChainJoined, PairsJoined, SweptBy};
 
 // The class of a state with too few names.
 const NONE: u16 = 512;
@@ -60,8 +63,8 @@ fn place_arc(
     heads[class] = narrow16(v + 1);
 }
 
-// One arc more, linked where it is the first of its name out of its group: its name goes into the group's set, the group that it
-// leads to into a cell, and the arc into the chain of its class.
+// One arc more, linked where it is the first of its name out of its group: its name goes into the group's set, and the arc into
+// the chain of its class.
 fn link_arc(
     j: usize,
     v: usize,
@@ -96,8 +99,7 @@ fn link_arc(
     place_arc(j, v, classes, old, dist, links, heads);
 }
 
-// The set of names that lead out of each group, in `next`, the groups that they lead to, in the cells, and the chains of near
-// arcs.
+// The set of names that lead out of each group, in `next`, and the chains of near arcs.
 pub fn link_arcs(
     j: usize,
     parents: &[u16],
@@ -120,18 +122,7 @@ pub fn link_arcs(
 {
     let mut v = 1;
     while v < old.len() {
-        link_arc(
-            j,
-            v,
-            parents,
-            names,
-            classes,
-            old,
-            dist,
-            next,
-            links,
-            heads,
-        );
+        link_arc(j, v, parents, names, classes, old, dist, next, links, heads);
         v += 1;
     }
 }

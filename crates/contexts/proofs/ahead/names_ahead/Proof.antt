@@ -1,6 +1,7 @@
 -- `ahead::names_ahead` meets its contract. Assumes nothing.
 use mathlib.Core.Path.{refl}
 use native.Mathlib.Omega.{arith}
+use lib.ListN.{length}
 use Rattle.contexts.proofs.AheadLaws.{ones-tell, two-names-tell}
 use Rattle.contexts.proofs.ahead.names_ahead.Statement.{statement}
 use Rattle.contexts.proofs.ahead.names_ahead.Tie as tie
@@ -8,7 +9,9 @@ use Rattle.contexts.proofs.ahead.names_ahead.Tie as tie
 returns : tie.Need-returns
 returns c =
     let start = c .before .before .before .before in
-    λ work linked. ones-tell (start .args .j) (start .args .next .now) work (start .args .ahead .now) (start .pre .1 .1)
+    let old = start .args .old .now in
+    λ linked. ones-tell (length old) (start .args .j) (start .args .parents .now) (start .args .names .now) old
+    (start .args .ahead .now) (start .pre .1 .0) (start .pre .0 .few-states) (start .pre .1 .1)
 
 two-names-requires : tie.Need-two-names-requires
 two-names-requires c κs =
@@ -19,7 +22,7 @@ returns-2 : tie.Need-returns-2
 returns-2 c =
     let some = c .before .before .before in
     let start = some .before .before .before .before in
-    λ work linked. two-names-tell (c .two-names .last .1 .1 .1 .1 .0) (start .pre .0) linked (c .two-names .ensures)
+    λ linked. two-names-tell (c .two-names .last .1 .1 .1 .1 .0) (start .pre .0) linked (c .two-names .ensures)
     (start .args .j) (omega (arith, some .if1 .left))
 
 pub names-ahead-spec : {M : Type 1} → statement M

@@ -8,7 +8,6 @@ use lib.Dec.{lit<}
 use lib.ListN.{length, getD, set}
 use lib.Pow.{shl-exact}
 use borrow.Author.Needs.{needs}
-use Rattle.cells.specs.Cells.{withCell}
 use Rattle.indexed.proofs.Bits.{bit}
 use Rattle.indexed.proofs.Suffixes.{parent-below}
 use Rattle.contexts.specs.Sweeps.{Linked}
@@ -19,7 +18,7 @@ use Rattle.contexts.proofs.pairs.link_arc.Tie as tie
 
 -- the function's entry, from where the group that the arc leaves is read
 abbrev entry : tie.After-class-above → tie.Start
-entry c = c .before .before .before .before .before .before .before .before .before
+entry c = c .before .before .before .before .before .before .before .before
 
 parent-low : (start : tie.Start) → getD (start .args .parents .now) (start .args .v) 0 < length (start .args .old .now)
 parent-low start =
@@ -61,7 +60,7 @@ new-name c known =
 
 class-above-requires : tie.Need-class-above-requires
 class-above-requires c κs =
-    let start = c .before .before .before .before .before .before .before .before in
+    let start = c .before .before .before .before .before .before .before in
     (omega (arith, start .pre .0 .parents-size, start .pre .1 .1 .1 .0), parent-low start)
 
 shared-slice-read-name : tie.Need-shared-slice-read-name
@@ -101,64 +100,28 @@ slice-write-next c =
     let start = entry (c .before .before .before) in
     omega (arith, from-low (c .before .before .before), start .pre .0 .few-states, start .pre .1 .1 .1 .1 .0 .next-size)
 
-wide8-requires : tie.Need-wide8-requires
-wide8-requires c κs = search needs
-
-mul-wide16 : tie.Need-mul-wide16
-mul-wide16 c = search needs
-
-shared-slice-read-wide16 : tie.Need-shared-slice-read-wide16
-shared-slice-read-wide16 c = search needs
-
-wide16-requires : tie.Need-wide16-requires
-wide16-requires c κs = search needs
-
-set-cell-requires : tie.Need-set-cell-requires
-set-cell-requires c κs =
-    let above = c .before .before .before .before .before .before .before in
-    let start = entry above in
-    let few = start .pre .0 .few-states in
-    let inside = start .pre .1 .1 .1 .0 in (
-      omega (arith, from-low above, few),
-      (
-        omega (arith, c .before .before .wide8 .ensures, name-low start),
-        (
-          omega (arith, c .wide16 .ensures, start .pre .1 .0 .low (start .args .v) inside, inside, few),
-          start .pre .1 .1 .1 .1 .0 .room,
-        ),
-      ),
-    )
-
--- the sets and the cells with the arc
+-- the sets with the arc
 linked-here :
-    (c : tie.After-set-cell) → let above = c .before .before .before .before .before .before .before .before in
+    (c : tie.Else1) → let above = c .before .before .before in
     let start = entry above in
     let next = start .args .next .now in
     let name = getD (start .args .names .now) (start .args .v) 0 in
     let from = above .class-above .result in
     Linked (suc (start .args .v)) (start .args .parents .now) (start .args .names .now) (start .args .old .now)
-    (set next from (bitOr (getD next from 0) ((1 * 2 ^ name) % 2 ^ 64))) (c .set-cell .last .0)
+    (set next from (bitOr (getD next from 0) ((1 * 2 ^ name) % 2 ^ 64)))
 linked-here c =
-    let above = c .before .before .before .before .before .before .before .before in
+    let above = c .before .before .before in
     let start = entry above in
     let next = start .args .next .now in
     let name = getD (start .args .names .now) (start .args .v) 0 in
     let from = above .class-above .result in
-    let wide = c .before .wide16 in
-    let few = start .pre .0 .few-states in
-    let sizes = start .pre .1 .1 .1 .1 .0 in
-    linked-more (start .pre .0) (start .pre .1 .1 .0) (start .pre .1 .1 .1 .0) (start .pre .1 .1 .1 .1 .1 .linked) from name (wide .result)
-    (above .class-above .ensures) refl (wide .ensures) (omega (arith, from-low above, few, sizes .next-size))
-    (omega (arith, from-low above, few)) (sizes .room)
-    (ap (λ (k : ℕ). set next from (bitOr (getD next from 0) k)) (mask-is start))
-    (c .set-cell .ensures
-    ∙ ap (λ (a : ℕ). withCell (start .args .work .now) from a (wide .result)) (c .before .before .before .wide8 .ensures))
-    (new-name (c .before .before .before .before .before))
+    linked-more (start .pre .1 .1 .0) (start .pre .1 .1 .1 .1 .1 .linked) from name (above .class-above .ensures) refl
+    (omega (arith, from-low above, start .pre .0 .few-states, start .pre .1 .1 .1 .1 .0 .next-size))
+    (ap (λ (k : ℕ). set next from (bitOr (getD next from 0) k)) (mask-is start)) (new-name c)
 
 place-arc-requires : tie.Need-place-arc-requires
 place-arc-requires c κs =
-    let put = c .before .before .before .before in
-    let start = entry (put .before .before .before .before .before .before .before .before) in
+    let start = entry (c .before .before .before .before .before) in
     let few = start .pre .0 .few-states in
     let inside = start .pre .1 .1 .1 .0 in
     let sizes = start .pre .1 .1 .1 .1 .0 in
@@ -174,20 +137,15 @@ same-length-2 c = search needs
 same-length-3 : tie.Need-same-length-3
 same-length-3 c = search needs
 
-same-length-4 : tie.Need-same-length-4
-same-length-4 c = search needs
-
 returns-2 : tie.Need-returns-2
 returns-2 c =
     let placed = c .before .before .before .before in
-    let put = placed .before .before .before .before .before in
-    let start = entry (put .before .before .before .before .before .before .before .before) in
-    let few = start .pre .0 .few-states in
-    let inside = start .pre .1 .1 .1 .0 in
+    let new = placed .before .before .before in
+    let start = entry (new .before .before .before) in
     let sizes = start .pre .1 .1 .1 .1 .0 in
-    arcs-placed (start .pre .1 .1 .1 .1 .1) (linked-here put) (omega (arith, inside, few)) (sizes .links-size) (sizes .heads-size)
-    (start .pre .1 .1 .0) (first-arc (start .pre .1 .1 .1 .1 .1 .linked) (new-name (put .before .before .before .before .before)))
-    (placed .place-arc .ensures)
+    let so-far = start .pre .1 .1 .1 .1 .1 in
+    arcs-placed so-far (linked-here new) (omega (arith, start .pre .1 .1 .1 .0, start .pre .0 .few-states)) (sizes .links-size)
+    (sizes .heads-size) (start .pre .1 .1 .0) (first-arc (so-far .linked) (new-name new)) (placed .place-arc .ensures)
 
 pub link-arc-spec : {M : Type 1} → statement M
 link-arc-spec =
@@ -202,14 +160,8 @@ link-arc-spec =
     returns
     mul-next
     slice-write-next
-    wide8-requires
-    mul-wide16
-    shared-slice-read-wide16
-    wide16-requires
-    set-cell-requires
     place-arc-requires
     same-length
     same-length-2
     same-length-3
-    same-length-4
     returns-2)

@@ -8,25 +8,25 @@ use Rattle.contexts.proofs.pairs.link_arcs.Statement.{statement}
 use Rattle.contexts.proofs.pairs.link_arcs.Tie as tie
 
 abbrev Inv-loop : tie.InvT-loop
-Inv-loop j parents names classes old dist next₀ links₀ heads₀ work₀ v₀ next links heads work v =
+Inv-loop j parents names classes old dist next₀ links₀ heads₀ v₀ next links heads v =
     (0 < v) × (v ≤ length old) × (length next ≡ length next₀) × (length links ≡ length links₀) × (length heads ≡ length heads₀)
-    × (length work ≡ length work₀) × ArcsLinked v j parents names classes old dist next links heads work
+    × ArcsLinked v j parents names classes old dist next links heads
 
 abbrev μ-loop : tie.MeasureT-loop
-μ-loop j parents names classes old dist next₀ links₀ heads₀ work₀ v₀ next links heads work v = length old - v
+μ-loop j parents names classes old dist next₀ links₀ heads₀ v₀ next links heads v = length old - v
 
 -- the function's entry, from the loop's head
 abbrev entry : tie.At-loop Inv-loop μ-loop → tie.Start Inv-loop μ-loop
-entry c = c .before .before .before .before .before .before .before .before .before
+entry c = c .before .before .before .before .before .before .before .before
 
 loop-holds : tie.Need-loop-holds Inv-loop μ-loop
 loop-holds c =
-    let start = c .before .before .before .before .before .before .before .before in
-    (omega arith, omega (arith, start .pre .0 .some-state), refl, refl, refl, refl, start .pre .1 .1 .1)
+    let start = c .before .before .before .before .before .before .before in
+    (omega arith, omega (arith, start .pre .0 .some-state), refl, refl, refl, start .pre .1 .1 .1)
 
 link-arc-requires : tie.Need-link-arc-requires Inv-loop μ-loop
 link-arc-requires c κs =
-    let turn = c .before .before .before .before in
+    let turn = c .before .before .before in
     let start = entry (turn .before) in
     let inv = turn .before .loop .inv in
     let sizes = start .pre .1 .1 .0 in (
@@ -43,9 +43,8 @@ link-arc-requires c κs =
                 next-size = inv .2 ∙ sizes .next-size;
                 links-size = inv .3 ∙ sizes .links-size;
                 heads-size = inv .4 ∙ sizes .heads-size;
-                room = omega (arith, inv .5, sizes .room);
               },
-              inv .6,
+              inv .5,
             ),
           ),
         ),
@@ -54,25 +53,24 @@ link-arc-requires c κs =
 
 add-v : tie.Need-add-v Inv-loop μ-loop
 add-v c =
-    let turn = c .before .before .before .before .before .before .before .before .before .before .before .before .before in
+    let turn = c .before .before .before .before .before .before .before .before .before .before in
     omega (arith, turn .loop-test .taken, entry (turn .before) .pre .0 .few-states)
 
 loop-less : tie.Need-loop-less Inv-loop μ-loop
 loop-less c =
-    let turn = c .before .before .before .before .before .before .before .before .before .before .before .before .before in
+    let turn = c .before .before .before .before .before .before .before .before .before .before in
     omega (arith, turn .loop-test .taken)
 
 loop-again : tie.Need-loop-again Inv-loop μ-loop
 loop-again c =
-    let turn = c .before .before .before .before .before .before .before .before .before .before .before .before .before in
+    let turn = c .before .before .before .before .before .before .before .before .before .before in
     let inv = turn .before .loop .inv in
-    let arc = c .before .before .before .before .before .before .before .before .link-arc in (
+    let arc = c .before .before .before .before .before .before .link-arc in (
       omega arith,
       omega (arith, turn .loop-test .taken),
       arc .kept .1 .1 .1 .1 .1 .1 .1 .0 ∙ inv .2,
       arc .kept .1 .1 .1 .1 .1 .1 .1 .1 .0 ∙ inv .3,
       arc .kept .1 .1 .1 .1 .1 .1 .1 .1 .1 .0 ∙ inv .4,
-      arc .kept .1 .1 .1 .1 .1 .1 .1 .1 .1 .1 .0 ∙ inv .5,
       arc .ensures,
     )
 
@@ -85,17 +83,14 @@ same-length-2 c = c .before .loop .inv .3
 same-length-3 : tie.Need-same-length-3 Inv-loop μ-loop
 same-length-3 c = c .before .loop .inv .4
 
-same-length-4 : tie.Need-same-length-4 Inv-loop μ-loop
-same-length-4 c = c .before .loop .inv .5
-
 returns : tie.Need-returns Inv-loop μ-loop
 returns c =
     let loop = c .before .loop in
     let start = entry (c .before) in
     let all : loop .v ≡ length (start .args .old .now) = omega (arith, c .loop-test .left, loop .inv .1) in
     subst (λ (k : ℕ). ArcsLinked k (start .args .j) (start .args .parents .now) (start .args .names .now)
-    (start .args .classes .now) (start .args .old .now) (start .args .dist .now) (loop .next) (loop .links) (loop .heads)
-    (loop .work)) all (loop .inv .6)
+    (start .args .classes .now) (start .args .old .now) (start .args .dist .now) (loop .next) (loop .links) (loop .heads))
+    all (loop .inv .5)
 
 pub link-arcs-spec : {M : Type 1} → statement M
 link-arcs-spec =
@@ -111,5 +106,4 @@ link-arcs-spec =
     same-length
     same-length-2
     same-length-3
-    same-length-4
     returns)
