@@ -1,15 +1,14 @@
--- Laws of rounds: the states' own numbers, and rounds of forks and a sweep until a sweep joins nothing. Assumes nothing.
+-- Laws of rounds: the states' own numbers, and sweeps until one joins nothing. Assumes nothing.
 use mathlib.Core.Path.{_≡_, sym, ap, _∙_, subst, subst₂}
 use mathlib.Core.Bool.{Bool, true, false, true≢false}
 use mathlib.Core.List.{List}
 use Prim.Native.Nat.{ℕ, _+_, _<_, _≤_}
 use native.Mathlib.Omega.{arith}
 use lib.ListN.{length, take}
-use Rattle.cells.specs.Cells.{work-bytes}
 use Rattle.model.specs.Lists.{numbersFrom}
 use Rattle.model.specs.Limits.{setting-limit}
 use Rattle.indexed.specs.Trees.{Arrays}
-use Rattle.indexed.specs.Partitions.{Refines, Labelled, ForkClosed, ContextClosed, SuffixAgree}
+use Rattle.indexed.specs.Partitions.{Labelled, ForkClosed, ContextClosed, SuffixAgree}
 use Rattle.indexed.specs.Passes.{Swept, SuffixClasses, BySuffix, ContextJoined}
 use Rattle.indexed.proofs.Keys.{numbers-length}
 use Rattle.indexed.proofs.Contexts.{joined-suffix-agree}
@@ -17,7 +16,7 @@ use Rattle.indexed.proofs.Rounds.{due, due-less}
 use Rattle.indexed.proofs.Fills.{front-length}
 use Rattle.contexts.specs.Climbs.{ClimbedBelow}
 use Rattle.contexts.specs.Distances.{Tested}
-use Rattle.contexts.specs.Sweeps.{SweptBy}
+use Rattle.contexts.specs.Pairs.{SweptBy}
 use Rattle.contexts.specs.Rounds.{ContextSound, ForksJoined, RoundReady}
 use Rattle.contexts.proofs.ClimbLaws.{climbs-sound}
 use Rattle.contexts.proofs.FarLaws.{tested-coarser, tested-tree}
@@ -27,70 +26,58 @@ pub own-front :
     (n : ℕ) (list out : List ℕ) → n ≤ length list → out ≡ numbersFrom (length (take n list)) 0 → out ≡ numbersFrom n 0
 own-front n list out fits own = own ∙ ap (λ (m : ℕ). numbersFrom m 0) (front-length n list fits)
 
--- rounds so far, the last sweep by `before`: joined says whether another is due
+-- sweeps so far, the last by `before`: joined says whether another is due
 pub record RoundsTo (n h m : ℕ) (parents names before groups : List ℕ) (joined : Bool) : Type 0 where
   pub labelled : Labelled n groups
   pub sound : ContextSound n h m parents names groups
   pub before-size : length before ≡ n
   pub tested : Tested n h m parents names before groups
-  pub forks : joined ≡ false → ForkClosed n parents names groups
+  pub forks : ForkClosed n parents names groups
   pub contexts : joined ≡ false → ContextClosed n h m parents names groups
 
+-- forks closed, and no sweep yet
 pub rounds-none :
-    (n h m : ℕ) (parents names before groups : List ℕ) → RoundReady n h m parents names groups → before ≡ numbersFrom n 0 →
-    RoundsTo n h m parents names before groups true
-rounds-none n h m parents names before groups ready own =
+    (n h m : ℕ) (parents names before groups forked : List ℕ) → RoundReady n h m parents names groups → before ≡ numbersFrom n 0 →
+    ForksJoined n parents names groups forked → RoundsTo n h m parents names before forked true
+rounds-none n h m parents names before groups forked ready own forks =
     record {
-      labelled = ready .labelled;
-      sound = ready .sound;
+      labelled = forks .labelled;
+      sound = λ others fork context. forks .sound others fork (ready .sound others fork context);
       before-size = ap length own ∙ numbers-length n 0;
-      tested = subst (λ (l : List ℕ). Tested n h m parents names l groups) (sym own) (ready .tested);
-      forks = λ e. absurd (true≢false e);
+      tested =
+          tested-coarser n h m parents names before groups forked
+          (subst (λ (l : List ℕ). Tested n h m parents names l groups) (sym own) (ready .tested)) (forks .coarser);
+      forks = forks .closed;
       contexts = λ e. absurd (true≢false e);
     }
 
--- one round: forks, then a sweep
-module _ (n h m : ℕ) (parents names before groups forked : List ℕ) (was : Bool) (arrays : Arrays n parents names)
-    (pos : 0 < h) (so-far : RoundsTo n h m parents names before groups was)
-    (forks : ForksJoined n parents names groups forked) where
-  forked-sound : ContextSound n h m parents names forked
-  forked-sound others fork context = forks .sound others fork (so-far .sound others fork context)
+-- one sweep more
+module _ (n h m : ℕ) (parents names before groups : List ℕ) (was : Bool) (arrays : Arrays n parents names) (pos : 0 < h)
+    (so-far : RoundsTo n h m parents names before groups was) (classes before′ groups′ : List ℕ) (joined : Bool)
+    (by : SuffixClasses n (h + 1) parents names classes)
+    (sweeps : SweptBy n m parents names classes before before′ groups groups′ joined) where
+  agree : SuffixAgree n h parents names groups
+  agree = joined-suffix-agree n parents names arrays h m groups pos (so-far .labelled .size) (so-far .sound)
 
-  forked-agree : SuffixAgree n h parents names forked
-  forked-agree = joined-suffix-agree n parents names arrays h m forked pos (forks .labelled .size) forked-sound
+  swept : Swept n h m parents names groups groups′ joined
+  swept = sweeps .swept h by agree (so-far .tested)
 
-  -- what was told before the forks were closed is joined still
-  forked-tested : Tested n h m parents names before forked
-  forked-tested = tested-coarser n h m parents names before groups forked (so-far .tested) (forks .coarser)
+  pub rounds-more : ForkClosed n parents names groups′ → RoundsTo n h m parents names before′ groups′ joined
+  rounds-more forks =
+      record {
+        labelled = swept .labelled;
+        sound = λ others fork context. swept .sound others fork context (so-far .sound others fork context);
+        before-size = ap length (sweeps .before-is) ∙ so-far .labelled .size;
+        tested =
+            subst (λ (l : List ℕ). Tested n h m parents names l groups′) (sym (sweeps .before-is))
+            (sweeps .tested-after h by agree (so-far .tested));
+        forks = forks;
+        contexts = λ e.
+            subst (λ (l : List ℕ). ContextClosed n h m parents names l) (sym (swept .none e .0)) (swept .none e .1);
+      }
 
-  module _ (classes before′ groups′ : List ℕ) (joined : Bool) (by : SuffixClasses n (h + 1) parents names classes)
-      (sweeps : SweptBy n m parents names classes before before′ forked groups′ joined) where
-    swept : Swept n h m parents names forked groups′ joined
-    swept = sweeps .swept h by forked-agree forked-tested
-
-    pub rounds-more : RoundsTo n h m parents names before′ groups′ joined
-    rounds-more =
-        record {
-          labelled = swept .labelled;
-          sound = λ others fork context. swept .sound others context (forked-sound others fork context);
-          before-size = ap length (sweeps .before-is) ∙ forks .labelled .size;
-          tested =
-              subst (λ (l : List ℕ). Tested n h m parents names l groups′) (sym (sweeps .before-is))
-              (sweeps .tested-after h by forked-agree forked-tested (forks .closed));
-          forks = λ e.
-              subst (λ (l : List ℕ). ForkClosed n parents names l) (sym (swept .none e (forks .closed) .0)) (forks .closed);
-          contexts = λ e.
-              subst (λ (l : List ℕ). ContextClosed n h m parents names l) (sym (swept .none e (forks .closed) .0))
-              (swept .none e (forks .closed) .1);
-        }
-
-    -- the sweep joins only
-    pub rounds-coarser : Refines n forked groups′
-    rounds-coarser = swept .coarser
-
-    pub rounds-less : due groups′ joined < due groups true
-    rounds-less =
-        omega (arith, forks .fewer, due-less forked groups′ joined (λ e. swept .none e (forks .closed) .0) (swept .some))
+  pub rounds-less : due groups′ joined < due groups true
+  rounds-less = due-less groups groups′ joined (λ e. swept .none e .0) (swept .some)
 
 pub rounds-all :
     (n h m : ℕ) (parents names before groups : List ℕ) (joined : Bool) → joined ≡ false →
@@ -101,7 +88,7 @@ rounds-all n h m parents names before groups joined done so-far =
       labelled = so-far .labelled;
       sound = λ j e others fork context.
           so-far .sound others fork (subst (λ (i : ℕ). ContextClosed n h i parents names others) (is-m j e) context);
-      fork-closed = so-far .forks done;
+      fork-closed = so-far .forks;
       context-closed = λ j e.
           subst (λ (i : ℕ). ContextClosed n h i parents names groups) (sym (is-m j e)) (so-far .contexts done);
     }
@@ -120,21 +107,6 @@ pub classes-front :
     SuffixClasses (length (take n list)) h parents names classes → SuffixClasses n h parents names classes
 classes-front n h list parents names classes fits by =
     subst (λ (m : ℕ). SuffixClasses m h parents names classes) (front-length n list fits) by
-
--- what a sweep asks, by the length of its groups, with as many classes
-pub sweep-asked :
-    (n h m many : ℕ) (parents names before groups work : List ℕ) → Arrays n parents names → 1 < m → h + m ≤ setting-limit →
-    many ≡ n → length before ≡ n → Labelled n groups → work-bytes ≤ length work →
-    Arrays (length groups) parents names × ((many ≡ length groups) × ((length before ≡ length groups)
-    × (Labelled (length groups) groups × ((work-bytes ≤ length work) × ((1 < m) × (m ≤ setting-limit))))))
-sweep-asked n h m many parents names before groups work arrays more-names limit many-is before-size labelled room =
-    let size : n ≡ length groups = sym (labelled .size) in (
-      subst (λ (k : ℕ). Arrays k parents names) size arrays,
-      (
-        many-is ∙ size,
-        (before-size ∙ size, (subst (λ (k : ℕ). Labelled k groups) size labelled, (room, (more-names, omega arith)))),
-      ),
-    )
 
 -- what a sweep promises, by the number of states and by the classes that its front is
 pub sweep-told :

@@ -6,21 +6,16 @@
 // the last sweep, else far, and what leads on from two far arcs was compared by the last sweep. So the chain of a class has its
 // near arcs alone; each of them is compared with those before it, and each far arc with all of them.
 use crate::STATE_LIMIT;
-use crate::ahead::names_ahead;
-use crate::distances::distances;
 use cells::numbers::narrow16;
 use cells::numbers::wide8;
 use cells::numbers::wide16;
 ghost use mathlib.Core.Path.{_≡_};
 ghost use Prim.Native.Nat.{ℕ, _+_, _<_, _≤_};
 ghost use lib.ListN.{length, getD};
-ghost use Rattle.cells.specs.Cells.{work-bytes};
 ghost use Rattle.indexed.specs.Trees.{Arrays};
 ghost use Rattle.indexed.specs.Partitions.{Labelled};
-ghost use Rattle.model.specs.Limits.{setting-limit, state-limit};
+ghost use Rattle.model.specs.Limits.{state-limit};
 ghost use Rattle.contexts.specs.Sweeps.{Sizes, Placed, ArcsLinked, waiting, Settled, FarLinked};
-ghost use Rattle.contexts.specs.Ahead.{Telling};
-ghost use Rattle.contexts.specs.Sweeps.{ArcInside, Comparing, PairJoined, ChainJoined, PairsJoined, SweptBy};
 
 // The class of a state with too few names.
 const NONE: u16 = 512;
