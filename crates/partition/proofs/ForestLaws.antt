@@ -226,6 +226,19 @@ module _ (n : ℕ) (above₀ above : List ℕ) (v at up : ℕ) (finding : Findin
         same : rootOf above₀ next ≡ rootOf above₀ v
         same = sym (was forest₀ next next-inside) ∙ next-root ∙ was forest₀ at (finding .inside) ∙ finding .same-root
 
+  -- the way goes on from the state above, with nothing put higher
+  pub finding-up : (up′ : ℕ) → Forest n above₀ → up′ ≡ getD above up 0 → Finding n above₀ above v up up′
+  finding-up up′ forest₀ up-is =
+      record {
+        forest = finding .forest;
+        kept = finding .kept;
+        inside = up-inside;
+        up-is = up-is;
+        same-root =
+            sym (was forest₀ up up-inside) ∙ ap (rootOf above) (finding .up-is)
+            ∙ sym (root-up n above (finding .forest) at (finding .inside)) ∙ was forest₀ at (finding .inside) ∙ finding .same-root;
+      }
+
   -- a state above itself is the root
   pub finding-end : Forest n above₀ → v < n → up ≡ at → FoundRoot n above₀ above v at
   finding-end forest₀ inside here =

@@ -24,6 +24,22 @@ pub fn find(above: &mut [u16], v: usize) -> usize
     at
 }
 
+// The root of a state, with the forest left as it is.
+pub fn root(above: &[u16], v: usize) -> usize
+    requires forest { ⌜ Forest (length (now above)) (now above) ⌝ }
+    requires inside { ⌜ v < length (now above) ⌝ }
+    ensures value { λ r. ⌜ r ≡ getD (rootsOf (now (above .entry))) v 0 ⌝ }
+    ensures inside { λ r. ⌜ r < length (now (above .entry)) ⌝ }
+{
+    let mut w = v;
+    let mut up = wide16(above[w]);
+    while up != w {
+        w = up;
+        up = wide16(above[w]);
+    }
+    w
+}
+
 // Puts root y below root x.
 pub fn unite(above: &mut [u16], x: usize, y: usize)
     requires forest { ⌜ Forest (length (now above)) (now above) ⌝ }

@@ -12,3 +12,4 @@ pub mod SettleLaws
 pub mod PairLaws
 pub mod ForkLaws
 pub mod ForkRounds
+pub mod SearchLaws

@@ -31,6 +31,11 @@ pub record Kept (n : ℕ) (parents names numbers groups links heads firsts secon
   pub room : tail + live rows ≤ pair-limit
   pub queue : QueueRoom firsts seconds
 
+-- the arcs of a partition whose forks are closed, in lists: what a search needs of them
+pub record ForkLists (n : ℕ) (parents names groups links heads : List ℕ) : Type 0 where
+  pub rows : List ℕ
+  pub kind : Kind n parents (numbersFrom n 0) names groups rows links heads Nothing
+
 -- what holds while the pairs from `done` on are still to be joined: arcs are covered once they are; every closed partition that
 -- is coarser than the one at the start is coarser than this one and joins them; and the queue has room
 pub record Closing

@@ -4,6 +4,7 @@
 // are the lists of the first kind, and so on.
 pub mod forks;
 pub mod lists;
+pub mod search;
 
 use cells::numbers::wide16;
 use partition::forest;
