@@ -50,7 +50,6 @@ label-low n groups groups′ labelled labelled′ coarser v hv =
     let same : getD groups′ (getD groups v 0) 0 ≡ getD groups′ v 0 = coarser (getD groups v 0) v hg hv (labelled .own v hv) in
     omega (arith, labelled′ .low (getD groups v 0) hg)
 
-
 -- so where two groups have become one the sum is lower
 pub coarser-less :
     (n : ℕ) (groups groups′ : List ℕ) → Labelled n groups → Labelled n groups′ → Refines n groups groups′ → (x y : ℕ) → x < n →
@@ -89,9 +88,9 @@ module _ (n : ℕ) (parents names numbers : List ℕ) (arrays : Arrays n parents
 
   -- what is joined until closed is forks joined
   pub forks-joined :
-      (groups groups′ : List ℕ) → Labelled n groups → JoinedUntil (KeyClosed n parents numbers names) n groups groups′ →
+      (groups groups′ : List ℕ) → JoinedUntil (KeyClosed n parents numbers names) n groups groups′ →
       ForksJoined n parents names groups groups′
-  forks-joined groups groups′ labelled joined =
+  forks-joined groups groups′ joined =
       record {
         labelled = joined .labelled;
         coarser = joined .coarser;
@@ -109,5 +108,9 @@ module _ (n : ℕ) (parents names numbers : List ℕ) (arrays : Arrays n parents
       keys-forks n parents names groups arrays
       (subst (λ (l : List ℕ). KeyClosed n parents l names groups) own
       (kind-closed n parents numbers names groups (kept .rows) links heads Nothing tt
-      (λ v h. omega (arith, kept .labelled .low (getD parents v 0) (parent-below n parents names arrays v h),
-      parent-below n parents names arrays v h, arrays .few-states)) (kept .kind)))
+      (λ v h. omega (
+        arith,
+        kept .labelled .low (getD parents v 0) (parent-below n parents names arrays v h),
+        parent-below n parents names arrays v h,
+        arrays .few-states,
+      )) (kept .kind)))

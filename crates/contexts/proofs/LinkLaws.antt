@@ -132,13 +132,3 @@ module _ {i : ℕ} {parents names old next : List ℕ} (pos : 0 < i) (linked : L
 
   pub linked-more : Linked (suc i) parents names old next′
   linked-more = record { leaves = λ v some low. more-leaves v low some; arc = more-arc }
-
--- ---- names in common
-
-module _ {n : ℕ} {parents names old next : List ℕ} (labelled : Labelled n old) (linked : Linked n parents names old next) where
-  -- names in common are told by the groups
-  pub share-groups :
-      (j v w v′ w′ : ℕ) → getD old v 0 ≡ getD old v′ 0 → getD old w 0 ≡ getD old w′ 0 → Share n parents names old j v w →
-      Share n parents names old j v′ w′
-  share-groups zero v w v′ w′ e f s = tt
-  share-groups (suc j) v w v′ w′ e f s = (s .0, s .1, s .2, s .3, s .4, s .5, s .6, s .7 ∙ e, s .8 ∙ f, s .9)

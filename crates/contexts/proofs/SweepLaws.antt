@@ -12,11 +12,11 @@ use Rattle.indexed.specs.Trees.{Arrays, SameSuffix}
 use Rattle.indexed.specs.Partitions.{Labelled, Share, SuffixAgree, ContextClosed, ForkClosed}
 use Rattle.indexed.specs.Passes.{SuffixClasses, Swept}
 use Rattle.indexed.proofs.Suffixes.{parent-below, suffix-refl, suffix-sym, suffix-trans}
+use Rattle.worklist.proofs.SearchLaws.{share-groups}
 use Rattle.contexts.specs.Climbs.{ParentsJoined}
 use Rattle.contexts.specs.Distances.{Tested, Spread, distanceOf}
 use Rattle.contexts.specs.Sweeps.{ArcOf, Listed, Near, Far, ArcsReady, OnChain}
 use Rattle.contexts.specs.Pairs.{PairsJoined, SweptBy}
-use Rattle.contexts.proofs.LinkLaws.{share-groups}
 use Rattle.contexts.proofs.ReadyLaws.{paired-listed, paired-near, link-on}
 use Rattle.contexts.proofs.FarLaws.{tested-far, tested-closed}
 
@@ -135,7 +135,7 @@ module _ {n j : ℕ} {parents names classes groups dist next links heads : List 
             let to-q : getD groups y 0 ≡ getD groups q 0 =
             fork y q (shared .3) (at-y .no-root) (shared .5) (at-y .below) (sym (at-y .name-is)) (sym (at-y .from-x)) in
             let after : Share n parents names groups j p q =
-            share-groups labelled (arcs .linked) j x y p q to-p to-q (shared .9) in
+            share-groups n parents names groups j x y p q to-p to-q (shared .9) in
             one-source (getD classes p 0) p q (at-x .below) (at-y .below)
             (record { classed = class .0; class-is = refl; no-root = at-x .no-root; first = at-x .first })
             (record { classed = class .0; class-is = sym (class .1); no-root = at-y .no-root; first = at-y .first }) suffix

@@ -4,5 +4,4 @@ pub mod Climbs
 pub mod Rounds
 pub mod Sweeps
 pub mod Pairs
-pub mod Stubs
 pub mod Distances

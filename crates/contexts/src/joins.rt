@@ -6,11 +6,10 @@ use crate::ahead::names_ahead;
 use crate::distances::distances;
 use crate::pairs::link_arcs;
 use crate::pairs::link_far;
-use crate::stubs::join_two;
-use crate::stubs::lead_on;
-use crate::stubs::root;
 use cells::numbers::wide16;
 use partition::forest;
+use worklist::forks::join_two;
+use worklist::search::lead_on;
 ghost use mathlib.Core.Path.{_≡_};
 ghost use mathlib.Core.Bool.{true};
 ghost use Prim.Native.Nat.{_<_, _≤_};
@@ -75,17 +74,27 @@ fn join_pair(
     if apart(v, w, old, next, ahead) {
         return false;
     }
-    let x = root(groups, wide16(parents[v]));
-    let y = root(groups, wide16(parents[w]));
+    let x = forest::root(groups, wide16(parents[v]));
+    let y = forest::root(groups, wide16(parents[w]));
     if x == y {
         return false;
     }
-    let into = root(groups, v);
-    let other = root(groups, w);
+    let into = forest::root(groups, v);
+    let other = forest::root(groups, w);
     if !lead_on(j, into, other, names, groups, arclinks, archeads) {
         return false;
     }
-    join_two(names, numbers, groups, arclinks, archeads, firsts, seconds, x, y);
+    join_two(
+        names,
+        numbers,
+        groups,
+        arclinks,
+        archeads,
+        firsts,
+        seconds,
+        x,
+        y,
+    );
     true
 }
 
@@ -126,7 +135,20 @@ fn join_chain(
     while 0 < at {
         let w = at - 1;
         let joins = join_pair(
-            j, v, w, parents, names, numbers, old, next, ahead, groups, arclinks, archeads, firsts, seconds,
+            j,
+            v,
+            w,
+            parents,
+            names,
+            numbers,
+            old,
+            next,
+            ahead,
+            groups,
+            arclinks,
+            archeads,
+            firsts,
+            seconds,
         );
         joined = joined | joins;
         at = wide16(links[w]);
@@ -167,7 +189,20 @@ fn sweep_pairs(
     let mut v = 0;
     while v < old.len() {
         let joins = join_chain(
-            j, v, parents, names, numbers, old, next, ahead, links, groups, arclinks, archeads, firsts, seconds,
+            j,
+            v,
+            parents,
+            names,
+            numbers,
+            old,
+            next,
+            ahead,
+            links,
+            groups,
+            arclinks,
+            archeads,
+            firsts,
+            seconds,
         );
         joined = joined | joins;
         v += 1;
@@ -227,7 +262,19 @@ pub fn sweep(
     let mut ahead = [1u16; STATE_LIMIT];
     names_ahead(j, parents, names, before, &next, &mut ahead);
     let joined = sweep_pairs(
-        j, parents, names, numbers, before, &next, &ahead, &links, groups, arclinks, archeads, firsts, seconds,
+        j,
+        parents,
+        names,
+        numbers,
+        before,
+        &next,
+        &ahead,
+        &links,
+        groups,
+        arclinks,
+        archeads,
+        firsts,
+        seconds,
     );
     forest::flatten(groups);
     joined

@@ -3,7 +3,6 @@
 pub mod ahead;
 pub mod distances;
 pub mod joins;
-pub mod stubs;
 pub mod pairs;
 
 use cells::numbers::wide16;
@@ -132,7 +131,16 @@ fn close_contexts(
     let n = groups.len();
     let mut classes = [0u16; STATE_LIMIT];
     suffixes::suffix_classes(h + 1, parents, names, &mut classes[..n]);
-    start(parents, names, numbers, groups, links, heads, firsts, seconds);
+    start(
+        parents,
+        names,
+        numbers,
+        groups,
+        links,
+        heads,
+        firsts,
+        seconds,
+    );
     let mut joined = true;
     while joined {
         joined = sweep(

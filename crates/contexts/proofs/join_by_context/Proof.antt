@@ -15,7 +15,7 @@ use Rattle.contexts.proofs.join_by_context.Tie as tie
 
 -- the function's entry, from the partition by last names; that partition, and the climbs, from what comes after them
 abbrev entry : tie.After-by-suffix → tie.Start
-entry c = c .before .before .before .before .before .before
+entry c = c .before .before .before .before .before
 
 abbrev suffixed : tie.Else1 → tie.After-by-suffix
 suffixed c = c .before .before .before
@@ -27,7 +27,7 @@ abbrev climbs : tie.Else3 → tie.After-climb-starts
 climbs c = c .before .before .before
 
 abbrev rounds : tie.After-run-rounds → tie.Else3
-rounds c = c .before .before .before
+rounds c = c .before .before
 
 by-suffix-requires : tie.Need-by-suffix-requires
 by-suffix-requires c κs = search needs
@@ -107,30 +107,25 @@ returns-3 c =
 
 run-rounds-requires : tie.Need-run-rounds-requires
 run-rounds-requires c κs =
-    let two = c .before .before in
+    let two = c .before in
     let climbed = climbs two in
     let by = started climbed .by-suffix in
     let start = entry (started climbed) in
-    let sum-is : start .args .h + (start .args .k - start .args .h) ≡ start .args .k = omega arith in (
-      climbs-ready (length (start .args .groups .now)) (start .args .h) (start .args .k - start .args .h) (start .args .k)
-          (start .args .parents .now) (start .args .names .now) (by .last .1 .1 .1 .0) (climbed .climb-starts .last .1 .1 .0)
-          (start .pre .0) (start .pre .1 .0) (omega (arith, climbed .before .before .if2 .left, two .if3 .left))
-          sum-is (start .pre .1 .1 .1 .0) (by .ensures .0) (climbed-here climbed),
-      start .pre .1 .1 .1 .1,
-    )
+    let sum-is : start .args .h + (start .args .k - start .args .h) ≡ start .args .k = omega arith in
+    climbs-ready (length (start .args .groups .now)) (start .args .h) (start .args .k - start .args .h) (start .args .k)
+    (start .args .parents .now) (start .args .names .now) (by .last .1 .1 .1 .0) (climbed .climb-starts .last .1 .1 .0)
+    (start .pre .0) (start .pre .1 .0) (omega (arith, climbed .before .before .if2 .left, two .if3 .left)) sum-is
+    (start .pre .1 .1 .1) (by .ensures .0) (climbed-here climbed)
 
 same-length-4 : tie.Need-same-length-4
 same-length-4 c =
-    let done = c .before .before .before .before in
+    let done = c .before .before in
     let climbed = climbs (rounds done) in
     done .run-rounds .kept .1 .1 .1 .1 .0 ∙ climbed .climb-starts .kept .1 .1 .0 ∙ started climbed .by-suffix .kept .1 .1 .1 .0
 
-same-length-5 : tie.Need-same-length-5
-same-length-5 c = c .before .before .before .before .run-rounds .kept .1 .1 .1 .1 .1 .0
-
 returns-4 : tie.Need-returns-4
 returns-4 c =
-    let done = c .before .before .before .before in
+    let done = c .before .before in
     let climbed = climbs (rounds done) in
     let start = entry (started climbed) in
     let sum-is : start .args .h + (start .args .k - start .args .h) ≡ start .args .k = omega arith in
@@ -153,5 +148,4 @@ join-by-context-spec =
     returns-3
     run-rounds-requires
     same-length-4
-    same-length-5
     returns-4)
