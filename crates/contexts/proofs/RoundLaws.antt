@@ -14,6 +14,7 @@ use Rattle.indexed.proofs.Keys.{numbers-length}
 use Rattle.indexed.proofs.Contexts.{joined-suffix-agree}
 use Rattle.indexed.proofs.Rounds.{due, due-less}
 use Rattle.indexed.proofs.Fills.{front-length}
+use Rattle.worklist.specs.Forks.{Kept}
 use Rattle.contexts.specs.Climbs.{ClimbedBelow}
 use Rattle.contexts.specs.Distances.{Tested}
 use Rattle.contexts.specs.Pairs.{SweptBy}
@@ -107,6 +108,33 @@ pub classes-front :
     SuffixClasses (length (take n list)) h parents names classes → SuffixClasses n h parents names classes
 classes-front n h list parents names classes fits by =
     subst (λ (m : ℕ). SuffixClasses m h parents names classes) (front-length n list fits) by
+
+-- what a sweep asks, by the length of its groups, with as many classes
+pub sweep-asked :
+    (n h m many : ℕ) (parents names numbers before groups links heads firsts seconds : List ℕ) → Arrays n parents names →
+    numbers ≡ numbersFrom n 0 → 1 < m → h + m ≤ setting-limit → many ≡ n → length before ≡ n →
+    Kept n parents names numbers groups links heads firsts seconds 0 →
+    Arrays (length groups) parents names × ((numbers ≡ numbersFrom (length groups) 0) × ((many ≡ length groups)
+    × ((length before ≡ length groups) × (Kept (length groups) parents names numbers groups links heads firsts seconds 0
+    × ((1 < m) × (m ≤ setting-limit))))))
+sweep-asked n h m many parents names numbers before groups links heads firsts seconds arrays own more-names limit many-is
+    before-size kept =
+    let size : n ≡ length groups = sym (kept .labelled .size) in (
+      subst (λ (k : ℕ). Arrays k parents names) size arrays,
+      (
+        subst (λ (k : ℕ). numbers ≡ numbersFrom k 0) size own,
+        (
+          many-is ∙ size,
+          (
+            before-size ∙ size,
+            (
+              subst (λ (k : ℕ). Kept k parents names numbers groups links heads firsts seconds 0) size kept,
+              (more-names, omega arith),
+            ),
+          ),
+        ),
+      ),
+    )
 
 -- what a sweep promises, by the number of states and by the classes that its front is
 pub sweep-told :

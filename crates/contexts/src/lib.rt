@@ -141,7 +141,19 @@ fn close_contexts(
         firsts,
         seconds,
     );
-    let mut joined = true;
+    let mut joined = sweep(
+        m,
+        parents,
+        names,
+        numbers,
+        &classes[..n],
+        before,
+        groups,
+        links,
+        heads,
+        firsts,
+        seconds,
+    );
     while joined {
         joined = sweep(
             m,

@@ -5,9 +5,7 @@ use functions::join_by_function;
 ghost use mathlib.Core.Path.{_≡_};
 ghost use mathlib.Core.Bool.{true};
 ghost use mathlib.Core.List.{List};
-ghost use Prim.Native.Nat.{_≤_};
 ghost use lib.ListN.{length};
-ghost use Rattle.model.specs.Limits.{work-bytes};
 ghost use Rattle.model.specs.Fields.{class-of, settingsOk};
 ghost use Rattle.model.specs.Classes.{Word};
 ghost use Rattle.functions.specs.Results.{JoinReady};
@@ -18,7 +16,7 @@ const CONTEXT: u8 = 0;
 
 const SEEN_SET: u8 = 1;
 
-// Joins by the class's rule until none applies. What the lent area and the groups hold at first is all the same.
+// Joins by the class's rule until none applies. What the groups hold at first is all the same.
 pub fn join_by_class(
     kind: u8,
     first: u8,
@@ -27,16 +25,14 @@ pub fn join_by_class(
     names: &[u8],
     accepts: &[u8],
     groups: &mut [u16],
-    work: &mut [u8],
 )
     requires { ⌜ settingsOk kind first second ≡ true ⌝ }
     requires { ⌜ JoinReady (length (now groups)) (now parents) (now names) (now accepts) ⌝ }
-    requires { ⌜ work-bytes ≤ length (now work) ⌝ }
     ensures { λ _. ⌜ ((rows : List Word) → TreeIn rows (now (parents .entry)) (now (names .entry)) (now (accepts .entry)) →
         JoinedBy (class-of kind first second) rows (now (parents .entry)) (now (names .entry)) (now (groups .exit))) ⌝ }
 {
     match kind {
-        CONTEXT => join_by_context(wide8(first), wide8(second), parents, names, groups, work),
+        CONTEXT => join_by_context(wide8(first), wide8(second), parents, names, groups),
         _ => join_by_function(
             kind == SEEN_SET,
             wide8(first),

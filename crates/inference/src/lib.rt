@@ -139,7 +139,6 @@ fn join_and_write(
         names,
         accepts,
         &mut groups[..n],
-        work,
     );
     write_joined(
         book,

@@ -6,8 +6,6 @@ use mathlib.Core.List.{List, _++_}
 use Prim.Native.Nat.{ℕ, _+_, _<_}
 use native.Mathlib.Omega.{arith}
 use lib.ListN.{length, take, replicate}
-use Rattle.model.specs.Lists.{numbersFrom}
-use Rattle.indexed.specs.Trees.{Arrays}
 use Rattle.indexed.specs.Passes.{SuffixClasses}
 use Rattle.indexed.proofs.Fills.{front-length, front-again, front-fits}
 use Rattle.indexed.proofs.Rounds.{due}
@@ -15,7 +13,7 @@ use Rattle.worklist.specs.Forks.{Kept}
 use Rattle.worklist.proofs.ForkRounds.{kept-from-start}
 use Rattle.contexts.specs.Pairs.{SweptBy}
 use Rattle.contexts.proofs.ForkLaws.{forks-ready, forks-joined, kept-forks}
-use Rattle.contexts.proofs.RoundLaws.{RoundsTo, arrays-front, classes-front, sweep-told, rounds-none}
+use Rattle.contexts.proofs.RoundLaws.{RoundsTo, arrays-front, classes-front, sweep-asked, sweep-told, rounds-none}
 use Rattle.contexts.proofs.RoundLaws.{rounds-more, rounds-less, rounds-all}
 use Rattle.contexts.proofs.close_contexts.Statement.{statement}
 use Rattle.contexts.proofs.close_contexts.Tie as tie
@@ -38,13 +36,19 @@ opening c = c .before .before .before .before .before .before .before
 abbrev classed : tie.After-start Inv-loop μ-loop → tie.After-suffix-classes Inv-loop μ-loop
 classed c = c .before .before .before .before .before .before .before
 
-abbrev started : tie.At-loop Inv-loop μ-loop → tie.After-start Inv-loop μ-loop
-started c = c .before .before .before
+abbrev started : tie.After-sweep Inv-loop μ-loop → tie.After-start Inv-loop μ-loop
+started c = c .before .before .before .before .before .before .before .before .before .before
+
+abbrev swept-first : tie.At-loop Inv-loop μ-loop → tie.After-sweep Inv-loop μ-loop
+swept-first c = c .before .before .before .before .before
+
+abbrev known : tie.At-loop Inv-loop μ-loop → tie.After-suffix-classes Inv-loop μ-loop
+known c = classed (started (swept-first c))
 
 abbrev entry : tie.At-loop Inv-loop μ-loop → tie.Start Inv-loop μ-loop
-entry c = opening (classed (started c))
+entry c = opening (known c)
 
-abbrev turn : tie.After-sweep Inv-loop μ-loop → tie.In-loop Inv-loop μ-loop
+abbrev turn : tie.After-sweep2 Inv-loop μ-loop → tie.In-loop Inv-loop μ-loop
 turn c = c .before .before .before .before .before .before .before .before
 
 -- the classes, by the number of states at the start
@@ -63,34 +67,86 @@ classes-again :
     take (length (opening c .args .groups .now)) (classes ++ rest) ≡ classes
 classes-again c rest = front-again _ _ _ rest refl (classes-here c .size)
 
--- what a sweep promises, by the number of states at the start
-swept-here :
-    (c : tie.After-sweep Inv-loop μ-loop) → let here = turn c .before in
-    let at = entry here in
-    SweptBy (length (at .args .groups .now)) (at .args .m) (at .args .parents .now) (at .args .names .now)
-    (classed (started here) .suffix-classes .last .1 .1 .1 .0) (here .loop .before) (c .sweep .last .1 .1 .1 .1 .1 .0)
-    (here .loop .groups) (c .sweep .last .1 .1 .1 .1 .1 .1 .0) (c .sweep .result)
-swept-here c =
-    let here = turn c .before in
-    let cut = classed (started here) in
-    let at = entry here in
-    sweep-told (length (at .args .groups .now)) (at .args .m) (at .args .parents .now) (at .args .names .now) _
-    (cut .suffix-classes .last .1 .1 .1 .0) (here .loop .before) (c .sweep .last .1 .1 .1 .1 .1 .0) (here .loop .groups)
-    (c .sweep .last .1 .1 .1 .1 .1 .1 .0) (c .sweep .result) (here .loop .inv .1 .labelled .size) (classes-again cut _)
-    (c .sweep .ensures .0)
+-- what holds before the first sweep
+none-here :
+    (c : tie.After-start Inv-loop μ-loop) → let at = opening (classed c) in
+    RoundsTo (length (at .args .groups .now)) (at .args .h) (at .args .m) (at .args .parents .now) (at .args .names .now)
+    (at .args .before .now) (c .start .last .1 .1 .1 .0) true
+none-here c =
+    let at = opening (classed c) in
+    let n = length (at .args .groups .now) in
+    let forked = c .start .last .1 .1 .1 .0 in
+    rounds-none n (at .args .h) (at .args .m) (at .args .parents .now) (at .args .names .now) (at .args .before .now)
+    (at .args .groups .now) forked (at .pre .0) (at .pre .1 .1 .0)
+    (forks-joined n (at .args .parents .now) (at .args .names .now) (at .args .numbers .now) (at .pre .0 .arrays) (at .pre .1 .0)
+    (at .args .groups .now) forked (c .start .ensures .until))
 
 -- and the lists
-kept-here :
-    (c : tie.After-sweep Inv-loop μ-loop) → let at = entry (turn c .before) in
+none-kept :
+    (c : tie.After-start Inv-loop μ-loop) → let at = opening (classed c) in
+    let last = c .start .last .1 .1 .1 in
+    Kept (length (at .args .groups .now)) (at .args .parents .now) (at .args .names .now) (at .args .numbers .now) (last .0)
+    (last .1 .0) (last .1 .1 .0) (last .1 .1 .1 .0) (last .1 .1 .1 .1 .0) 0
+none-kept c =
+    let at = opening (classed c) in
+    let last = c .start .last .1 .1 .1 in
+    kept-from-start (length (at .args .groups .now)) (at .args .parents .now) (at .args .names .now) (at .args .numbers .now) (last .0)
+    (last .1 .0) (last .1 .1 .0) (last .1 .1 .1 .0) (last .1 .1 .1 .1 .0) (c .start .result) (c .start .ensures .kept)
+
+-- what the first sweep leaves, by the number of states at the start: what it promises, and the lists
+first-swept :
+    (c : tie.After-sweep Inv-loop μ-loop) → let starts = started c in
+    let at = opening (classed starts) in
+    SweptBy (length (at .args .groups .now)) (at .args .m) (at .args .parents .now) (at .args .names .now)
+    (classed starts .suffix-classes .last .1 .1 .1 .0) (at .args .before .now) (c .sweep .last .1 .1 .1 .1 .1 .0)
+    (starts .start .last .1 .1 .1 .0) (c .sweep .last .1 .1 .1 .1 .1 .1 .0) (c .sweep .result)
+first-swept c =
+    let starts = started c in
+    let cut = classed starts in
+    let at = opening cut in
+    sweep-told (length (at .args .groups .now)) (at .args .m) (at .args .parents .now) (at .args .names .now) _
+    (cut .suffix-classes .last .1 .1 .1 .0) (at .args .before .now) (c .sweep .last .1 .1 .1 .1 .1 .0)
+    (starts .start .last .1 .1 .1 .0) (c .sweep .last .1 .1 .1 .1 .1 .1 .0) (c .sweep .result) (none-here starts .labelled .size)
+    (classes-again cut _) (c .sweep .ensures .0)
+
+first-kept :
+    (c : tie.After-sweep Inv-loop μ-loop) → let at = opening (classed (started c)) in
     let last = c .sweep .last .1 .1 .1 .1 .1 .1 in
+    Kept (length (at .args .groups .now)) (at .args .parents .now) (at .args .names .now) (at .args .numbers .now) (last .0)
+    (last .1 .0) (last .1 .1 .0) (last .1 .1 .1 .0) (last .1 .1 .1 .1 .0) 0
+first-kept c =
+    let at = opening (classed (started c)) in
+    let last = c .sweep .last .1 .1 .1 .1 .1 .1 in
+    subst (λ (k : ℕ). Kept k (at .args .parents .now) (at .args .names .now) (at .args .numbers .now) (last .0) (last .1 .0)
+    (last .1 .1 .0) (last .1 .1 .1 .0) (last .1 .1 .1 .1 .0) 0) (none-here (started c) .labelled .size) (c .sweep .ensures .1)
+
+-- what each other sweep leaves
+swept-here :
+    (c : tie.After-sweep2 Inv-loop μ-loop) → let here = turn c .before in
+    let at = entry here in
+    SweptBy (length (at .args .groups .now)) (at .args .m) (at .args .parents .now) (at .args .names .now)
+    (known here .suffix-classes .last .1 .1 .1 .0) (here .loop .before) (c .sweep2 .last .1 .1 .1 .1 .1 .0)
+    (here .loop .groups) (c .sweep2 .last .1 .1 .1 .1 .1 .1 .0) (c .sweep2 .result)
+swept-here c =
+    let here = turn c .before in
+    let cut = known here in
+    let at = entry here in
+    sweep-told (length (at .args .groups .now)) (at .args .m) (at .args .parents .now) (at .args .names .now) _
+    (cut .suffix-classes .last .1 .1 .1 .0) (here .loop .before) (c .sweep2 .last .1 .1 .1 .1 .1 .0) (here .loop .groups)
+    (c .sweep2 .last .1 .1 .1 .1 .1 .1 .0) (c .sweep2 .result) (here .loop .inv .1 .labelled .size) (classes-again cut _)
+    (c .sweep2 .ensures .0)
+
+kept-here :
+    (c : tie.After-sweep2 Inv-loop μ-loop) → let at = entry (turn c .before) in
+    let last = c .sweep2 .last .1 .1 .1 .1 .1 .1 in
     Kept (length (at .args .groups .now)) (at .args .parents .now) (at .args .names .now) (at .args .numbers .now) (last .0)
     (last .1 .0) (last .1 .1 .0) (last .1 .1 .1 .0) (last .1 .1 .1 .1 .0) 0
 kept-here c =
     let here = turn c .before in
     let at = entry here in
-    let last = c .sweep .last .1 .1 .1 .1 .1 .1 in
+    let last = c .sweep2 .last .1 .1 .1 .1 .1 .1 in
     subst (λ (k : ℕ). Kept k (at .args .parents .now) (at .args .names .now) (at .args .numbers .now) (last .0) (last .1 .0)
-    (last .1 .1 .0) (last .1 .1 .1 .0) (last .1 .1 .1 .1 .0) 0) (here .loop .inv .1 .labelled .size) (c .sweep .ensures .1)
+    (last .1 .1 .0) (last .1 .1 .1 .0) (last .1 .1 .1 .1 .0) 0) (here .loop .inv .1 .labelled .size) (c .sweep2 .ensures .1)
 
 add-suffix-classes : tie.Need-add-suffix-classes Inv-loop μ-loop
 add-suffix-classes c = omega (arith, c .before .before .before .before .before .pre .0 .limit)
@@ -117,80 +173,90 @@ start-requires c κs =
       (at .pre .0 .labelled, at .pre .1 .1 .1),
     )
 
-loop-holds : tie.Need-loop-holds Inv-loop μ-loop
-loop-holds c =
-    let starts = c .before .before in
-    let at = opening (classed starts) in
-    let n = length (at .args .groups .now) in
-    let last = starts .start .last .1 .1 .1 in
-    let done = starts .start .ensures in (
-      refl,
-      rounds-none n (at .args .h) (at .args .m) (at .args .parents .now) (at .args .names .now) (at .args .before .now)
-          (at .args .groups .now) (last .0) (at .pre .0) (at .pre .1 .1 .0)
-          (forks-joined n (at .args .parents .now) (at .args .names .now) (at .args .numbers .now) (at .pre .0 .arrays) (at .pre .1 .0)
-          (at .args .groups .now) (last .0) (done .until)),
-      kept-from-start n (at .args .parents .now) (at .args .names .now) (at .args .numbers .now) (last .0) (last .1 .0)
-          (last .1 .1 .0) (last .1 .1 .1 .0) (last .1 .1 .1 .1 .0) (starts .start .result) (done .kept),
-    )
-
 array-share-prefix-classes : tie.Need-array-share-prefix-classes Inv-loop μ-loop
 array-share-prefix-classes c =
-    let cut = classed (started (c .before)) in
+    let cut = classed (c .before .before) in
     front-fits _ (cut .suffix-classes .last .1 .1 .1 .0) _ _ refl (classes-here cut .size)
 
 slice-aggregate-sweep : tie.Need-slice-aggregate-sweep Inv-loop μ-loop
 slice-aggregate-sweep c =
-    let cut = classed (started (c .before .before)) in
+    let cut = classed (c .before .before .before) in
     sym (ap length (classes-again cut _) ∙ classes-here cut .size)
 
 sweep-requires : tie.Need-sweep-requires Inv-loop μ-loop
 sweep-requires c κs =
-    let here = c .before .before .before .before .before .before .before .before in
-    let cut = classed (started here) in
-    let at = entry here in
-    let size = sym (here .loop .inv .1 .labelled .size) in (
-      subst (λ (k : ℕ). Arrays k (at .args .parents .now) (at .args .names .now)) size (at .pre .0 .arrays),
-      (
-        subst (λ (k : ℕ). at .args .numbers .now ≡ numbersFrom k 0) size (at .pre .1 .0),
-        (
-          ap length (classes-again cut _) ∙ classes-here cut .size ∙ size,
-          (
-            here .loop .inv .1 .before-size ∙ size,
-            (
-              subst (λ (k : ℕ). Kept k (at .args .parents .now) (at .args .names .now) (at .args .numbers .now) (here .loop .groups)
-                  (here .loop .links) (here .loop .heads) (here .loop .firsts) (here .loop .seconds) 0) size (here .loop .inv .2),
-              (at .pre .0 .more-names, omega (arith, at .pre .0 .limit)),
-            ),
-          ),
-        ),
-      ),
+    let starts = c .before .before .before .before .before .before .before .before .before in
+    let cut = classed starts in
+    let at = opening cut in
+    let last = starts .start .last .1 .1 .1 in
+    sweep-asked (length (at .args .groups .now)) (at .args .h) (at .args .m) _ (at .args .parents .now) (at .args .names .now)
+    (at .args .numbers .now) (at .args .before .now) (last .0) (last .1 .0) (last .1 .1 .0) (last .1 .1 .1 .0)
+    (last .1 .1 .1 .1 .0) (at .pre .0 .arrays) (at .pre .1 .0) (at .pre .0 .more-names) (at .pre .0 .limit)
+    (ap length (classes-again cut _) ∙ classes-here cut .size) (none-here starts .before-size) (none-kept starts)
+
+loop-holds : tie.Need-loop-holds Inv-loop μ-loop
+loop-holds c =
+    let sweeps = c .before .before .before .before in
+    let starts = started sweeps in
+    let cut = classed starts in
+    let at = opening cut in
+    let n = length (at .args .groups .now) in
+    let last = sweeps .sweep .last .1 .1 .1 .1 .1 .1 in (
+      refl,
+      rounds-more n (at .args .h) (at .args .m) (at .args .parents .now) (at .args .names .now) (at .args .before .now)
+          (starts .start .last .1 .1 .1 .0) true (at .pre .0 .arrays) (at .pre .0 .some-names) (none-here starts)
+          (cut .suffix-classes .last .1 .1 .1 .0) (sweeps .sweep .last .1 .1 .1 .1 .1 .0) (last .0) (sweeps .sweep .result)
+          (classes-here cut) (first-swept sweeps)
+          (kept-forks n (at .args .parents .now) (at .args .names .now) (at .args .numbers .now) (at .pre .0 .arrays) (at .pre .1 .0)
+          (last .0) (last .1 .0) (last .1 .1 .0) (last .1 .1 .1 .0) (last .1 .1 .1 .1 .0) 0 (first-kept sweeps)),
+      first-kept sweeps,
     )
+
+array-share-prefix-classes-2 : tie.Need-array-share-prefix-classes-2 Inv-loop μ-loop
+array-share-prefix-classes-2 c =
+    let cut = known (c .before) in
+    front-fits _ (cut .suffix-classes .last .1 .1 .1 .0) _ _ refl (classes-here cut .size)
+
+slice-aggregate-sweep-2 : tie.Need-slice-aggregate-sweep-2 Inv-loop μ-loop
+slice-aggregate-sweep-2 c =
+    let cut = known (c .before .before) in
+    sym (ap length (classes-again cut _) ∙ classes-here cut .size)
+
+sweep-requires-2 : tie.Need-sweep-requires-2 Inv-loop μ-loop
+sweep-requires-2 c κs =
+    let here = c .before .before .before .before .before .before .before .before in
+    let cut = known here in
+    let at = entry here in
+    sweep-asked (length (at .args .groups .now)) (at .args .h) (at .args .m) _ (at .args .parents .now) (at .args .names .now)
+    (at .args .numbers .now) (here .loop .before) (here .loop .groups) (here .loop .links) (here .loop .heads) (here .loop .firsts)
+    (here .loop .seconds) (at .pre .0 .arrays) (at .pre .1 .0) (at .pre .0 .more-names) (at .pre .0 .limit)
+    (ap length (classes-again cut _) ∙ classes-here cut .size) (here .loop .inv .1 .before-size) (here .loop .inv .2)
 
 loop-less : tie.Need-loop-less Inv-loop μ-loop
 loop-less c =
     let sweeps = c .before .before .before .before in
     let here = turn sweeps .before in
     let at = entry here in
-    let cut = classed (started here) in
-    subst (λ (b : Bool). due (sweeps .sweep .last .1 .1 .1 .1 .1 .1 .0) (sweeps .sweep .result) < due (here .loop .groups) b)
+    let cut = known here in
+    subst (λ (b : Bool). due (sweeps .sweep2 .last .1 .1 .1 .1 .1 .1 .0) (sweeps .sweep2 .result) < due (here .loop .groups) b)
     (sym (turn sweeps .loop-test .taken))
     (rounds-less (length (at .args .groups .now)) (at .args .h) (at .args .m) (at .args .parents .now) (at .args .names .now)
     (here .loop .before) (here .loop .groups) (here .loop .joined) (at .pre .0 .arrays) (at .pre .0 .some-names) (here .loop .inv .1)
-    (cut .suffix-classes .last .1 .1 .1 .0) (sweeps .sweep .last .1 .1 .1 .1 .1 .0)
-    (sweeps .sweep .last .1 .1 .1 .1 .1 .1 .0) (sweeps .sweep .result) (classes-here cut) (swept-here sweeps))
+    (cut .suffix-classes .last .1 .1 .1 .0) (sweeps .sweep2 .last .1 .1 .1 .1 .1 .0)
+    (sweeps .sweep2 .last .1 .1 .1 .1 .1 .1 .0) (sweeps .sweep2 .result) (classes-here cut) (swept-here sweeps))
 
 loop-again : tie.Need-loop-again Inv-loop μ-loop
 loop-again c =
     let sweeps = c .before .before .before .before in
     let here = turn sweeps .before in
     let at = entry here in
-    let cut = classed (started here) in
+    let cut = known here in
     let n = length (at .args .groups .now) in
-    let last = sweeps .sweep .last .1 .1 .1 .1 .1 .1 in (
-      sweeps .sweep .kept .1 .1 .1 .1 .1 .0 ∙ here .loop .inv .0,
+    let last = sweeps .sweep2 .last .1 .1 .1 .1 .1 .1 in (
+      sweeps .sweep2 .kept .1 .1 .1 .1 .1 .0 ∙ here .loop .inv .0,
       rounds-more n (at .args .h) (at .args .m) (at .args .parents .now) (at .args .names .now) (here .loop .before)
           (here .loop .groups) (here .loop .joined) (at .pre .0 .arrays) (at .pre .0 .some-names) (here .loop .inv .1)
-          (cut .suffix-classes .last .1 .1 .1 .0) (sweeps .sweep .last .1 .1 .1 .1 .1 .0) (last .0) (sweeps .sweep .result)
+          (cut .suffix-classes .last .1 .1 .1 .0) (sweeps .sweep2 .last .1 .1 .1 .1 .1 .0) (last .0) (sweeps .sweep2 .result)
           (classes-here cut) (swept-here sweeps)
           (kept-forks n (at .args .parents .now) (at .args .names .now) (at .args .numbers .now) (at .pre .0 .arrays) (at .pre .1 .0)
           (last .0) (last .1 .0) (last .1 .1 .0) (last .1 .1 .1 .0) (last .1 .1 .1 .1 .0) 0 (kept-here sweeps)),
@@ -198,7 +264,7 @@ loop-again c =
     )
 
 same-length : tie.Need-same-length Inv-loop μ-loop
-same-length c = c .before .loop .inv .0
+same-length c = c .before .loop .inv .0 ∙ swept-first (c .before) .sweep .kept .1 .1 .1 .1 .1 .0
 
 same-length-2 : tie.Need-same-length-2 Inv-loop μ-loop
 same-length-2 c = c .before .loop .inv .1 .labelled .size
@@ -221,10 +287,13 @@ close-contexts-spec =
     slice-aggregate-suffix-classes
     suffix-classes-requires
     start-requires
-    loop-holds
     array-share-prefix-classes
     slice-aggregate-sweep
     sweep-requires
+    loop-holds
+    array-share-prefix-classes-2
+    slice-aggregate-sweep-2
+    sweep-requires-2
     loop-less
     loop-again
     same-length

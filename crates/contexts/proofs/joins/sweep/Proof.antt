@@ -215,8 +215,12 @@ sweep-pairs-requires c κs =
       comparing-here made,
       (
         record {
-          size = omega (arith, arcs .link-far .kept .1 .1 .0, linked arcs .link-arcs .kept .1 .1 .1 .1 .1 .1 .1 .0,
-              start .pre .0 .few-states);
+          size = omega (
+            arith,
+            arcs .link-far .kept .1 .1 .0,
+            linked arcs .link-arcs .kept .1 .1 .1 .1 .1 .1 .1 .0,
+            start .pre .0 .few-states,
+          );
           falling = arcs-fall (ready-here arcs);
         },
         (
