@@ -15,7 +15,7 @@ use Rattle.inference.proofs.join_and_write.Tie as tie
 
 -- places on the way: the entry, from the joining on
 abbrev start : tie.After-join-by-class → tie.Start
-start c = c .before .before .before .before .before .before .before .before .before
+start c = c .before .before .before .before .before .before .before .before
 
 -- how many states the tree has, and the groups after the joining, as many
 count : (c : tie.Start) → length (c .args .parents .now) ≤ state-limit
@@ -35,34 +35,29 @@ slice-aggregate-join-by-class c = sym (length-take-le _ _ (count (c .before .bef
 
 join-by-class-requires : tie.Need-join-by-class-requires
 join-by-class-requires c κs =
-    let start = c .before .before .before .before .before .before .before .before in
+    let start = c .before .before .before .before .before .before .before in
     let args = start .args in
-    let known = c .before .before .before .before .before .before .before .shared-slice-known in (
+    let known = c .before .before .before .before .before .before .shared-slice-known in (
       class-allowed (args .book .now) (args .place) (start .pre .0 .0) (λ i h. omega (arith, known .given i)),
-      (
-        tree-ready (rowsAt (args .book .now) (args .place)) (args .parents .now) (args .names .now) (args .accepts .now) _
-            (start .pre .1) (length-take-le _ _ (count start)),
-        start .pre .0 .2,
-      ),
+      tree-ready (rowsAt (args .book .now) (args .place)) (args .parents .now) (args .names .now) (args .accepts .now) _
+          (start .pre .1) (length-take-le _ _ (count start)),
     )
 
 array-share-prefix-groups : tie.Need-array-share-prefix-groups
-array-share-prefix-groups c = prefix-fits _ (joined (c .before .before .before)) _ (joined-size (c .before .before .before))
+array-share-prefix-groups c = prefix-fits _ (joined (c .before)) _ (joined-size (c .before))
 
 slice-aggregate-write-joined : tie.Need-slice-aggregate-write-joined
 slice-aggregate-write-joined c =
-    let after = c .before .before .before .before in
+    let after = c .before .before in
     sym (ap length (prefix-again _ (joined after) _ (joined-size after)) ∙ joined-size after)
 
 write-joined-requires : tie.Need-write-joined-requires
 write-joined-requires c κs =
-    let after = c .before .before .before .before .before .before in
+    let after = c .before .before .before .before in
     let at = start after in
     let args = at .args in
-    let rows = rowsAt (args .book .now) (args .place) in
-    let kept = after .join-by-class .kept .1 .1 .1 .1 .1 .1 .1 .0 in
-    let room : work-bytes ≤ length (after .join-by-class .last .1 .1 .1 .1 .1 .1 .1 .0) = omega (arith, kept, at .pre .0 .2) in (
-      (at .pre .0 .0, at .pre .0 .1, room),
+    let rows = rowsAt (args .book .now) (args .place) in (
+      at .pre .0,
       (
         at .pre .1,
         subst (λ (groups : List ℕ). JoinedBy (classAt (args .place)) rows (args .parents .now) (args .names .now) groups)
