@@ -3,10 +3,10 @@
 use mathlib.Core.Path.{_≡_, refl, sym, ap, _∙_, subst}
 use mathlib.Core.Logic.{_⊎_, inl, inr, ⊎-elim}
 use mathlib.Core.Bool.{Bool, true, false, _||_, true≢false, false≢true}
-use mathlib.Core.List.{List, [], _∷_}
+use mathlib.Core.List.{List}
 use Prim.Native.Nat.{ℕ, zero, suc, _+_, _<_, _≤_}
 use native.Mathlib.Omega.{arith}
-use lib.ListN.{length, getD}
+use lib.ListN.{getD}
 use Rattle.model.specs.Lists.{numbersFrom}
 use Rattle.indexed.specs.Trees.{Arrays}
 use Rattle.indexed.specs.Partitions.{Refines, Labelled, ForkClosed, KeyClosed, Share, sum}
@@ -14,7 +14,7 @@ use Rattle.indexed.proofs.Suffixes.{parent-below}
 use Rattle.worklist.specs.Settling.{JoinedUntil}
 use Rattle.contexts.specs.Climbs.{ParentsJoined}
 use Rattle.contexts.specs.Sweeps.{OnChain, Falling}
-use Rattle.contexts.specs.Pairs.{Chains, PairJoined, ChainJoined, PairsJoined}
+use Rattle.contexts.specs.Joins.{Chains, PairJoined, ChainJoined, PairsJoined}
 use Rattle.contexts.proofs.ClimbLaws.{below-suc}
 use Rattle.contexts.proofs.ForkLaws.{forks-closed, coarser-less}
 use Rattle.contexts.proofs.ChainLaws.{both-none, both-some, on-here, on-later, on-split, on-none}

@@ -9,7 +9,6 @@ use lib.Bits.{bitOr}
 use lib.ListN.{length, getD, set}
 use lib.Seq.{getD-set-same, getD-set-other}
 use Rattle.model.proofs.Tests.{eq-dec}
-use Rattle.indexed.specs.Partitions.{Labelled, Share}
 use Rattle.indexed.proofs.Bits.{bit, bit-zero, bit-set, bit-of-set, bit-of-either, set-again}
 use Rattle.contexts.specs.Sweeps.{FirstArc, ArcOf, Linked}
 use Rattle.contexts.proofs.ClimbLaws.{below-suc}

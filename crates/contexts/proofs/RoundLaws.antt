@@ -17,7 +17,7 @@ use Rattle.indexed.proofs.Fills.{front-length}
 use Rattle.worklist.specs.Forks.{Kept}
 use Rattle.contexts.specs.Climbs.{ClimbedBelow}
 use Rattle.contexts.specs.Distances.{Tested}
-use Rattle.contexts.specs.Pairs.{SweptBy}
+use Rattle.contexts.specs.Joins.{SweptBy}
 use Rattle.contexts.specs.Rounds.{ContextSound, ForksJoined, RoundReady}
 use Rattle.contexts.proofs.ClimbLaws.{climbs-sound}
 use Rattle.contexts.proofs.FarLaws.{tested-coarser, tested-tree}

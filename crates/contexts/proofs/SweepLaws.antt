@@ -16,7 +16,7 @@ use Rattle.worklist.proofs.SearchLaws.{share-groups}
 use Rattle.contexts.specs.Climbs.{ParentsJoined}
 use Rattle.contexts.specs.Distances.{Tested, Spread, distanceOf}
 use Rattle.contexts.specs.Sweeps.{ArcOf, Listed, Near, Far, ArcsReady, OnChain}
-use Rattle.contexts.specs.Pairs.{PairsJoined, SweptBy}
+use Rattle.contexts.specs.Joins.{PairsJoined, SweptBy}
 use Rattle.contexts.proofs.ReadyLaws.{paired-listed, paired-near, link-on}
 use Rattle.contexts.proofs.FarLaws.{tested-far, tested-closed}
 

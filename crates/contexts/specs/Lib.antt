@@ -3,5 +3,5 @@ pub mod Ahead
 pub mod Climbs
 pub mod Rounds
 pub mod Sweeps
-pub mod Pairs
+pub mod Joins
 pub mod Distances

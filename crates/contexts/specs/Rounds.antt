@@ -1,6 +1,5 @@
 -- Rounds of joins: what is joined by the context rule and no more, forks joined until none is left, and what the rounds start
 -- from. Assumes nothing.
-use mathlib.Core.Path.{_≡_}
 use mathlib.Core.List.{List}
 use Prim.Native.Nat.{ℕ, _+_, _<_, _≤_}
 use Rattle.model.specs.Limits.{setting-limit}

@@ -3,9 +3,9 @@
 // looked for among groups that are as large as they can be. The chains stay those of the groups at the beginning of the sweep.
 use crate::STATE_LIMIT;
 use crate::ahead::names_ahead;
+use crate::chains::link_arcs;
+use crate::chains::link_far;
 use crate::distances::distances;
-use crate::pairs::link_arcs;
-use crate::pairs::link_far;
 use cells::numbers::wide16;
 use partition::forest;
 use worklist::forks::join_two;
@@ -20,7 +20,7 @@ ghost use Rattle.indexed.specs.Trees.{Arrays};
 ghost use Rattle.indexed.specs.Partitions.{Refines, Labelled};
 ghost use Rattle.partition.specs.Forests.{rootsOf};
 ghost use Rattle.worklist.specs.Forks.{Kept};
-ghost use Rattle.contexts.specs.Pairs.{Live, Apart, Comparing, Chains, PairJoined, ChainJoined, PairsJoined, SweptBy};
+ghost use Rattle.contexts.specs.Joins.{Live, Apart, Comparing, Chains, PairJoined, ChainJoined, PairsJoined, SweptBy};
 
 // Whether the groups that arcs v and w led into at first tell by their sets that no names lead on after both.
 fn apart(v: usize, w: usize, old: &[u16], next: &[u64], ahead: &[u16; STATE_LIMIT]) -> bool

@@ -1,9 +1,9 @@
 // The joining of a book's prefix tree by the context rule: states with the same last h names out of whose groups k - h names lead
 // in common are in one group, and no group has arcs of one name to two groups.
 pub mod ahead;
+pub mod chains;
 pub mod distances;
 pub mod joins;
-pub mod pairs;
 
 use cells::numbers::wide16;
 use joins::sweep;

@@ -1,6 +1,6 @@
 -- Laws of the parts of a joining: it is ready to be closed after the partition by ends, closed it is finished, and it is closed
 -- already where the ends join nothing. Assumes nothing.
-use mathlib.Core.Path.{_≡_, sym, ap, _∙_, subst, subst₂}
+use mathlib.Core.Path.{_≡_, sym, ap, subst, subst₂}
 use mathlib.Core.List.{List}
 use Prim.Native.Nat.{ℕ, _<_}
 use lib.ListN.{length, getD}

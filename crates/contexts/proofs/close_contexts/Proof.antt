@@ -11,7 +11,7 @@ use Rattle.indexed.proofs.Fills.{front-length, front-again, front-fits}
 use Rattle.indexed.proofs.Rounds.{due}
 use Rattle.worklist.specs.Forks.{Kept}
 use Rattle.worklist.proofs.ForkRounds.{kept-from-start}
-use Rattle.contexts.specs.Pairs.{SweptBy}
+use Rattle.contexts.specs.Joins.{SweptBy}
 use Rattle.contexts.proofs.ForkLaws.{forks-ready, forks-joined, kept-forks}
 use Rattle.contexts.proofs.RoundLaws.{RoundsTo, arrays-front, classes-front, sweep-asked, sweep-told, rounds-none}
 use Rattle.contexts.proofs.RoundLaws.{rounds-more, rounds-less, rounds-all}

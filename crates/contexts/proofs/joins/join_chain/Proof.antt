@@ -1,14 +1,13 @@
 -- `joins::join_chain` meets its contract. The invariant: the chain is done down to `at`. Assumes nothing.
 use mathlib.Core.Path.{_≡_, refl, sym, _∙_, subst}
 use mathlib.Core.Bool.{_||_}
-use mathlib.Core.List.{List}
 use Prim.Native.Nat.{ℕ, suc, _-_, _<_, _≤_}
 use native.Mathlib.Omega.{arith}
 use lib.ListN.{length, getD}
 use Rattle.indexed.specs.Partitions.{Refines}
 use Rattle.indexed.proofs.Suffixes.{parent-below}
 use Rattle.partition.specs.Forests.{rootsOf}
-use Rattle.contexts.specs.Pairs.{Live, Comparing, PairJoined}
+use Rattle.contexts.specs.Joins.{Live, Comparing, PairJoined}
 use Rattle.contexts.proofs.JoinLaws.{Chaining, chaining-none, come-to, chaining-more, chaining-done}
 use Rattle.contexts.proofs.joins.join_chain.Statement.{statement}
 use Rattle.contexts.proofs.joins.join_chain.Tie as tie

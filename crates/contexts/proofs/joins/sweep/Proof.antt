@@ -14,7 +14,7 @@ use Rattle.partition.proofs.ForestLaws.{flat-forest, flat-roots, forest-again}
 use Rattle.worklist.specs.Forks.{Kept}
 use Rattle.contexts.specs.Sweeps.{ArcsLinked, ArcsReady}
 use Rattle.contexts.specs.Ahead.{Telling}
-use Rattle.contexts.specs.Pairs.{Live, Comparing, PairsJoined}
+use Rattle.contexts.specs.Joins.{Comparing, PairsJoined}
 use Rattle.contexts.proofs.AheadLaws.{all-ones}
 use Rattle.contexts.proofs.ForkLaws.{kept-forks}
 use Rattle.contexts.proofs.NearLaws.{distances-none, arcs-none, arcs-ready}

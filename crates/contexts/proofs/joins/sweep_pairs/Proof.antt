@@ -5,7 +5,7 @@ use native.Mathlib.Omega.{arith}
 use lib.ListN.{length}
 use Rattle.indexed.specs.Partitions.{Refines}
 use Rattle.partition.specs.Forests.{rootsOf}
-use Rattle.contexts.specs.Pairs.{Live, Comparing, Chains, ChainJoined, PairsJoined}
+use Rattle.contexts.specs.Joins.{Live, Comparing, Chains, ChainJoined, PairsJoined}
 use Rattle.contexts.proofs.JoinLaws.{pairs-none, pairs-more}
 use Rattle.contexts.proofs.joins.sweep_pairs.Statement.{statement}
 use Rattle.contexts.proofs.joins.sweep_pairs.Tie as tie

@@ -1,4 +1,4 @@
--- `pairs::link_arc` meets its contract. Assumes nothing.
+-- `chains::link_arc` meets its contract. Assumes nothing.
 use mathlib.Core.Path.{_≡_, refl, sym, ap, _∙_, subst}
 use Prim.Native.Nat.{ℕ, suc, _+_, _*_, _%_, _^_, _<_, _≤_}
 use native.Mathlib.Nat.{one-mul}
@@ -13,8 +13,8 @@ use Rattle.indexed.proofs.Suffixes.{parent-below}
 use Rattle.contexts.specs.Sweeps.{Linked}
 use Rattle.contexts.proofs.LinkLaws.{name-known, name-new, first-arc, linked-more}
 use Rattle.contexts.proofs.NearLaws.{arcs-known, arcs-placed}
-use Rattle.contexts.proofs.pairs.link_arc.Statement.{statement}
-use Rattle.contexts.proofs.pairs.link_arc.Tie as tie
+use Rattle.contexts.proofs.chains.link_arc.Statement.{statement}
+use Rattle.contexts.proofs.chains.link_arc.Tie as tie
 
 -- the function's entry, from where the group that the arc leaves is read
 abbrev entry : tie.After-class-above → tie.Start

@@ -1,11 +1,11 @@
--- `pairs::settled` meets its contract. Assumes nothing.
+-- `chains::settled` meets its contract. Assumes nothing.
 use mathlib.Core.Path.{refl, ap}
 use Prim.Native.Nat.{ℕ}
 use native.Mathlib.Omega.{arith}
 use lib.ListN.{getD}
 use borrow.Author.Needs.{needs}
-use Rattle.contexts.proofs.pairs.settled.Statement.{statement}
-use Rattle.contexts.proofs.pairs.settled.Tie as tie
+use Rattle.contexts.proofs.chains.settled.Statement.{statement}
+use Rattle.contexts.proofs.chains.settled.Tie as tie
 
 wide16-requires : tie.Need-wide16-requires
 wide16-requires c κs = search needs

@@ -1,4 +1,4 @@
--- `pairs::link_far` meets its contract. The invariant: the links of the arcs below v are settled, and the others as they came.
+-- `chains::link_far` meets its contract. The invariant: the links of the arcs below v are settled, and the others as they came.
 -- Assumes nothing.
 use mathlib.Core.Path.{_≡_, refl, sym, _∙_, subst}
 use Prim.Native.Nat.{ℕ, _-_, _<_, _≤_}
@@ -6,8 +6,8 @@ use native.Mathlib.Omega.{arith}
 use lib.ListN.{length, getD}
 use Rattle.indexed.proofs.Fills.{Filled, filled-none, filled-more, rest-kept}
 use Rattle.contexts.specs.Sweeps.{Settled}
-use Rattle.contexts.proofs.pairs.link_far.Statement.{statement}
-use Rattle.contexts.proofs.pairs.link_far.Tie as tie
+use Rattle.contexts.proofs.chains.link_far.Statement.{statement}
+use Rattle.contexts.proofs.chains.link_far.Tie as tie
 
 abbrev Inv-loop : tie.InvT-loop
 Inv-loop classes heads links₀ v₀ links v =

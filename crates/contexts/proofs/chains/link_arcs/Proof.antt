@@ -1,11 +1,11 @@
--- `pairs::link_arcs` meets its contract. The invariant: the arcs into the states below v are linked. Assumes nothing.
+-- `chains::link_arcs` meets its contract. The invariant: the arcs into the states below v are linked. Assumes nothing.
 use mathlib.Core.Path.{_≡_, refl, _∙_, subst}
 use Prim.Native.Nat.{ℕ, _-_, _<_, _≤_}
 use native.Mathlib.Omega.{arith}
 use lib.ListN.{length}
 use Rattle.contexts.specs.Sweeps.{ArcsLinked}
-use Rattle.contexts.proofs.pairs.link_arcs.Statement.{statement}
-use Rattle.contexts.proofs.pairs.link_arcs.Tie as tie
+use Rattle.contexts.proofs.chains.link_arcs.Statement.{statement}
+use Rattle.contexts.proofs.chains.link_arcs.Tie as tie
 
 abbrev Inv-loop : tie.InvT-loop
 Inv-loop j parents names classes old dist next₀ links₀ heads₀ v₀ next links heads v =

@@ -1,12 +1,12 @@
--- `pairs::place_arc` meets its contract. Assumes nothing.
+-- `chains::place_arc` meets its contract. Assumes nothing.
 use mathlib.Core.Path.{_≡_, refl, ap, _∙_, subst₂}
 use Prim.Native.Nat.{ℕ}
 use native.Mathlib.Omega.{arith}
 use lib.ListN.{getD, set}
 use borrow.Author.Needs.{needs}
 use Rattle.contexts.specs.Distances.{distanceOf}
-use Rattle.contexts.proofs.pairs.place_arc.Statement.{statement}
-use Rattle.contexts.proofs.pairs.place_arc.Tie as tie
+use Rattle.contexts.proofs.chains.place_arc.Statement.{statement}
+use Rattle.contexts.proofs.chains.place_arc.Tie as tie
 
 -- the function's entry, from where the distance of the arc's target is read
 abbrev entry : tie.After-wide8 → tie.Start
