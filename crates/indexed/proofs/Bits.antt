@@ -1,13 +1,12 @@
 -- The bits of a number: of a number with one bit set besides, that numbers with the same bits are equal, the bits that two numbers
--- have in common, the lowest bit, found and taken away, and the bits of a shifted number. Assumes nothing.
+-- have in common, and the bits of a shifted number. Assumes nothing.
 use mathlib.Core.Path.{_≡_, refl, sym, ap, _∙_, subst}
 use mathlib.Core.Logic.{_⊎_, inl, inr, ⊎-elim, _↔_}
 use Prim.Native.Nat.{ℕ, zero, suc, _+_, _-_, _*_, _/_, _%_, _^_, _<_, _≤_, max, min}
 use native.Mathlib.Nat.{zero-add, suc-add, mul-one, div-one, pow-suc}
 use native.Mathlib.Numerals.{add-one, one-add}
 use native.Mathlib.Omega.{arith}
-use lib.Bits.{bitAnd, bitOr, and-step, or-step, and-self, shifted-half}
-use lib.Count.{trailingZeros, under}
+use lib.Bits.{bitAnd, bitOr, and-step, or-step, shifted-half}
 use lib.Pow.{field, mod-mod-pow, shr-shr}
 use Rattle.model.proofs.Tests.{eq-dec}
 
@@ -165,50 +164,6 @@ bit-of-both a x y =
     let small-x : bit a x < 2 = bit-small a x in
     let small-y : bit a y < 2 = bit-small a y in
     (λ h. (omega arith, omega arith), λ h. omega (arith, h .0, h .1))
-
--- the zeros below a set bit are as many as its place
-pub lowest-bit : (d n : ℕ) → 0 < n → n < 2 ^ d → (trailingZeros d n < d) × (bit (trailingZeros d n) n ≡ 1)
-unfolding bit trailingZeros
-lowest-bit zero n some small = let z : ⊥ = omega arith in absurd z
-lowest-bit (suc d) n some small =
-    let double : 2 ^ suc d ≡ 2 ^ d * 2 = pow-suc 2 d in
-    go (n % 2) refl (λ half. lowest-bit d (n / 2) half (omega arith))
-  where
-    go :
-        (r : ℕ) → n % 2 ≡ r →
-        (0 < n / 2 → (trailingZeros d (n / 2) < d) × (bit (trailingZeros d (n / 2)) (n / 2) ≡ 1)) →
-        (under r (trailingZeros d (n / 2)) < suc d) × (bit (under r (trailingZeros d (n / 2))) n ≡ 1)
-    go zero e again =
-        let rest = again (omega arith) in
-        (omega (arith, rest .0), rest .1)
-    go (suc r) e again = (omega arith, omega arith)
-
--- a number without its lowest bit has all its other bits
-pub without-lowest :
-    (d n a : ℕ) → 0 < n → n < 2 ^ d → bit a n ≡ 1 → (a ≡ trailingZeros d n) ⊎ (bit a (bitAnd n (n - 1)) ≡ 1)
-unfolding bit trailingZeros
-without-lowest zero n a some small one = let z : ⊥ = omega arith in absurd z
-without-lowest (suc d) n a some small one =
-    let double : 2 ^ suc d ≡ 2 ^ d * 2 = pow-suc 2 d in
-    go (n % 2) refl a one (λ b half set. without-lowest d (n / 2) b half (omega arith) set)
-  where
-    go :
-        (r : ℕ) → n % 2 ≡ r → (a : ℕ) → bit a n ≡ 1 →
-        ((b : ℕ) → 0 < n / 2 → bit b (n / 2) ≡ 1 →
-        (b ≡ trailingZeros d (n / 2)) ⊎ (bit b (bitAnd (n / 2) (n / 2 - 1)) ≡ 1)) →
-        (a ≡ under r (trailingZeros d (n / 2))) ⊎ (bit a (bitAnd n (n - 1)) ≡ 1)
-    go zero e zero one again = let z : ⊥ = omega arith in absurd z
-    go zero e (suc b) one again =
-        let low : (n - 1) / 2 ≡ n / 2 - 1 = omega arith in
-        let half : bitAnd n (n - 1) / 2 ≡ bitAnd (n / 2) (n / 2 - 1) =
-        and-half n (n - 1) ∙ ap (λ (z : ℕ). bitAnd (n / 2) z) low in
-        ⊎-elim (λ same. inl (ap suc same)) (λ set. inr (ap (bit b) half ∙ set)) (again b (omega arith) one)
-    go (suc r) e zero one again = inl refl
-    go (suc r) e (suc b) one again =
-        let low : (n - 1) / 2 ≡ n / 2 = omega arith in
-        let half : bitAnd n (n - 1) / 2 ≡ n / 2 =
-        and-half n (n - 1) ∙ ap (λ (z : ℕ). bitAnd (n / 2) z) low ∙ and-self (n / 2) in
-        inr (ap (bit b) half ∙ one)
 
 -- a shift moves each bit up, and cutting off at k bits leaves those below
 bit-moved : (s a x : ℕ) → bit (s + a) (x * 2 ^ s) ≡ bit a x
