@@ -7,8 +7,8 @@ pub mod PopLaws
 pub mod QueueLaws
 pub mod FillLaws
 pub mod MergeLaws
+pub mod ReachLaws
 pub mod KindLaws
 pub mod SettleLaws
-pub mod PairLaws
 pub mod ForkLaws
 pub mod ForkRounds

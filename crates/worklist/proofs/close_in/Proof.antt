@@ -5,11 +5,10 @@ use mathlib.Core.List.{List}
 use Prim.Native.Nat.{ℕ}
 use native.Mathlib.Omega.{arith}
 use lib.ListN.{length}
-use Rattle.partition.specs.Forests.{rootsOf}
+use Rattle.partition.specs.Forests.{Forest}
 use Rattle.partition.proofs.ForestLaws.{flat-forest, forest-again}
 use Rattle.worklist.specs.Settling.{RoundClosed, JoinedUntil, Settling}
-use Rattle.worklist.proofs.SettleLaws.{settling-filled, settling-done}
-use Rattle.worklist.proofs.PairLaws.{settling-flat}
+use Rattle.worklist.proofs.SettleLaws.{settling-filled, settling-opened, settling-done, settled-flat}
 use borrow.Author.Needs.{needs}
 use Rattle.worklist.proofs.close_in.Statement.{statement}
 use Rattle.worklist.proofs.close_in.Tie as tie
@@ -25,39 +24,18 @@ fills-of c = c .before .before .before .before .before .before .before .before .
 abbrev settles-of : tie.After-flatten-arg → tie.After-settle
 settles-of c = c .before .before .before
 
--- with all lists filled every pair is pending, the partition given by its labels
-abbrev Pending : tie.After-fill-all → List ℕ → Type 0
-Pending fills groups =
-    let at = entry (fills .before) in
+-- with all lists filled every pair is pending
+filled :
+    (fills : tie.After-fill-all) → let at = entry (fills .before) in
     let last = fills .fill-all .last in
     Settling (length (at .args .groups .now)) (at .args .parents .now) (at .args .names .now) (at .args .numbers .now)
-    (at .args .keys .now) (at .args .more .now) (at .args .groups .now) groups (last .1 .1 .1 .1 .1 .1 .1 .0)
-    (last .1 .1 .1 .1 .1 .1 .1 .1 .0) (last .1 .1 .1 .1 .1 .1 .1 .1 .1 .0) (last .1 .1 .1 .1 .1 .1 .1 .1 .1 .1 .0)
-    (last .1 .1 .1 .1 .1 .1 .1 .1 .1 .1 .1 .0) (last .1 .1 .1 .1 .1 .1 .1 .1 .1 .1 .1 .1 .0)
-    (last .1 .1 .1 .1 .1 .1 .1 .1 .1 .1 .1 .1 .1 .0) (last .1 .1 .1 .1 .1 .1 .1 .1 .1 .1 .1 .1 .1 .1 .0) 0 (fills .fill-all .result)
-
--- as it is, and as a forest
-filled : (fills : tie.After-fill-all) → Pending fills (entry (fills .before) .args .groups .now)
-filled fills =
-    let at = entry (fills .before) in
-    let last = fills .fill-all .last in
-    settling-filled (length (at .args .groups .now)) (at .args .parents .now) (at .args .names .now) (at .args .numbers .now)
-    (at .args .keys .now) (at .args .more .now) (at .args .groups .now) (last .1 .1 .1 .1 .1 .1 .1 .0)
-    (last .1 .1 .1 .1 .1 .1 .1 .1 .0) (last .1 .1 .1 .1 .1 .1 .1 .1 .1 .0) (last .1 .1 .1 .1 .1 .1 .1 .1 .1 .1 .0)
-    (last .1 .1 .1 .1 .1 .1 .1 .1 .1 .1 .1 .0) (last .1 .1 .1 .1 .1 .1 .1 .1 .1 .1 .1 .1 .0) (at .args .firsts .now)
-    (at .args .seconds .now) (last .1 .1 .1 .1 .1 .1 .1 .1 .1 .1 .1 .1 .1 .0) (last .1 .1 .1 .1 .1 .1 .1 .1 .1 .1 .1 .1 .1 .1 .0)
-    (fills .fill-all .result) (at .pre .0) (at .pre .1 .1 .1 .1 .0) (fills .fill-all .ensures)
-
-pending : (fills : tie.After-fill-all) → Pending fills (rootsOf (entry (fills .before) .args .groups .now))
-pending fills =
-    let at = entry (fills .before) in
-    let last = fills .fill-all .last in
-    settling-flat (length (at .args .groups .now)) (at .args .parents .now) (at .args .names .now) (at .args .numbers .now)
     (at .args .keys .now) (at .args .more .now) (at .args .groups .now) (at .args .groups .now) (last .1 .1 .1 .1 .1 .1 .1 .0)
     (last .1 .1 .1 .1 .1 .1 .1 .1 .0) (last .1 .1 .1 .1 .1 .1 .1 .1 .1 .0) (last .1 .1 .1 .1 .1 .1 .1 .1 .1 .1 .0)
     (last .1 .1 .1 .1 .1 .1 .1 .1 .1 .1 .1 .0) (last .1 .1 .1 .1 .1 .1 .1 .1 .1 .1 .1 .1 .0)
     (last .1 .1 .1 .1 .1 .1 .1 .1 .1 .1 .1 .1 .1 .0) (last .1 .1 .1 .1 .1 .1 .1 .1 .1 .1 .1 .1 .1 .1 .0) 0 (fills .fill-all .result)
-    (filled fills)
+filled fills =
+    let at = entry (fills .before) in
+    settling-filled (at .pre .0) (at .pre .1 .1 .1 .1 .0) (fills .fill-all .ensures)
 
 fill-all-requires : tie.Need-fill-all-requires
 fill-all-requires c κs = entry c .pre
@@ -66,30 +44,23 @@ same-length : tie.Need-same-length
 same-length c = search needs
 
 returns : tie.Need-returns
-returns c =
-    let fills = c .before in
-    let at = entry (fills .before) in
-    let last = fills .fill-all .last in
-    settling-done (length (at .args .groups .now)) (at .args .parents .now) (at .args .names .now) (at .args .numbers .now)
-    (at .args .keys .now) (at .args .more .now) (at .args .groups .now) (at .args .groups .now) (last .1 .1 .1 .1 .1 .1 .1 .0)
-    (last .1 .1 .1 .1 .1 .1 .1 .1 .0) (last .1 .1 .1 .1 .1 .1 .1 .1 .1 .0) (last .1 .1 .1 .1 .1 .1 .1 .1 .1 .1 .0)
-    (last .1 .1 .1 .1 .1 .1 .1 .1 .1 .1 .1 .0) (last .1 .1 .1 .1 .1 .1 .1 .1 .1 .1 .1 .1 .0)
-    (last .1 .1 .1 .1 .1 .1 .1 .1 .1 .1 .1 .1 .1 .0) (last .1 .1 .1 .1 .1 .1 .1 .1 .1 .1 .1 .1 .1 .1 .0) 0 (fills .fill-all .result)
-    (omega (arith, c .if1 .taken)) (filled fills)
+returns c = settling-done (filled (c .before)) (omega (arith, c .if1 .taken))
 
 settle-requires : tie.Need-settle-requires
 settle-requires c κs =
     let fills = fills-of c in
-    let at = entry (fills .before) in (
-      flat-forest (length (at .args .groups .now)) (at .args .groups .now) (at .pre .0 .labelled),
-      (at .args .groups .now, pending fills),
+    let at = entry (fills .before) in
+    let ready = at .pre .0 in (
+      subst (λ (m : ℕ). Forest m (at .args .groups .now)) (sym (ready .parents-size))
+          (flat-forest (length (at .args .groups .now)) (at .args .groups .now) (ready .labelled)),
+      settling-opened (filled fills),
     )
 
 flatten-requires : tie.Need-flatten-requires
 flatten-requires c κs =
     let settles = settles-of c in
     let at = entry (fills-of (settles .before) .before) in
-    forest-again (length (at .args .groups .now)) (settles .settle .last .1 .1 .1 .1 .1 .0) (settles .settle .ensures .forest)
+    forest-again (length (at .args .parents .now)) (settles .settle .last .1 .1 .1 .1 .1 .0) (settles .settle .ensures .forest)
 
 same-length-2 : tie.Need-same-length-2
 same-length-2 c = search needs
@@ -98,14 +69,13 @@ returns-2 : tie.Need-returns-2
 returns-2 c =
     let flat = c .before .before in
     let settles = settles-of (flat .before) in
-    let fills = fills-of (settles .before) in
-    let at = entry (fills .before) in
+    let at = entry (fills-of (settles .before) .before) in
     subst
     (λ (groups : List ℕ).
     JoinedUntil (RoundClosed (length (at .args .groups .now)) (at .args .parents .now) (at .args .names .now)
     (at .args .numbers .now) (at .args .keys .now) (at .args .more .now))
     (length (at .args .groups .now)) (at .args .groups .now) groups)
-    (sym (flat .flatten .ensures)) (settles .settle .ensures .until (at .args .groups .now) (pending fills))
+    (sym (flat .flatten .ensures)) (settled-flat (at .pre .0) (settles .settle .ensures .until))
 
 pub close-in-spec : {M : Type 1} → statement M
 close-in-spec =

@@ -5,10 +5,8 @@ use Prim.Native.Nat.{_-_, _<_}
 use native.Mathlib.Omega.{arith}
 use lib.ListN.{length}
 use Rattle.partition.specs.Forests.{rootsOf}
-use Rattle.partition.proofs.ForestLaws.{forest-again}
 use Rattle.worklist.specs.Forks.{Closing}
 use Rattle.worklist.proofs.KindLaws.{own-size}
-use Rattle.worklist.proofs.ForkLaws.{closing-sorted}
 use Rattle.worklist.proofs.ForkRounds.{
   Joining,
   label-inside,
@@ -22,12 +20,12 @@ use Rattle.worklist.proofs.forks.join_all.Tie as tie
 
 abbrev Inv-loop : tie.InvT-loop
 Inv-loop names numbers joined groups₀ links₀ heads₀ firsts₀ seconds₀ tail end₀ v₀ groups links heads firsts seconds end v =
-    Joining (length groups₀) names numbers joined groups₀ groups links₀ heads₀ links heads firsts₀ seconds₀ firsts seconds tail
+    Joining (length names) names numbers joined groups₀ groups links₀ heads₀ links heads firsts₀ seconds₀ firsts seconds tail
     end v
 
 abbrev μ-loop : tie.MeasureT-loop
 μ-loop names numbers joined groups₀ links₀ heads₀ firsts₀ seconds₀ tail end₀ v₀ groups links heads firsts seconds end v =
-    length groups₀ - v
+    length names - v
 
 -- the function's entry from a turn of the loop, and the turn from the places in it
 abbrev entry : tie.At-loop Inv-loop μ-loop → tie.Start Inv-loop μ-loop
@@ -48,13 +46,13 @@ step-of c = c .before .before
 -- what holds here, with the parents that the entry tells
 now-closing :
     (here : tie.At-loop Inv-loop μ-loop) → let at = entry here in
-    Closing (length (at .args .groups .now)) (at .pre .1 .1 .0) (at .args .names .now) (at .args .numbers .now)
+    Closing (length (at .args .names .now)) (at .pre .1 .1 .0) (at .args .names .now) (at .args .numbers .now)
     (at .args .joined .now) (rootsOf (here .loop .groups)) (here .loop .links) (here .loop .heads) (here .loop .firsts)
     (here .loop .seconds) (at .args .tail) (here .loop .end)
 now-closing here = let at = entry here in here .loop .inv .closing (at .pre .1 .1 .0) (at .pre .1 .1 .1)
 
 -- v is a state, and there are at most 512
-inside-of : (turn : tie.In-loop Inv-loop μ-loop) → turn .before .loop .v < length (entry (turn .before) .args .groups .now)
+inside-of : (turn : tie.In-loop Inv-loop μ-loop) → turn .before .loop .v < length (entry (turn .before) .args .names .now)
 inside-of turn = omega (arith, turn .loop-test .taken, turn .before .loop .inv .forest .size)
 
 few-of : (turn : tie.In-loop Inv-loop μ-loop) → turn .before .loop .v < 512
@@ -66,11 +64,7 @@ joined-inside :
 joined-inside turn = omega (arith, inside-of turn, entry (turn .before) .pre .1 .0 .size)
 
 loop-holds : tie.Need-loop-holds Inv-loop μ-loop
-loop-holds c =
-    let at = c .before .before .before .before in
-    joining-none (length (at .args .groups .now)) (at .args .names .now) (at .args .numbers .now) (at .args .joined .now)
-    (at .args .groups .now) (at .args .links .now) (at .args .heads .now) (at .args .firsts .now) (at .args .seconds .now)
-    (at .args .tail) (at .pre .0)
+loop-holds c = joining-none (c .before .before .before .before .pre .0)
 
 mul-if1 : tie.Need-mul-if1 Inv-loop μ-loop
 mul-if1 c = omega (arith, few-of c)
@@ -94,11 +88,7 @@ loop-again : tie.Need-loop-again Inv-loop μ-loop
 loop-again c =
     let turn = test-of (c .before) in
     let here = turn .before in
-    let at = entry here in
-    joining-skipped (length (at .args .groups .now)) (at .args .names .now) (at .args .numbers .now) (at .args .joined .now)
-    (at .args .groups .now) (at .args .links .now) (at .args .heads .now) (at .args .firsts .now) (at .args .seconds .now)
-    (at .args .tail) (here .loop .groups) (here .loop .links) (here .loop .heads) (here .loop .firsts) (here .loop .seconds)
-    (here .loop .end) (here .loop .v) (at .pre .1 .0) (here .loop .inv) (inside-of turn) (omega (arith, c .if1 .taken))
+    joining-skipped (entry here .pre .1 .0) (here .loop .inv) (inside-of turn) (omega (arith, c .if1 .taken))
 
 mul-wide16 : tie.Need-mul-wide16 Inv-loop μ-loop
 mul-wide16 c = omega (arith, few-of (test-of (c .before)))
@@ -114,19 +104,19 @@ join-requires c κs =
     let read = read-of c in
     let turn = test-of (apart-of read .before) in
     let here = turn .before in
-    let at = entry here in
-    let closing = now-closing here in
-    let size = here .loop .inv .forest .size in
-    let label =
-    label-inside (length (at .args .groups .now)) (at .args .joined .now) (here .loop .v) (at .pre .1 .0) (inside-of turn) in (
-      forest-again (length (at .args .groups .now)) (here .loop .groups) (here .loop .inv .forest),
+    let closing = now-closing here in (
+      here .loop .inv .forest,
       (
-        closing-sorted (length (at .args .groups .now)) (at .pre .1 .1 .0) (at .args .names .now) (at .args .numbers .now)
-            (here .loop .groups) (at .args .joined .now) (rootsOf (here .loop .groups)) (here .loop .links) (here .loop .heads)
-            (here .loop .firsts) (here .loop .seconds) (at .args .tail) (here .loop .end) size closing,
+        (closing .rows, closing .kind .sorted, closing .room),
         (
-          own-size (length (at .args .groups .now)) (at .args .numbers .now) (closing .ready .own) ∙ sym size,
-          (closing .queue, (turn .loop-test .taken, omega (arith, size, read .wide16 .ensures, label))),
+          own-size (closing .ready .own),
+          (
+            closing .reached .queue,
+            (
+              inside-of turn,
+              omega (arith, read .wide16 .ensures, label-inside (here .loop .v) (entry here .pre .1 .0) (inside-of turn)),
+            ),
+          ),
         ),
       ),
     )
@@ -143,27 +133,15 @@ loop-again-2 c =
     let read = read-of (step .before) in
     let turn = test-of (apart-of read .before) in
     let here = turn .before in
-    let at = entry here in
-    joining-more (length (at .args .groups .now)) (at .args .names .now) (at .args .numbers .now) (at .args .joined .now)
-    (at .args .groups .now) (at .args .links .now) (at .args .heads .now) (at .args .firsts .now) (at .args .seconds .now)
-    (at .args .tail) (here .loop .groups) (here .loop .links) (here .loop .heads) (here .loop .firsts) (here .loop .seconds)
-    (here .loop .end) (here .loop .v) (at .pre .1 .0) (here .loop .inv) (step .join .last .1 .1 .0)
-    (step .join .last .1 .1 .1 .0) (step .join .last .1 .1 .1 .1 .0) (step .join .last .1 .1 .1 .1 .1 .0)
-    (step .join .last .1 .1 .1 .1 .1 .1 .0) (read .wide16 .result) (step .join .result) (inside-of turn) (read .wide16 .ensures)
-    (step .join .ensures)
+    joining-more (entry here .pre .1 .0) (here .loop .inv) (inside-of turn) (read .wide16 .ensures) (step .join .ensures)
 
 same-length : tie.Need-same-length Inv-loop μ-loop
-same-length c = c .before .loop .inv .forest .size
+same-length c = c .before .loop .inv .forest .size ∙ sym (entry (c .before) .pre .0 .size)
 
 returns : tie.Need-returns Inv-loop μ-loop
 returns c =
     let here = c .before in
-    let at = entry here in
-    joining-all (length (at .args .groups .now)) (at .args .names .now) (at .args .numbers .now) (at .args .joined .now)
-    (at .args .groups .now) (at .args .links .now) (at .args .heads .now) (at .args .firsts .now) (at .args .seconds .now)
-    (at .args .tail) (here .loop .groups) (here .loop .links) (here .loop .heads) (here .loop .firsts) (here .loop .seconds)
-    (here .loop .end) (here .loop .v) (at .pre .1 .0) (here .loop .inv)
-    (omega (arith, c .loop-test .left, here .loop .inv .forest .size))
+    joining-all (entry here .pre .1 .0) (here .loop .inv) (omega (arith, c .loop-test .left, here .loop .inv .forest .size))
 
 pub join-all-spec : {M : Type 1} → statement M
 join-all-spec =
