@@ -15,9 +15,10 @@ use Rattle.worklist.specs.Lists.{Sorted, Filled, Merged}
 use Rattle.worklist.specs.Settling.{QueueRoom}
 use Rattle.worklist.specs.Forks.{ForksReady, Kept, Closing, JoinedPair, KeptClosed}
 use Rattle.worklist.proofs.QueueLaws.{grew-none}
+use Rattle.worklist.proofs.SizeLaws.{own-below}
 use Rattle.worklist.proofs.ReachLaws.{One, reached-none, reached-joined, reached-more, reached-next, reached-done}
 use Rattle.worklist.proofs.KindLaws.{PutInto, put-roots, kind-more, kind-filled, kind-next, kind-closed, kind-merged}
-use Rattle.worklist.proofs.KindLaws.{filled-added, merged-added, own-below}
+use Rattle.worklist.proofs.KindLaws.{filled-added, merged-added}
 
 module _ {n : ℕ} {parents names numbers : List ℕ} where
   -- ---- how a round starts
@@ -95,7 +96,7 @@ module _ {n : ℕ} {parents names numbers : List ℕ} where
           rows = closing .rows;
           ready = closing .ready;
           reached = reached-next (closing .reached) due;
-          kind = kind-next (closing .reached) (closing .kind) (closing .ready .parents-below) due one;
+          kind = kind-next (closing .reached) due one (closing .kind);
           room = closing .room;
         }
 

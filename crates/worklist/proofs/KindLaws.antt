@@ -1,30 +1,22 @@
 -- Laws of arcs of one kind while pairs are pending: what filling their lists, taking a pair, and merging the lists of two groups
 -- keep, that every closed partition joins the pairs that are queued by it, and that nothing pending means closed. Assumes nothing.
 use mathlib.Core.Path.{_≡_, sym, ap, _∙_, subst}
-use mathlib.Core.Logic.{_⊎_, inl, inr}
+use mathlib.Core.Logic.{_⊎_, inl, inr, ⊎-elim}
 use mathlib.Core.List.{List}
 use Prim.Native.Nat.{ℕ, suc, _<_, _≤_}
 use native.Mathlib.Omega.{arith}
 use lib.ListN.{length, getD}
 use Rattle.model.specs.Limits.{name-limit, state-limit}
 use Rattle.model.proofs.Tests.{eq-dec}
-use Rattle.model.specs.Lists.{numbersFrom}
 use Rattle.indexed.specs.Partitions.{Refines, KeyClosed}
-use Rattle.indexed.proofs.Keys.{Relabel, moved, kept, relabelled-cases, relabelled-coarser, number-at, numbers-length}
+use Rattle.indexed.proofs.Keys.{Relabel, moved, kept, relabelled-cases, relabelled-coarser}
 use Rattle.partition.specs.Forests.{Forest, rootsOf, JoinedRoots}
 use Rattle.partition.proofs.ForestLaws.{roots-length}
 use Rattle.worklist.specs.Lists.{Queued, Grew, StandsFor, Filled, Merged}
 use Rattle.worklist.specs.Settling.{Joins, Covered, Kind, Reached}
 use Rattle.worklist.proofs.QueueLaws.{grew-more}
+use Rattle.worklist.proofs.FillLaws.{OfTwoArcs}
 use Rattle.worklist.proofs.ReachLaws.{One, Added, each-shorter, each-first}
-
--- the states' own numbers: how many they are, and that each is a state
-pub own-size : {n : ℕ} {numbers : List ℕ} → numbers ≡ numbersFrom n 0 → length numbers ≡ n
-own-size {n} own = ap length own ∙ numbers-length n 0
-
-pub own-below : {n : ℕ} {numbers : List ℕ} → numbers ≡ numbersFrom n 0 → (v : ℕ) → v < n → getD numbers v 0 < n
-own-below {n} own v h =
-    subst (λ (x : ℕ). x < n) (sym (ap (λ (l : List ℕ). getD l v 0) own ∙ number-at n v h)) h
 
 -- an arc that stands for another has its outs in one group with that one's
 stands-one :
@@ -41,6 +33,29 @@ stands-one {outs = outs} {u = u} {firsts = firsts} {seconds = seconds} {from = f
     go (inr q) =
         ap (λ (x : ℕ). getD others x 0) (sym (q .first)) ∙ joins (q .place) (q .low) (q .high)
         ∙ ap (λ (x : ℕ). getD others x 0) (q .second)
+
+-- pairs of outs of two arcs of one key into one group are joined by every coarser partition that is closed
+matched-added :
+    (ins outs keys : List ℕ) {Closed : List ℕ → Type 0} {n : ℕ} {groups firsts seconds : List ℕ} {tail tail′ : ℕ} →
+    ((v : ℕ) → v < n → getD ins v 0 < n) → ((v : ℕ) → v < n → getD outs v 0 < n) →
+    ((closed : List ℕ) → Closed closed → KeyClosed n ins outs keys closed) →
+    ((i : ℕ) → tail ≤ i → i < tail′ → OfTwoArcs n ins outs keys groups firsts seconds i) →
+    Added Closed n groups firsts seconds tail tail′
+matched-added ins outs keys {n = n} ins-below outs-below by matched =
+    record {
+      inside = λ i low high.
+          let pair = matched i low high in (
+            subst (λ (x : ℕ). x < n) (sym (pair .7)) (outs-below (pair .0) (pair .2)),
+            subst (λ (x : ℕ). x < n) (sym (pair .8)) (outs-below (pair .1) (pair .3)),
+          );
+      joined = λ closed is refines i low high.
+          let pair = matched i low high in
+          ap (λ (x : ℕ). getD closed x 0) (pair .7)
+          ∙ by closed is (pair .0) (pair .1) (pair .2) (pair .3) (omega (arith, pair .4, pair .5)) (pair .5)
+          (refines (getD ins (pair .0) 0) (getD ins (pair .1) 0) (ins-below (pair .0) (pair .2)) (ins-below (pair .1) (pair .3))
+          (pair .6))
+          ∙ ap (λ (x : ℕ). getD closed x 0) (sym (pair .8));
+    }
 
 -- group `from` is put into group `to`
 pub record PutInto (n to from : ℕ) (groups groups′ : List ℕ) : Type 0 where
@@ -89,6 +104,21 @@ module _ {n : ℕ} {ins outs keys : List ℕ} where
             };
       }
 
+  -- the first pair is in one group: it is pending no more
+  pub kind-next :
+      {Closed : List ℕ → Type 0} {start groups rows links heads firsts seconds : List ℕ} {done tail : ℕ} →
+      Reached Closed n start groups firsts seconds done tail → done < tail →
+      One groups (getD firsts done 0) (getD seconds done 0) →
+      Kind n ins outs keys groups rows links heads (Joins firsts seconds done tail) →
+      Kind n ins outs keys groups rows links heads (Joins firsts seconds (suc done) tail)
+  kind-next {firsts = firsts} {seconds} {done} {tail} reached due one kind =
+      let here = reached .inside done (omega arith) due in
+      kind-more
+      (λ others refines joins.
+      each-first (One others) firsts seconds done tail
+      (refines (getD firsts done 0) (getD seconds done 0) (here .0) (here .1) one) joins)
+      kind
+
   module _ {groups links′ heads′ firsts seconds firsts′ seconds′ : List ℕ} {tail tail′ : ℕ}
       (filled : Filled n ins outs keys groups links′ heads′ firsts seconds firsts′ seconds′ tail tail′) where
     -- after filling, with pairs pending from an earlier one to a later
@@ -118,38 +148,12 @@ module _ {n : ℕ} {ins outs keys : List ℕ} where
         {Closed : List ℕ → Type 0} → ((v : ℕ) → v < n → getD ins v 0 < n) → ((v : ℕ) → v < n → getD outs v 0 < n) →
         ((closed : List ℕ) → Closed closed → KeyClosed n ins outs keys closed) →
         Added Closed n groups firsts′ seconds′ tail tail′
-    filled-added ins-below outs-below by =
-        record {
-          inside = λ i low high.
-              let pair = filled .matched i low high in (
-                subst (λ (x : ℕ). x < n) (sym (pair .7)) (outs-below (pair .0) (pair .2)),
-                subst (λ (x : ℕ). x < n) (sym (pair .8)) (outs-below (pair .1) (pair .3)),
-              );
-          joined = λ closed is refines i low high.
-              let pair = filled .matched i low high in
-              ap (λ (x : ℕ). getD closed x 0) (pair .7)
-              ∙ by closed is (pair .0) (pair .1) (pair .2) (pair .3) (omega (arith, pair .4, pair .5)) (pair .5)
-              (refines (getD ins (pair .0) 0) (getD ins (pair .1) 0) (ins-below (pair .0) (pair .2))
-              (ins-below (pair .1) (pair .3)) (pair .6))
-              ∙ ap (λ (x : ℕ). getD closed x 0) (sym (pair .8));
-        }
+    filled-added ins-below outs-below by = matched-added ins outs keys ins-below outs-below by (filled .matched)
 
   module _ {Closed : List ℕ → Type 0} {start groups rows links heads firsts seconds : List ℕ} {done tail : ℕ}
       (reached : Reached Closed n start groups firsts seconds done tail)
       (kind : Kind n ins outs keys groups rows links heads (Joins firsts seconds done tail))
       (ins-below : (v : ℕ) → v < n → getD ins v 0 < n) where
-    -- the first pair is in one group: it is pending no more
-    pub kind-next :
-        done < tail → One groups (getD firsts done 0) (getD seconds done 0) →
-        Kind n ins outs keys groups rows links heads (Joins firsts seconds (suc done) tail)
-    kind-next due one =
-        let here = reached .inside done (omega arith) due in
-        kind-more
-        (λ others refines joins.
-        each-first (One others) firsts seconds done tail
-        (refines (getD firsts done 0) (getD seconds done 0) (here .0) (here .1) one) joins)
-        kind
-
     -- nothing pending: closed
     pub kind-closed : tail ≤ done → n ≤ state-limit → KeyClosed n ins outs keys groups
     kind-closed end few v w hv hw below same-key one =
@@ -198,26 +202,14 @@ module _ {n : ℕ} {ins outs keys : List ℕ} where
               (u : ℕ) → u < n → getD (merged .rows′) u 0 < state-limit → (getD rows u 0 ≡ from) ⊎ (getD rows u 0 ≡ from → ⊥) →
               Relabel to from (getD groups (getD ins u 0) 0) (getD groups′ (getD ins u 0) 0) →
               getD (merged .rows′) u 0 ≡ getD groups′ (getD ins u 0) 0
-          placed-at u h listed (inl e) label =
-              let was = sym (kind .placed u h (omega (arith, put .low-from))) ∙ e in
-              row-moved (merged .moved u h e) (is-to u (inr was) label)
-            where
-              row-moved :
-                  (getD (merged .rows′) u 0 ≡ to) ⊎ (getD (merged .rows′) u 0 ≡ state-limit) →
-                  getD groups′ (getD ins u 0) 0 ≡ to → getD (merged .rows′) u 0 ≡ getD groups′ (getD ins u 0) 0
-              row-moved (inl here) now = here ∙ sym now
-              row-moved (inr none) now = let z : ⊥ = omega arith in absurd z
-          placed-at u h listed (inr d) label =
-              let same : getD (merged .rows′) u 0 ≡ getD rows u 0 = merged .kept u h d in
-              let was = kind .placed u h (omega arith) in
-              row-kept was label same
-            where
-              row-kept :
-                  getD rows u 0 ≡ getD groups (getD ins u 0) 0 →
-                  Relabel to from (getD groups (getD ins u 0) 0) (getD groups′ (getD ins u 0) 0) →
-                  getD (merged .rows′) u 0 ≡ getD rows u 0 → getD (merged .rows′) u 0 ≡ getD groups′ (getD ins u 0) 0
-              row-kept was (moved e f) same = absurd (d (was ∙ e))
-              row-kept was (kept e f) same = same ∙ was ∙ sym f
+          placed-at u h listed (inl e) (moved was now) =
+              ⊎-elim (λ here. here ∙ sym now) (λ none. let z : ⊥ = omega arith in absurd z) (merged .moved u h e)
+          placed-at u h listed (inl e) (kept other now) =
+              absurd (other (sym (kind .placed u h (omega (arith, put .low-from))) ∙ e))
+          placed-at u h listed (inr d) (moved was now) =
+              absurd (d (kind .placed u h (omega (arith, merged .kept u h d)) ∙ was))
+          placed-at u h listed (inr d) (kept other now) =
+              merged .kept u h d ∙ kind .placed u h (omega (arith, merged .kept u h d)) ∙ sym now
 
           -- what joins the pairs pending then and is coarser joins those pending before
           old-one :
@@ -262,24 +254,20 @@ module _ {n : ℕ} {ins outs keys : List ℕ} where
           ((closed : List ℕ) → Closed closed → KeyClosed n ins outs keys closed) →
           Added Closed n groups′ firsts₂ seconds₂ tail₁ tail₂
       merged-added outs-below by =
-          record {
-            inside = λ i low high.
-                let pair = merged .matched i low high in (
-                  subst (λ (x : ℕ). x < n) (sym (pair .7)) (outs-below (pair .0) (pair .2)),
-                  subst (λ (x : ℕ). x < n) (sym (pair .8)) (outs-below (pair .1) (pair .3)),
-                );
-            joined = λ closed is refines i low high.
-                let pair = merged .matched i low high in
-                let listed-c : getD rows (pair .0) 0 < state-limit = omega (arith, pair .4, put .low-to) in
-                let listed-u : getD rows (pair .1) 0 < state-limit = omega (arith, pair .5, put .low-from) in
-                ap (λ (x : ℕ). getD closed x 0) (pair .7)
-                ∙ by closed is (pair .0) (pair .1) (pair .2) (pair .3) (kind .sorted .keyed (pair .0) (pair .2) listed-c)
-                (pair .6)
-                (refines (getD ins (pair .0) 0) (getD ins (pair .1) 0) (ins-below (pair .0) (pair .2))
-                (ins-below (pair .1) (pair .3))
-                (is-to (pair .0) (inl (sym (kind .placed (pair .0) (pair .2) listed-c) ∙ pair .4))
-                (new-label (pair .0) (pair .2))
+          matched-added ins outs keys ins-below outs-below by
+          (λ i low high.
+          let pair = merged .matched i low high in
+          let listed-c : getD rows (pair .0) 0 < state-limit = omega (arith, pair .4, put .low-to) in
+          let listed-u : getD rows (pair .1) 0 < state-limit = omega (arith, pair .5, put .low-from) in (
+            pair .0,
+            pair .1,
+            pair .2,
+            pair .3,
+            kind .sorted .keyed (pair .1) (pair .3) listed-u,
+            pair .6,
+            is-to (pair .0) (inl (sym (kind .placed (pair .0) (pair .2) listed-c) ∙ pair .4)) (new-label (pair .0) (pair .2))
                 ∙ sym (is-to (pair .1) (inr (sym (kind .placed (pair .1) (pair .3) listed-u) ∙ pair .5))
-                (new-label (pair .1) (pair .3)))))
-                ∙ ap (λ (x : ℕ). getD closed x 0) (sym (pair .8));
-          }
+                (new-label (pair .1) (pair .3))),
+            pair .7,
+            pair .8,
+          ))

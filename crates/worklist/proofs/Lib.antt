@@ -7,6 +7,7 @@ pub mod PopLaws
 pub mod QueueLaws
 pub mod FillLaws
 pub mod MergeLaws
+pub mod SizeLaws
 pub mod ReachLaws
 pub mod KindLaws
 pub mod SettleLaws

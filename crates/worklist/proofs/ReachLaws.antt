@@ -1,6 +1,6 @@
 -- Laws of a partition reached with pairs pending in the queue, whatever closed means: none pending yet, two groups made one, pairs
 -- added that every closed partition joins, the first pair taken, and none left. Assumes nothing.
-use mathlib.Core.Path.{_≡_, refl, sym, _∙_, subst, subst₂}
+use mathlib.Core.Path.{_≡_, refl, sym, subst, subst₂}
 use mathlib.Core.Logic.{_⊎_, inl, inr}
 use mathlib.Core.Bool.{Bool, true, false}
 use mathlib.Core.List.{List}
@@ -14,6 +14,7 @@ use Rattle.indexed.specs.Partitions.{Refines, Labelled}
 use Rattle.partition.specs.Joins.{JoinedTwo}
 use Rattle.worklist.specs.Lists.{Grew}
 use Rattle.worklist.specs.Settling.{JoinedUntil, Joins, QueueRoom, Reached}
+use Rattle.worklist.proofs.QueueLaws.{queue-grew}
 
 -- ---- pairs of the queue
 
@@ -62,16 +63,6 @@ each-first P firsts seconds done tail first each i low high = go (eq-dec i done)
     go : (i ≡ done) ⊎ (i ≡ done → ⊥) → P (getD firsts i 0) (getD seconds i 0)
     go (inl e) = subst (λ (j : ℕ). P (getD firsts j 0) (getD seconds j 0)) (sym e) first
     go (inr d) = each i (omega arith) high
-
--- a queue that grew keeps its arrays' lengths
-pub queue-grew :
-    {firsts seconds firsts′ seconds′ : List ℕ} {tail tail′ : ℕ} → Grew firsts seconds firsts′ seconds′ tail tail′ →
-    QueueRoom firsts seconds → QueueRoom firsts′ seconds′
-queue-grew grew queue =
-    record {
-      firsts-size = grew .firsts-size ∙ queue .firsts-size;
-      seconds-size = grew .seconds-size ∙ queue .seconds-size;
-    }
 
 -- ---- what is reached
 
@@ -143,7 +134,7 @@ module _ {Closed : List ℕ → Type 0} {n : ℕ} {start groups firsts seconds :
           queue = reached .queue;
         }
 
-    -- closed, and no pair matters any more: joined until closed
+    -- closed: joined until closed
     pub reached-done : Refines n start groups → Closed groups → JoinedUntil Closed n start groups
     reached-done coarser closed =
         record {

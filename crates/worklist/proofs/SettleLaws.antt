@@ -1,73 +1,23 @@
 -- Laws of settling, all three kinds of arcs together: how it starts, what a pair joined or skipped keeps, and that it ends closed.
 -- Assumes nothing.
-use mathlib.Core.Path.{_≡_, sym, subst, subst₂}
+use mathlib.Core.Path.{_≡_, sym, _∙_, subst, subst₂}
 use mathlib.Core.Bool.{Bool}
 use mathlib.Core.List.{List}
-use Prim.Native.Nat.{ℕ, suc, _+_, _<_, _≤_}
+use Prim.Native.Nat.{ℕ, suc, _<_, _≤_}
 use native.Mathlib.Omega.{arith}
 use lib.ListN.{length, getD}
-use Rattle.model.specs.Limits.{state-limit}
-use Rattle.indexed.specs.Partitions.{Refines, Labelled}
+use Rattle.indexed.specs.Partitions.{Refines}
 use Rattle.partition.specs.Joins.{JoinedTwo}
 use Rattle.partition.specs.Forests.{Forest, rootsOf, JoinedRoots}
 use Rattle.partition.proofs.ForestLaws.{flat-roots}
 use Rattle.partition.proofs.RootLaws.{roots-two}
-use Rattle.worklist.specs.Lists.{pair-limit, Sorted, Merged}
-use Rattle.worklist.specs.Settling.{RoundReady, RoundClosed, JoinedUntil, NoLists, QueueRoom, FilledAll, ListedAll, MergedAll}
+use Rattle.worklist.specs.Settling.{RoundReady, RoundClosed, JoinedUntil, QueueRoom, FilledAll, ListedAll, MergedAll}
 use Rattle.worklist.specs.Settling.{Settling, SettledAt}
 use Rattle.worklist.proofs.QueueLaws.{grew-none, grew-more}
 use Rattle.worklist.proofs.ReachLaws.{One, reached-none, reached-joined, reached-more, reached-next, reached-done}
 use Rattle.worklist.proofs.KindLaws.{put-roots, kind-filled, kind-next, kind-closed, kind-merged, filled-added, merged-added}
-use Rattle.worklist.proofs.KindLaws.{PutInto, own-below}
-
--- what filling asks, in its order
-pub fill-asked :
-    (ins outs keys groups links heads firsts seconds : List ℕ) (tail : ℕ) → length groups ≤ state-limit →
-    length ins ≡ length groups → length outs ≡ length groups → length keys ≡ length groups →
-    ((v : ℕ) → v < length groups → getD ins v 0 < length groups) → Labelled (length groups) groups →
-    tail + length groups ≤ pair-limit → NoLists links heads → QueueRoom firsts seconds →
-    (length groups ≤ state-limit)
-    × ((length ins ≡ length groups)
-    × ((length outs ≡ length groups)
-    × ((length keys ≡ length groups)
-    × (((v : ℕ) → v < length groups → getD ins v 0 < length groups)
-    × (Labelled (length groups) groups
-    × (((g : ℕ) → getD heads g 0 ≡ 0)
-    × ((tail + length groups ≤ pair-limit)
-    × ((length links ≡ state-limit)
-    × ((length heads ≡ state-limit) × ((length firsts ≡ pair-limit) × (length seconds ≡ pair-limit)))))))))))
-fill-asked ins outs keys groups links heads firsts seconds tail few sized-ins sized-outs sized-keys below labelled room none
-    queue =
-    let sizes : (length firsts ≡ pair-limit) × (length seconds ≡ pair-limit) = (queue .firsts-size, queue .seconds-size) in
-    let lists : (length links ≡ state-limit)
-    × ((length heads ≡ state-limit) × ((length firsts ≡ pair-limit) × (length seconds ≡ pair-limit))) =
-    (none .links-size, (none .heads-size, sizes)) in
-    (few, (sized-ins, (sized-outs, (sized-keys, (below, (labelled, (none .empty, (room, lists))))))))
-
--- lists by the number of their keys
-pub sorted-by-keys :
-    {n : ℕ} {keys rows links heads : List ℕ} → Sorted n keys rows links heads → Sorted (length keys) keys rows links heads
-sorted-by-keys {keys = keys} {rows} {links} {heads} sorted =
-    subst (λ (m : ℕ). Sorted m keys rows links heads) (sym (sorted .keys-size)) sorted
-
--- lists merged, by the number of states
-pub merged-by-states :
-    {n : ℕ} {outs keys rows links heads : List ℕ} {to from : ℕ} {links′ heads′ firsts seconds firsts′ seconds′ : List ℕ}
-    {tail tail′ : ℕ} → Sorted n keys rows links heads →
-    (Sorted (length keys) keys rows links heads →
-    Merged (length keys) outs keys rows to from links′ heads′ firsts seconds firsts′ seconds′ tail tail′) →
-    Merged n outs keys rows to from links′ heads′ firsts seconds firsts′ seconds′ tail tail′
-merged-by-states {outs = outs} {keys} {rows} {to = to} {from} {links′} {heads′} {firsts} {seconds} {firsts′} {seconds′} {tail}
-    {tail′} sorted merged =
-    subst (λ (m : ℕ). Merged m outs keys rows to from links′ heads′ firsts seconds firsts′ seconds′ tail tail′)
-    (sorted .keys-size) (merged (sorted-by-keys sorted))
-
--- roots by the number of states
-pub roots-by-states :
-    {n : ℕ} {above above′ : List ℕ} {v w to from : ℕ} → Forest n above → JoinedRoots (length above) above above′ v w to from →
-    JoinedRoots n above above′ v w to from
-roots-by-states {above = above} {above′} {v} {w} {to} {from} forest roots =
-    subst (λ (m : ℕ). JoinedRoots m above above′ v w to from) (forest .size) roots
+use Rattle.worklist.proofs.KindLaws.{PutInto}
+use Rattle.worklist.proofs.SizeLaws.{own-below}
 
 module _ {n : ℕ} {parents names numbers keys more : List ℕ} where
   -- all lists filled: every pair is pending
@@ -111,13 +61,13 @@ module _ {n : ℕ} {parents names numbers keys more : List ℕ} where
 
   -- and what it ends with, the other way round
   pub settled-flat :
-      {groups groups′ : List ℕ} → RoundReady n parents names numbers keys more groups →
-      JoinedUntil (RoundClosed (length parents) parents names numbers keys more) (length parents) (rootsOf groups) groups′ →
+      {groups labels groups′ : List ℕ} → RoundReady n parents names numbers keys more groups → groups′ ≡ labels →
+      JoinedUntil (RoundClosed (length parents) parents names numbers keys more) (length parents) (rootsOf groups) labels →
       JoinedUntil (RoundClosed n parents names numbers keys more) n groups groups′
-  settled-flat {groups} {groups′} ready until =
-      subst₂
-      (λ (m : ℕ) (labels : List ℕ). JoinedUntil (RoundClosed m parents names numbers keys more) m labels groups′)
-      (ready .parents-size) (flat-roots n groups (ready .labelled)) until
+  settled-flat {groups} {labels} ready flat until =
+      subst (λ (l : List ℕ). JoinedUntil (RoundClosed n parents names numbers keys more) n groups l) (sym flat)
+      (subst₂ (λ (m : ℕ) (l : List ℕ). JoinedUntil (RoundClosed m parents names numbers keys more) m l labels)
+      (ready .parents-size) (flat-roots n groups (ready .labelled)) until)
 
   module _ {start groups fl fh bl bh ml mh firsts seconds : List ℕ} {done tail : ℕ}
       (settling : Settling n parents names numbers keys more start groups fl fh bl bh ml mh firsts seconds done tail) where
@@ -148,9 +98,9 @@ module _ {n : ℕ} {parents names numbers keys more : List ℕ} where
           ready = settling .ready;
           coarser = settling .coarser;
           reached = reached-next (settling .reached) due;
-          forks = kind-next (settling .reached) (settling .forks) (settling .ready .parents-below) due one;
-          backs = kind-next (settling .reached) (settling .backs) below due one;
-          others = kind-next (settling .reached) (settling .others) below due one;
+          forks = kind-next (settling .reached) due one (settling .forks);
+          backs = kind-next (settling .reached) due one (settling .backs);
+          others = kind-next (settling .reached) due one (settling .others);
           room = settling .room;
         }
 
@@ -201,19 +151,11 @@ module _ {n : ℕ} {parents names numbers keys more : List ℕ} where
           room = omega (arith, settling .room, all .forks .counted, all .backs .counted, all .others .counted);
         }
 
--- ---- the pair at `done`, by the roots of its states
+-- ---- the pair at `done`, by the roots of its states v and w
 
--- the roots joined, by the number of states and the place in the queue
-pub pair-roots :
-    (firsts seconds : List ℕ) (done : ℕ) {n : ℕ} {above above′ : List ℕ} {v w to from : ℕ} → Forest n above →
-    v ≡ getD firsts done 0 → w ≡ getD seconds done 0 → JoinedRoots (length above) above above′ v w to from →
-    JoinedRoots n above above′ (getD firsts done 0) (getD seconds done 0) to from
-pair-roots firsts seconds done {n} {above} {above′} {to = to} {from} forest first second roots =
-    subst₂ (λ (x y : ℕ). JoinedRoots n above above′ x y to from) first second (roots-by-states forest roots)
-
-module _ {n : ℕ} {parents names numbers keys more above above′ fl fh bl bh ml mh firsts seconds : List ℕ} {done tail to from : ℕ}
-    (forest : Forest n above) (due : done < tail)
-    (roots : JoinedRoots n above above′ (getD firsts done 0) (getD seconds done 0) to from) where
+module _ {n : ℕ} {parents names numbers keys more above above′ fl fh bl bh ml mh firsts seconds : List ℕ}
+    {done tail v w to from : ℕ} (forest : Forest n above) (due : done < tail) (first : v ≡ getD firsts done 0)
+    (second : w ≡ getD seconds done 0) (roots : JoinedRoots n above above′ v w to from) where
   -- both in one group: nothing to do
   pub settled-skipped :
       to ≡ from →
@@ -224,14 +166,14 @@ module _ {n : ℕ} {parents names numbers keys more above above′ fl fh bl bh m
         forest = roots .forest;
         settling = λ start settling.
             let inside = settling .reached .inside done (omega arith) due in
+            let two =
+            roots-two n above above′ v w to from forest (omega (arith, inside .0)) (omega (arith, inside .1)) roots .1 in
             settling-next
             (subst
             (λ (groups : List ℕ).
             Settling n parents names numbers keys more start groups fl fh bl bh ml mh firsts seconds done tail)
             (sym (roots .kept same)) settling)
-            due
-            (roots-two n above above′ (getD firsts done 0) (getD seconds done 0) to from forest (inside .0) (inside .1) roots .1
-            .together);
+            due (subst₂ (One (rootsOf above′)) first second (two .together));
       }
 
   -- two groups made one, and their lists merged
@@ -248,13 +190,16 @@ module _ {n : ℕ} {parents names numbers keys more above above′ fl fh bl bh m
         settling = λ start settling.
             let inside = settling .reached .inside done (omega arith) due in
             let two =
-            roots-two n above above′ (getD firsts done 0) (getD seconds done 0) to from forest (inside .0) (inside .1) roots .1 in
+            roots-two n above above′ v w to from forest (omega (arith, inside .0)) (omega (arith, inside .1)) roots .1 in
             let all = merged (settling .fork-rows) (settling .back-rows) (settling .more-rows) (listed-all settling) in
             let grew = grew-more (all .forks .grew) (grew-more (all .backs .grew) (all .others .grew)) in
             settling-next
             (settling-joined settling two (put-roots forest (settling .ready .few) lower roots)
-            (λ closed by refines. settling .reached .safe closed by refines .1 done (omega arith) due) all)
+            (λ closed by refines.
+            subst₂ (One closed) (sym first) (sym second)
+            (settling .reached .safe closed by refines .1 done (omega arith) due))
+            all)
             (omega (arith, grew .longer))
-            (subst₂ (One (rootsOf above′)) (sym (grew .firsts-kept done due)) (sym (grew .seconds-kept done due))
+            (subst₂ (One (rootsOf above′)) (first ∙ sym (grew .firsts-kept done due)) (second ∙ sym (grew .seconds-kept done due))
             (two .together));
       }

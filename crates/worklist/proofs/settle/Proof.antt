@@ -1,5 +1,5 @@
--- `settle` meets its contract. The invariant of its loop: what held at the start with all pairs pending holds with those before
--- `done` joined. The measure is the room left in the queue. Assumes nothing.
+-- `settle` meets its contract. The invariant of its loop: the groups are a forest, and from the partition at the entry on all
+-- pairs before `done` are joined. The measure is the room left in the queue. Assumes nothing.
 use mathlib.Core.Path.{sym, _∙_}
 use Prim.Native.Nat.{_-_, _<_}
 use native.Mathlib.Numerals.{add-one}

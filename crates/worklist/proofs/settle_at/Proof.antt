@@ -2,12 +2,12 @@
 -- merged. Assumes nothing.
 use Prim.Native.Nat.{_<_}
 use native.Mathlib.Omega.{arith}
-use lib.ListN.{length, getD}
+use lib.ListN.{length}
 use borrow.Author.Needs.{needs}
 use Rattle.partition.specs.Forests.{JoinedRoots}
 use Rattle.partition.proofs.ForestLaws.{forest-again}
-use Rattle.worklist.proofs.KindLaws.{own-size}
-use Rattle.worklist.proofs.SettleLaws.{listed-all, pair-roots, settled-skipped, settled-joined}
+use Rattle.worklist.proofs.SizeLaws.{own-size, roots-by-states}
+use Rattle.worklist.proofs.SettleLaws.{listed-all, settled-skipped, settled-joined}
 use Rattle.worklist.proofs.settle_at.Statement.{statement}
 use Rattle.worklist.proofs.settle_at.Tie as tie
 
@@ -21,16 +21,12 @@ joins-of c = c .before .before .before
 abbrev two-of : tie.After-merge-all-arg8 → tie.Else1
 two-of c = c .before .before .before .before .before .before .before .before
 
--- the roots joined are those of the pair's states
+-- the roots joined, by the number of states
 roots-of :
     (c : tie.After-join) → let at = entry (c .before) in
     JoinedRoots (length (at .args .parents .now)) (at .args .groups .now) (c .join .last .0)
-    (getD (at .args .firsts .now) (at .args .done) 0) (getD (at .args .seconds .now) (at .args .done) 0) (c .join .result .to)
-    (c .join .result .from)
-roots-of c =
-    let at = entry (c .before) in
-    pair-roots (at .args .firsts .now) (at .args .seconds .now) (at .args .done) (at .pre .0)
-    (c .before .before .before .wide16 .ensures) (c .before .wide162 .ensures) (c .join .ensures)
+    (c .before .before .before .wide16 .result) (c .before .wide162 .result) (c .join .result .to) (c .join .result .from)
+roots-of c = roots-by-states (entry (c .before) .pre .0) (c .join .ensures)
 
 -- two roots, the lower first
 lower-of : (c : tie.Else1) → joins-of (c .before) .join .result .to < joins-of (c .before) .join .result .from
@@ -77,7 +73,8 @@ returns : tie.Need-returns
 returns c =
     let joins = joins-of (c .before) in
     let at = entry (joins .before) in
-    settled-skipped (at .pre .0) (at .pre .1 .1) (roots-of joins) (omega (arith, c .if1 .taken))
+    settled-skipped (at .pre .0) (at .pre .1 .1) (joins .before .before .before .wide16 .ensures)
+    (joins .before .wide162 .ensures) (roots-of joins) (omega (arith, c .if1 .taken))
 
 merge-all-requires : tie.Need-merge-all-requires
 merge-all-requires c κs =
@@ -103,7 +100,8 @@ returns-2 c =
     let two = two-of (c .before) in
     let joins = joins-of (two .before) in
     let at = entry (joins .before) in
-    settled-joined (at .pre .0) (at .pre .1 .1) (roots-of joins) (lower-of two) (c .merge-all .ensures)
+    settled-joined (at .pre .0) (at .pre .1 .1) (joins .before .before .before .wide16 .ensures)
+    (joins .before .wide162 .ensures) (roots-of joins) (lower-of two) (c .merge-all .ensures)
 
 pub settle-at-spec : {M : Type 1} → statement M
 settle-at-spec =

@@ -1,14 +1,12 @@
 -- `forks::again` meets its contract: what the coarser partition joins is joined, then all pairs that this queued, and the forest
 -- is flattened. Assumes nothing.
 use mathlib.Core.Path.{sym, subst}
-use mathlib.Core.List.{List}
 use Prim.Native.Nat.{ℕ}
 use lib.ListN.{length}
 use borrow.Author.Needs.{needs}
 use Rattle.indexed.specs.Partitions.{Labelled}
-use Rattle.partition.specs.Forests.{Forest, rootsOf}
-use Rattle.partition.proofs.ForestLaws.{flat-forest, forest-again}
-use Rattle.worklist.specs.Forks.{ForksReady, Kept, Closing}
+use Rattle.partition.proofs.ForestLaws.{forest-again}
+use Rattle.worklist.proofs.SizeLaws.{flat-by-states}
 use Rattle.worklist.proofs.ForkLaws.{closing-kept, closing-opened}
 use Rattle.worklist.proofs.ForkRounds.{round-ended}
 use Rattle.worklist.proofs.forks.again.Statement.{statement}
@@ -24,26 +22,14 @@ joins-of c = c .before .before .before .before .before .before .before
 abbrev settles-of : tie.After-flatten-arg → tie.After-settle
 settles-of c = c .before .before .before
 
--- nothing is pending at the entry, whatever the parents
-opened :
-    (at : tie.Start) (parents : List ℕ) →
-    ForksReady (length (at .args .groups .now)) parents (at .args .names .now) (at .args .numbers .now) →
-    Kept (length (at .args .groups .now)) parents (at .args .names .now) (at .args .numbers .now) (at .args .groups .now)
-    (at .args .links .now) (at .args .heads .now) (at .args .firsts .now) (at .args .seconds .now) (at .args .tail) →
-    Closing (length (at .args .names .now)) parents (at .args .names .now) (at .args .numbers .now) (at .args .joined .now)
-    (rootsOf (at .args .groups .now)) (at .args .links .now) (at .args .heads .now) (at .args .firsts .now)
-    (at .args .seconds .now) (at .args .tail) (at .args .tail)
-opened at parents ready kept = closing-opened (closing-kept ready kept (at .pre .1 .1))
-
 join-all-requires : tie.Need-join-all-requires
 join-all-requires c κs =
     let at = entry c in
-    let size = at .pre .0 .1 .names-size in (
-      subst (λ (m : ℕ). Forest m (at .args .groups .now)) (sym size)
-          (flat-forest (length (at .args .groups .now)) (at .args .groups .now) (at .pre .0 .2 .labelled)),
+    let kept = at .pre .0 in (
+      flat-by-states (kept .1 .names-size) (kept .2 .labelled),
       (
-        subst (λ (m : ℕ). Labelled m (at .args .joined .now)) (sym size) (at .pre .1 .0),
-        (at .pre .0 .0, opened at (at .pre .0 .0) (at .pre .0 .1) (at .pre .0 .2)),
+        subst (λ (m : ℕ). Labelled m (at .args .joined .now)) (sym (kept .1 .names-size)) (at .pre .1 .0),
+        (kept .0, closing-opened (closing-kept (kept .1) (kept .2) (at .pre .1 .1))),
       ),
     )
 
@@ -51,12 +37,13 @@ settle-requires : tie.Need-settle-requires
 settle-requires c κs =
     let joins = joins-of c in
     let at = entry (joins .before) in
+    let kept = at .pre .0 in
     let joined = joins .join-all .ensures in (
       joined .forest,
       (
-        at .pre .0 .0,
+        kept .0,
         at .args .joined .now,
-        joined .closing (at .pre .0 .0) (opened at (at .pre .0 .0) (at .pre .0 .1) (at .pre .0 .2)),
+        joined .closing (kept .0) (closing-opened (closing-kept (kept .1) (kept .2) (at .pre .1 .1))),
       ),
     )
 
@@ -76,7 +63,8 @@ returns c parents ready kept =
     let joins = joins-of (settles .before) in
     let joined = joins .join-all .ensures in
     round-ended (ready .names-size) (flat .flatten .ensures) (joined .coarser)
-    (joined .closing parents (opened (entry (joins .before)) parents ready kept)) (settles .settle .ensures)
+    (joined .closing parents (closing-opened (closing-kept ready kept (entry (joins .before) .pre .1 .1))))
+    (settles .settle .ensures)
 
 pub again-spec : {M : Type 1} → statement M
 again-spec = tie.close (tie.spec join-all-requires settle-requires flatten-requires same-length returns)

@@ -5,7 +5,7 @@ use native.Mathlib.Omega.{arith}
 use lib.ListN.{length}
 use borrow.Author.Needs.{needs}
 use Rattle.partition.proofs.ForestLaws.{forest-again}
-use Rattle.worklist.proofs.SettleLaws.{roots-by-states}
+use Rattle.worklist.proofs.SizeLaws.{roots-by-states}
 use Rattle.worklist.proofs.ForkLaws.{pair-skipped, pair-joined}
 use Rattle.worklist.proofs.forks.join.Statement.{statement}
 use Rattle.worklist.proofs.forks.join.Tie as tie
@@ -42,8 +42,8 @@ returns : tie.Need-returns
 returns c =
     let joins = joins-of (c .before) in
     let at = entry (joins .before) in
-    pair-skipped (at .pre .0) (at .pre .1 .1 .1 .1 .0) (at .pre .1 .1 .1 .1 .1) (roots-by-states (at .pre .0) (joins .join .ensures))
-    (omega (arith, c .if1 .taken))
+    pair-skipped (at .pre .0) (at .pre .1 .1 .1 .1 .0) (at .pre .1 .1 .1 .1 .1)
+    (roots-by-states (at .pre .0) (joins .join .ensures)) (omega (arith, c .if1 .taken))
 
 merge-requires : tie.Need-merge-requires
 merge-requires c κs =
@@ -73,8 +73,8 @@ returns-2 c =
     let two = two-of (c .before) in
     let joins = joins-of (two .before) in
     let at = entry (joins .before) in
-    pair-joined (at .pre .0) (at .pre .1 .1 .1 .1 .0) (at .pre .1 .1 .1 .1 .1) (roots-by-states (at .pre .0) (joins .join .ensures))
-    (lower-of two) (c .merge .ensures) (at .pre .1 .0 .1)
+    pair-joined (at .pre .0) (at .pre .1 .1 .1 .1 .0) (at .pre .1 .1 .1 .1 .1)
+    (roots-by-states (at .pre .0) (joins .join .ensures)) (lower-of two) (c .merge .ensures) (at .pre .1 .0 .1)
 
 pub join-spec : {M : Type 1} → statement M
 join-spec = tie.close (tie.spec join-requires same-length returns merge-requires same-length-2 returns-2)

@@ -6,7 +6,7 @@ use native.Mathlib.Omega.{arith}
 use lib.ListN.{length}
 use Rattle.partition.specs.Forests.{rootsOf}
 use Rattle.worklist.specs.Forks.{Closing}
-use Rattle.worklist.proofs.KindLaws.{own-size}
+use Rattle.worklist.proofs.SizeLaws.{own-size}
 use Rattle.worklist.proofs.ForkRounds.{
   Joining,
   label-inside,

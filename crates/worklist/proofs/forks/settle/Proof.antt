@@ -8,7 +8,7 @@ use lib.ListN.{length}
 use Rattle.partition.specs.Forests.{rootsOf}
 use Rattle.worklist.specs.Lists.{pair-limit}
 use Rattle.worklist.specs.Forks.{Closing, SettledForks}
-use Rattle.worklist.proofs.KindLaws.{own-size}
+use Rattle.worklist.proofs.SizeLaws.{own-size}
 use Rattle.worklist.proofs.ForkRounds.{settled-none, settled-more, settled-all}
 use Rattle.worklist.proofs.forks.settle.Statement.{statement}
 use Rattle.worklist.proofs.forks.settle.Tie as tie

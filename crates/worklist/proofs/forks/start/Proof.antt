@@ -1,15 +1,10 @@
 -- `forks::start` meets its contract: the lists are filled; where no pair is queued forks are closed already; else all pairs are
 -- joined, and the forest is flattened. Assumes nothing.
-use mathlib.Core.Path.{sym, subst}
-use Prim.Native.Nat.{ℕ}
 use native.Mathlib.Omega.{arith}
 use lib.ListN.{length}
 use borrow.Author.Needs.{needs}
-use Rattle.partition.specs.Forests.{Forest}
-use Rattle.partition.proofs.ForestLaws.{flat-forest, forest-again}
-use Rattle.worklist.specs.Forks.{Closing}
-use Rattle.worklist.proofs.KindLaws.{own-size}
-use Rattle.worklist.proofs.SettleLaws.{fill-asked}
+use Rattle.partition.proofs.ForestLaws.{forest-again}
+use Rattle.worklist.proofs.SizeLaws.{own-size, fill-asked, flat-by-states}
 use Rattle.worklist.proofs.ForkLaws.{closing-filled, closing-opened, kept-closed}
 use Rattle.worklist.proofs.ForkRounds.{flat-coarser, round-ended}
 use Rattle.worklist.proofs.forks.start.Statement.{statement}
@@ -25,39 +20,33 @@ fills-of c = c .before .before .before .before .before .before
 abbrev settles-of : tie.After-flatten-arg → tie.After-settle
 settles-of c = c .before .before .before
 
--- with the lists filled every pair is pending
-filled :
-    (fills : tie.After-fill) → let at = entry (fills .before) in
-    let last = fills .fill .last in
-    Closing (length (at .args .groups .now)) (at .args .parents .now) (at .args .names .now) (at .args .numbers .now)
-    (at .args .groups .now) (at .args .groups .now) (last .1 .1 .1 .1 .0) (last .1 .1 .1 .1 .1 .0)
-    (last .1 .1 .1 .1 .1 .1 .0) (last .1 .1 .1 .1 .1 .1 .1 .0) 0 (fills .fill .result)
-filled fills =
-    let at = entry (fills .before) in
-    closing-filled (at .pre .0) (at .pre .1 .0) (at .pre .1 .1 .1) (fills .fill .ensures)
-
 fill-requires : tie.Need-fill-requires
 fill-requires c κs =
     let at = entry c in
     let ready = at .pre .0 in
-    fill-asked (at .args .parents .now) (at .args .numbers .now) (at .args .names .now) (at .args .groups .now)
-    (at .args .links .now) (at .args .heads .now) (at .args .firsts .now) (at .args .seconds .now) 0 (ready .few)
-    (ready .parents-size) (own-size (ready .own)) (ready .names-size)
-    (ready .parents-below) (at .pre .1 .0) (omega (arith, ready .few)) (at .pre .1 .1 .0) (at .pre .1 .1 .1)
+    fill-asked (at .args .parents .now) (at .args .numbers .now) (at .args .names .now) 0 (ready .few) (ready .parents-size)
+    (own-size (ready .own)) (ready .names-size) (ready .parents-below) (at .pre .1 .0) (omega (arith, ready .few))
+    (at .pre .1 .1 .0) (at .pre .1 .1 .1)
 
 same-length : tie.Need-same-length
 same-length c = search needs
 
 returns : tie.Need-returns
-returns c = kept-closed (filled (c .before)) (omega (arith, c .if1 .taken)) (λ x y hx hy e. e)
+returns c =
+    let at = entry (c .before .before) in
+    kept-closed (closing-filled (at .pre .0) (at .pre .1 .0) (at .pre .1 .1 .1) (c .before .fill .ensures))
+    (omega (arith, c .if1 .taken)) (λ x y hx hy e. e)
 
 settle-requires : tie.Need-settle-requires
 settle-requires c κs =
     let fills = fills-of c in
     let at = entry (fills .before) in (
-      subst (λ (m : ℕ). Forest m (at .args .groups .now)) (sym (at .pre .0 .names-size))
-          (flat-forest (length (at .args .groups .now)) (at .args .groups .now) (at .pre .1 .0)),
-      (at .args .parents .now, at .args .groups .now, closing-opened (filled fills)),
+      flat-by-states (at .pre .0 .names-size) (at .pre .1 .0),
+      (
+        at .args .parents .now,
+        at .args .groups .now,
+        closing-opened (closing-filled (at .pre .0) (at .pre .1 .0) (at .pre .1 .1 .1) (fills .fill .ensures)),
+      ),
     )
 
 flatten-requires : tie.Need-flatten-requires
@@ -76,7 +65,8 @@ returns-2 c =
     let fills = fills-of (settles .before) in
     let at = entry (fills .before) in
     round-ended (at .pre .0 .names-size) (flat .flatten .ensures) (flat-coarser (length (at .args .names .now)) (at .pre .1 .0))
-    (closing-opened (filled fills)) (settles .settle .ensures)
+    (closing-opened (closing-filled (at .pre .0) (at .pre .1 .0) (at .pre .1 .1 .1) (fills .fill .ensures)))
+    (settles .settle .ensures)
 
 pub start-spec : {M : Type 1} → statement M
 start-spec =
