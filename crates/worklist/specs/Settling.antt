@@ -127,8 +127,8 @@ pub record Reached
   pub order : done ≤ tail
   pub queue : QueueRoom firsts seconds
 
--- what holds while the pairs from `done` on are still to be joined: arcs of each kind are covered once they are, and the queue has
--- room for a pair for each arc that is in a list
+-- what holds while the pairs from `done` on are still to be joined, from a partition that was ready: arcs of each kind are covered
+-- once they are, and the queue has room for a pair for each arc that is in a list
 pub record Settling
     (n : ℕ) (parents names numbers keys more start groups : List ℕ)
     (fork-links fork-heads back-links back-heads more-links more-heads firsts seconds : List ℕ) (done tail : ℕ) : Type 0 where
