@@ -13,7 +13,7 @@ use Rattle.indexed.specs.Partitions.{Refines, Labelled, KeyClosed, ForkClosed, 
 use Rattle.indexed.proofs.Keys.{forks-keys, keys-forks}
 use Rattle.indexed.proofs.Suffixes.{parent-below}
 use Rattle.worklist.specs.Settling.{JoinedUntil}
-use Rattle.worklist.specs.Forks.{ForksReady, Nothing, Kept}
+use Rattle.worklist.specs.Forks.{ForksReady, Kept}
 use Rattle.worklist.proofs.KindLaws.{kind-closed}
 use Rattle.contexts.specs.Rounds.{ForksJoined}
 
@@ -107,10 +107,4 @@ module _ (n : ℕ) (parents names numbers : List ℕ) (arrays : Arrays n parents
   kept-forks groups links heads firsts seconds tail kept =
       keys-forks n parents names groups arrays
       (subst (λ (l : List ℕ). KeyClosed n parents l names groups) own
-      (kind-closed n parents numbers names groups (kept .rows) links heads Nothing tt
-      (λ v h. omega (
-        arith,
-        kept .labelled .low (getD parents v 0) (parent-below n parents names arrays v h),
-        parent-below n parents names arrays v h,
-        arrays .few-states,
-      )) (kept .kind)))
+      (kind-closed (kept .kind) tt (kept .labelled) (parent-below n parents names arrays) (arrays .few-states)))

@@ -1,308 +1,229 @@
--- Laws of arcs of one kind while pairs are pending: what filling and merging their lists keeps, that every closed partition joins
--- the pairs that they queue, and that nothing pending means closed. Assumes nothing.
-use mathlib.Core.Path.{_≡_, refl, sym, ap, _∙_, subst, subst₂}
-use mathlib.Core.Logic.{_⊎_, inl, inr}
-use mathlib.Core.Bool.{Bool, true, false}
+-- Laws of arcs of one kind while pairs are pending: what filling their lists, taking a pair, and merging the lists of two groups
+-- keep, that every closed partition joins the pairs that are queued by it, and that nothing pending means closed. Assumes nothing.
+use mathlib.Core.Path.{_≡_, sym, ap, _∙_, subst}
+use mathlib.Core.Logic.{_⊎_, inl, inr, ⊎-elim}
 use mathlib.Core.List.{List}
 use Prim.Native.Nat.{ℕ, suc, _<_, _≤_}
 use native.Mathlib.Omega.{arith}
-use lib.Dec.{ltb}
 use lib.ListN.{length, getD}
-use borrow.Author.Tests.{ltb-true, ltb-false}
 use Rattle.model.specs.Limits.{name-limit, state-limit}
 use Rattle.model.proofs.Tests.{eq-dec}
-use Rattle.model.specs.Lists.{numbersFrom}
 use Rattle.indexed.specs.Partitions.{Refines, Labelled, KeyClosed}
-use Rattle.indexed.specs.Passes.{relabelled}
-use Rattle.indexed.proofs.Keys.{Relabel, moved, kept, relabelled-cases, relabelled-coarser, number-at, numbers-length}
+use Rattle.indexed.proofs.Keys.{Relabel, moved, kept, relabelled-cases, relabelled-coarser}
+use Rattle.partition.specs.Forests.{Forest, rootsOf, JoinedRoots}
+use Rattle.partition.proofs.ForestLaws.{roots-length}
 use Rattle.worklist.specs.Lists.{Queued, Grew, StandsFor, Filled, Merged}
-use Rattle.worklist.specs.Settling.{Joins, Covered, Kind, QueueRoom}
+use Rattle.worklist.specs.Settling.{Joins, Covered, Kind, Reached}
+use Rattle.worklist.proofs.QueueLaws.{grew-more}
+use Rattle.worklist.proofs.FillLaws.{OfTwoArcs}
+use Rattle.worklist.proofs.ReachLaws.{One, Added, each-shorter, each-first}
 
--- the states' own numbers: how many they are, and that each is a state
-pub own-size : (n : ℕ) (numbers : List ℕ) → numbers ≡ numbersFrom n 0 → length numbers ≡ n
-own-size n numbers own = ap length own ∙ numbers-length n 0
-
-pub own-below : (n : ℕ) (numbers : List ℕ) → numbers ≡ numbersFrom n 0 → (v : ℕ) → v < n → getD numbers v 0 < n
-own-below n numbers own v h =
-    subst (λ (x : ℕ). x < n) (sym (ap (λ (l : List ℕ). getD l v 0) own ∙ number-at n v h)) h
-
--- labels of states are rows of lists
-pub label-row :
-    (n : ℕ) (groups : List ℕ) → n ≤ state-limit → Labelled n groups → (v : ℕ) → v < n → getD groups v 0 < state-limit
-label-row n groups few labelled v h =
-    let low : getD groups v 0 ≤ v = labelled .low v h in
-    omega arith
-
--- a place is in the shorter queue, or past it
-before-or-past : (i tail : ℕ) → (i < tail) ⊎ (tail ≤ i)
-before-or-past i tail = go (ltb i tail) refl
+-- an arc that stands for another has its outs in one group with that one's
+stands-one :
+    {n : ℕ} {outs keys rows : List ℕ} {g u : ℕ} {firsts seconds : List ℕ} {from to : ℕ} (others : List ℕ) →
+    (stands : StandsFor n outs keys rows g u firsts seconds from to) → Joins firsts seconds from to others →
+    getD others (getD outs (stands .arc) 0) 0 ≡ getD others (getD outs u 0) 0
+stands-one {outs = outs} {u = u} {firsts = firsts} {seconds = seconds} {from = from} {to = to} others stands joins =
+    go (stands .same)
   where
-    go : (b : Bool) → ltb i tail ≡ b → (i < tail) ⊎ (tail ≤ i)
-    go true e = inl (ltb-true i tail e)
-    go false e = inr (ltb-false i tail e)
+    go :
+        (stands .arc ≡ u) ⊎ Queued firsts seconds from to (getD outs (stands .arc) 0) (getD outs u 0) →
+        getD others (getD outs (stands .arc) 0) 0 ≡ getD others (getD outs u 0) 0
+    go (inl e) = ap (λ (x : ℕ). getD others (getD outs x 0) 0) e
+    go (inr q) =
+        ap (λ (x : ℕ). getD others x 0) (sym (q .first)) ∙ joins (q .place) (q .low) (q .high)
+        ∙ ap (λ (x : ℕ). getD others x 0) (q .second)
 
--- each pair that stands in the queue, at `from` or later and before `to`, has a property
-abbrev pub Each : (ℕ → ℕ → Type 0) → List ℕ → List ℕ → ℕ → ℕ → Type 0
-Each P firsts seconds from to = (i : ℕ) → from ≤ i → i < to → P (getD firsts i 0) (getD seconds i 0)
-
--- each of the longer queue, so each of the shorter
-pub each-shorter :
-    (P : ℕ → ℕ → Type 0) (firsts seconds firsts′ seconds′ : List ℕ) (done tail tail′ : ℕ) →
-    Grew firsts seconds firsts′ seconds′ tail tail′ → Each P firsts′ seconds′ done tail′ → Each P firsts seconds done tail
-each-shorter P firsts seconds firsts′ seconds′ done tail tail′ grew each i low high =
-    let longer : tail ≤ tail′ = grew .longer in
-    let before : i < tail′ = omega arith in
-    subst₂ P (grew .firsts-kept i high) (grew .seconds-kept i high) (each i low before)
-
--- each of the shorter queue and each that was added, so each of the longer
-pub each-longer :
-    (P : ℕ → ℕ → Type 0) (firsts seconds firsts′ seconds′ : List ℕ) (done tail tail′ : ℕ) →
-    Grew firsts seconds firsts′ seconds′ tail tail′ → Each P firsts seconds done tail → Each P firsts′ seconds′ tail tail′ →
-    Each P firsts′ seconds′ done tail′
-each-longer P firsts seconds firsts′ seconds′ done tail tail′ grew old new i low high = go (before-or-past i tail)
-  where
-    go : (i < tail) ⊎ (tail ≤ i) → P (getD firsts′ i 0) (getD seconds′ i 0)
-    go (inl h) = subst₂ P (sym (grew .firsts-kept i h)) (sym (grew .seconds-kept i h)) (old i low h)
-    go (inr h) = new i h high
-
--- each of the later part
-pub each-later :
-    (P : ℕ → ℕ → Type 0) (firsts seconds : List ℕ) (done from tail : ℕ) → done ≤ from → Each P firsts seconds done tail →
-    Each P firsts seconds from tail
-each-later P firsts seconds done from tail order each i low high = each i (omega arith) high
-
--- the first, and each after it
-pub each-first :
-    (P : ℕ → ℕ → Type 0) (firsts seconds : List ℕ) (done tail : ℕ) → P (getD firsts done 0) (getD seconds done 0) →
-    Each P firsts seconds (suc done) tail → Each P firsts seconds done tail
-each-first P firsts seconds done tail first each i low high = go (eq-dec i done)
-  where
-    go : (i ≡ done) ⊎ (i ≡ done → ⊥) → P (getD firsts i 0) (getD seconds i 0)
-    go (inl e) = subst (λ (j : ℕ). P (getD firsts j 0) (getD seconds j 0)) (sym e) first
-    go (inr d) = each i (omega arith) high
-
--- a queue that grew twice
-pub grew-twice :
-    (f s f′ s′ f″ s″ : List ℕ) (t t′ t″ : ℕ) → Grew f s f′ s′ t t′ → Grew f′ s′ f″ s″ t′ t″ → Grew f s f″ s″ t t″
-grew-twice f s f′ s′ f″ s″ t t′ t″ one two =
-    let low : t ≤ t′ = one .longer in
-    let high : t′ ≤ t″ = two .longer in
+-- pairs of outs of two arcs of one key into one group are joined by every coarser partition that is closed
+matched-added :
+    (ins outs keys : List ℕ) {Closed : List ℕ → Type 0} {n : ℕ} {groups firsts seconds : List ℕ} {tail tail′ : ℕ} →
+    ((v : ℕ) → v < n → getD ins v 0 < n) → ((v : ℕ) → v < n → getD outs v 0 < n) →
+    ((closed : List ℕ) → Closed closed → KeyClosed n ins outs keys closed) →
+    ((i : ℕ) → tail ≤ i → i < tail′ → OfTwoArcs n ins outs keys groups firsts seconds i) →
+    Added Closed n groups firsts seconds tail tail′
+matched-added ins outs keys {n = n} ins-below outs-below by matched =
     record {
-      longer = omega arith;
-      firsts-size = two .firsts-size ∙ one .firsts-size;
-      seconds-size = two .seconds-size ∙ one .seconds-size;
-      firsts-kept = λ i h. two .firsts-kept i (omega arith) ∙ one .firsts-kept i h;
-      seconds-kept = λ i h. two .seconds-kept i (omega arith) ∙ one .seconds-kept i h;
+      inside = λ i low high.
+          let pair = matched i low high in (
+            subst (λ (x : ℕ). x < n) (sym (pair .7)) (outs-below (pair .0) (pair .2)),
+            subst (λ (x : ℕ). x < n) (sym (pair .8)) (outs-below (pair .1) (pair .3)),
+          );
+      joined = λ closed is refines i low high.
+          let pair = matched i low high in
+          ap (λ (x : ℕ). getD closed x 0) (pair .7)
+          ∙ by closed is (pair .0) (pair .1) (pair .2) (pair .3) (omega (arith, pair .4, pair .5)) (pair .5)
+          (refines (getD ins (pair .0) 0) (getD ins (pair .1) 0) (ins-below (pair .0) (pair .2)) (ins-below (pair .1) (pair .3))
+          (pair .6))
+          ∙ ap (λ (x : ℕ). getD closed x 0) (sym (pair .8));
     }
 
--- and keeps its arrays' lengths
-pub queue-grew :
-    (f s f′ s′ : List ℕ) (t t′ : ℕ) → Grew f s f′ s′ t t′ → QueueRoom f s → QueueRoom f′ s′
-queue-grew f s f′ s′ t t′ grew queue =
+-- group `from` is put into group `to`
+pub record PutInto (n to from : ℕ) (groups groups′ : List ℕ) : Type 0 where
+  pub low-to : to < state-limit
+  pub low-from : from < state-limit
+  pub each : (x : ℕ) → x < n → Relabel to from (getD groups x 0) (getD groups′ x 0)
+  pub coarser : Refines n groups groups′
+
+-- so is the group of the higher root into that of the lower
+pub put-roots :
+    {n : ℕ} {above above′ : List ℕ} {v w to from : ℕ} → Forest n above → n ≤ state-limit → to < from →
+    JoinedRoots n above above′ v w to from → PutInto n to from (rootsOf above) (rootsOf above′)
+put-roots {n} {above} {above′} {to = to} {from = from} forest few lower roots =
     record {
-      firsts-size = grew .firsts-size ∙ queue .firsts-size;
-      seconds-size = grew .seconds-size ∙ queue .seconds-size;
+      low-to = omega (arith, roots .inside);
+      low-from = omega (arith, roots .inside);
+      each = λ x h.
+          subst (λ (l : List ℕ). Relabel to from (getD (rootsOf above) x 0) (getD l x 0)) (sym (roots .joined lower))
+          (relabelled-cases to from x (rootsOf above) (subst (λ (m : ℕ). x < m) (sym size) h));
+      coarser =
+          subst (λ (l : List ℕ). Refines n (rootsOf above) l) (sym (roots .joined lower))
+          (relabelled-coarser n to from (rootsOf above) size);
     }
+  where
+    size : length (rootsOf above) ≡ n
+    size = roots-length above ∙ forest .size
 
--- a queued pair is joined
-queued-joined :
-    (firsts seconds : List ℕ) (from to x y : ℕ) (others : List ℕ) → Queued firsts seconds from to x y →
-    Joins firsts seconds from to others → getD others x 0 ≡ getD others y 0
-queued-joined firsts seconds from to x y others queued joins =
-    ap (λ (u : ℕ). getD others u 0) (sym (queued .first)) ∙ joins (queued .place) (queued .low) (queued .high)
-    ∙ ap (λ (u : ℕ). getD others u 0) (queued .second)
-
-module _ (n : ℕ) (ins outs keys : List ℕ) where
+module _ {n : ℕ} {ins outs keys : List ℕ} where
   -- more pairs pending, as far as coarser partitions can tell
   pub kind-more :
-      (groups rows links heads : List ℕ) (Pending Pending′ : List ℕ → Type 0) →
+      {groups rows links heads : List ℕ} {Pending Pending′ : List ℕ → Type 0} →
       ((others : List ℕ) → Refines n groups others → Pending′ others → Pending others) →
       Kind n ins outs keys groups rows links heads Pending → Kind n ins outs keys groups rows links heads Pending′
-  kind-more groups rows links heads Pending Pending′ fewer kind =
-      record { sorted = kind .sorted; placed = kind .placed; covers = covers }
-    where
-      covers :
-          (v : ℕ) → v < n → getD keys v 0 < name-limit →
-          Covered n outs keys groups rows Pending′ (getD groups (getD ins v 0) 0) v
-      covers v h k =
-          let old = kind .covers v h k in
-          record {
-            arc = old .arc;
-            inside = old .inside;
-            listed = old .listed;
-            keyed = old .keyed;
-            one = λ others refines pending. old .one others refines (fewer others refines pending);
-          }
+  kind-more fewer kind =
+      record {
+        sorted = kind .sorted;
+        placed = kind .placed;
+        covers = λ v h k.
+            let old = kind .covers v h k in
+            record {
+              arc = old .arc;
+              inside = old .inside;
+              listed = old .listed;
+              keyed = old .keyed;
+              one = λ others refines pending. old .one others refines (fewer others refines pending);
+            };
+      }
 
-  -- an arc that stands for another has its outs in one group with that one's
-  stands-one :
-      (rows : List ℕ) (g u : ℕ) (firsts seconds : List ℕ) (from to : ℕ) (others : List ℕ) →
-      (stands : StandsFor n outs keys rows g u firsts seconds from to) → Joins firsts seconds from to others →
-      getD others (getD outs (stands .arc) 0) 0 ≡ getD others (getD outs u 0) 0
-  stands-one rows g u firsts seconds from to others stands joins = go (stands .same)
-    where
-      go :
-          (stands .arc ≡ u) ⊎ Queued firsts seconds from to (getD outs (stands .arc) 0) (getD outs u 0) →
-          getD others (getD outs (stands .arc) 0) 0 ≡ getD others (getD outs u 0) 0
-      go (inl e) = ap (λ (x : ℕ). getD others (getD outs x 0) 0) e
-      go (inr q) = queued-joined firsts seconds from to (getD outs (stands .arc) 0) (getD outs u 0) others q joins
-
-  -- after filling, with the pairs queued by it pending
-  pub kind-filled :
-      (groups links′ heads′ firsts seconds firsts′ seconds′ : List ℕ) (tail tail′ : ℕ) (Pending : List ℕ → Type 0) →
-      (filled : Filled n ins outs keys groups links′ heads′ firsts seconds firsts′ seconds′ tail tail′) →
-      ((others : List ℕ) → Pending others → Joins firsts′ seconds′ tail tail′ others) →
-      Kind n ins outs keys groups (filled .rows) links′ heads′ Pending
-  kind-filled groups links′ heads′ firsts seconds firsts′ seconds′ tail tail′ Pending filled joins =
-      record { sorted = filled .sorted; placed = filled .placed; covers = covers }
-    where
-      covers :
-          (v : ℕ) → v < n → getD keys v 0 < name-limit →
-          Covered n outs keys groups (filled .rows) Pending (getD groups (getD ins v 0) 0) v
-      covers v h k =
-          let stands = filled .covered v h k in
-          record {
-            arc = stands .arc;
-            inside = stands .inside;
-            listed = stands .listed;
-            keyed = stands .keyed;
-            one = λ others refines pending.
-                stands-one (filled .rows) (getD groups (getD ins v 0) 0) v firsts′ seconds′ tail tail′ others stands
-                (joins others pending);
-          }
-
-  -- nothing pending: closed
+  -- what is pending is joined: closed
   pub kind-closed :
-      (groups rows links heads : List ℕ) (Pending : List ℕ → Type 0) → Pending groups →
-      (labels : (v : ℕ) → v < n → getD groups (getD ins v 0) 0 < state-limit) →
-      Kind n ins outs keys groups rows links heads Pending → KeyClosed n ins outs keys groups
-  kind-closed groups rows links heads Pending none labels kind v w hv hw below same-key one =
-      let below-w : getD keys w 0 < name-limit = omega arith in
+      {groups rows links heads : List ℕ} {Pending : List ℕ → Type 0} →
+      Kind n ins outs keys groups rows links heads Pending → Pending groups → Labelled n groups →
+      ((v : ℕ) → v < n → getD ins v 0 < n) → n ≤ state-limit → KeyClosed n ins outs keys groups
+  kind-closed {groups} {rows} kind joined labelled ins-below few v w hv hw below same-key one =
       let at-v = kind .covers v hv below in
-      let at-w = kind .covers w hw below-w in
-      let row : getD rows (at-v .arc) 0 ≡ getD rows (at-w .arc) 0 = at-v .listed ∙ one ∙ sym (at-w .listed) in
-      let key : getD keys (at-v .arc) 0 ≡ getD keys (at-w .arc) 0 = at-v .keyed ∙ same-key ∙ sym (at-w .keyed) in
+      let at-w = kind .covers w hw (omega arith) in
       let listed : getD rows (at-v .arc) 0 < state-limit =
-      subst (λ (g : ℕ). g < state-limit) (sym (at-v .listed)) (labels v hv) in
-      let arcs : at-v .arc ≡ at-w .arc =
-      kind .sorted .single (at-v .arc) (at-w .arc) (at-v .inside) (at-w .inside) listed row key in
-      sym (at-v .one groups (λ a b ha hb e. e) none) ∙ ap (λ (x : ℕ). getD groups (getD outs x 0) 0) arcs
-      ∙ at-w .one groups (λ a b ha hb e. e) none
+      omega (arith, at-v .listed, ins-below v hv, labelled .low (getD ins v 0) (ins-below v hv)) in
+      sym (at-v .one groups (λ a b ha hb e. e) joined)
+      ∙ ap (λ (x : ℕ). getD groups (getD outs x 0) 0)
+      (kind .sorted .single (at-v .arc) (at-w .arc) (at-v .inside) (at-w .inside) listed
+      (at-v .listed ∙ one ∙ sym (at-w .listed)) (at-v .keyed ∙ same-key ∙ sym (at-w .keyed)))
+      ∙ at-w .one groups (λ a b ha hb e. e) joined
 
-  -- the pairs that filling queues are joined by every coarser partition that is closed
-  pub filled-safe :
-      (groups links′ heads′ firsts seconds firsts′ seconds′ : List ℕ) (tail tail′ : ℕ) →
-      ((v : ℕ) → v < n → getD ins v 0 < n) →
-      Filled n ins outs keys groups links′ heads′ firsts seconds firsts′ seconds′ tail tail′ →
-      (others : List ℕ) → KeyClosed n ins outs keys others → Refines n groups others → Joins firsts′ seconds′ tail tail′ others
-  filled-safe groups links′ heads′ firsts seconds firsts′ seconds′ tail tail′ below filled others closed refines i low high =
-      let pair = filled .matched i low high in
-      let key-v : getD keys (pair .1) 0 < name-limit = pair .4 in
-      let same-key : getD keys (pair .0) 0 ≡ getD keys (pair .1) 0 = pair .5 in
-      let key-c : getD keys (pair .0) 0 < name-limit = omega arith in
-      let in-one : getD others (getD ins (pair .0) 0) 0 ≡ getD others (getD ins (pair .1) 0) 0 =
-      refines (getD ins (pair .0) 0) (getD ins (pair .1) 0) (below (pair .0) (pair .2)) (below (pair .1) (pair .3)) (pair .6) in
-      ap (λ (x : ℕ). getD others x 0) (pair .7)
-      ∙ closed (pair .0) (pair .1) (pair .2) (pair .3) key-c same-key in-one
-      ∙ ap (λ (x : ℕ). getD others x 0) (sym (pair .8))
+  -- the first pair is in one group: it is pending no more
+  pub kind-next :
+      {Closed : List ℕ → Type 0} {start groups rows links heads firsts seconds : List ℕ} {done tail : ℕ} →
+      Reached Closed n start groups firsts seconds done tail → done < tail →
+      One groups (getD firsts done 0) (getD seconds done 0) →
+      Kind n ins outs keys groups rows links heads (Joins firsts seconds done tail) →
+      Kind n ins outs keys groups rows links heads (Joins firsts seconds (suc done) tail)
+  kind-next {firsts = firsts} {seconds} {done} {tail} reached due one kind =
+      let here = reached .inside done (omega arith) due in
+      kind-more
+      (λ others refines joins.
+      each-first (One others) firsts seconds done tail
+      (refines (getD firsts done 0) (getD seconds done 0) (here .0) (here .1) one) joins)
+      kind
 
-  -- and their states are states
-  pub filled-inside :
-      (groups links′ heads′ firsts seconds firsts′ seconds′ : List ℕ) (tail tail′ : ℕ) →
-      ((v : ℕ) → v < n → getD outs v 0 < n) →
-      Filled n ins outs keys groups links′ heads′ firsts seconds firsts′ seconds′ tail tail′ →
-      Each (λ (x y : ℕ). (x < n) × (y < n)) firsts′ seconds′ tail tail′
-  filled-inside groups links′ heads′ firsts seconds firsts′ seconds′ tail tail′ below filled i low high =
-      let pair = filled .matched i low high in (
-        subst (λ (x : ℕ). x < n) (sym (pair .7)) (below (pair .0) (pair .2)),
-        subst (λ (x : ℕ). x < n) (sym (pair .8)) (below (pair .1) (pair .3)),
-      )
+  module _ {groups links′ heads′ firsts seconds firsts′ seconds′ : List ℕ} {tail tail′ : ℕ}
+      (filled : Filled n ins outs keys groups links′ heads′ firsts seconds firsts′ seconds′ tail tail′) where
+    -- after filling, with pairs pending from an earlier one to a later
+    pub kind-filled :
+        {firsts″ seconds″ : List ℕ} {tail″ : ℕ} (done : ℕ) → done ≤ tail →
+        Grew firsts′ seconds′ firsts″ seconds″ tail′ tail″ →
+        Kind n ins outs keys groups (filled .rows) links′ heads′ (Joins firsts″ seconds″ done tail″)
+    kind-filled done order grew =
+        record {
+          sorted = filled .sorted;
+          placed = filled .placed;
+          covers = λ v h k.
+              let stands = filled .covered v h k in
+              record {
+                arc = stands .arc;
+                inside = stands .inside;
+                listed = stands .listed;
+                keyed = stands .keyed;
+                one = λ others refines joins.
+                    stands-one others stands
+                    (λ i low high. each-shorter grew (One others) done joins i (omega arith) high);
+              };
+        }
 
-  -- so are those of the pairs that merging queues
-  pub merged-inside :
-      (rows : List ℕ) (to from : ℕ) (links′ heads′ firsts seconds firsts′ seconds′ : List ℕ) (tail tail′ : ℕ) →
-      ((v : ℕ) → v < n → getD outs v 0 < n) →
-      Merged n outs keys rows to from links′ heads′ firsts seconds firsts′ seconds′ tail tail′ →
-      Each (λ (x y : ℕ). (x < n) × (y < n)) firsts′ seconds′ tail tail′
-  merged-inside rows to from links′ heads′ firsts seconds firsts′ seconds′ tail tail′ below merged i low high =
-      let pair = merged .matched i low high in (
-        subst (λ (x : ℕ). x < n) (sym (pair .7)) (below (pair .0) (pair .2)),
-        subst (λ (x : ℕ). x < n) (sym (pair .8)) (below (pair .1) (pair .3)),
-      )
+    -- the pairs that filling queues are joined by every coarser partition that is closed
+    pub filled-added :
+        {Closed : List ℕ → Type 0} → ((v : ℕ) → v < n → getD ins v 0 < n) → ((v : ℕ) → v < n → getD outs v 0 < n) →
+        ((closed : List ℕ) → Closed closed → KeyClosed n ins outs keys closed) →
+        Added Closed n groups firsts′ seconds′ tail tail′
+    filled-added ins-below outs-below by = matched-added ins outs keys ins-below outs-below by (filled .matched)
 
-  module _ (groups rows links heads : List ℕ) (Pending : List ℕ → Type 0)
-      (kind : Kind n ins outs keys groups rows links heads Pending) (size : length groups ≡ n)
-      (below : (v : ℕ) → v < n → getD ins v 0 < n) (to from : ℕ) (low-to : to < state-limit) (low-from : from < state-limit) where
-    -- how the label of a state's ins changes where group `from` is put into group `to`
-    new-label :
-        (v : ℕ) → v < n →
-        Relabel to from (getD groups (getD ins v 0) 0) (getD (relabelled to from groups) (getD ins v 0) 0)
-    new-label v h =
-        relabelled-cases to from (getD ins v 0) groups (subst (λ (m : ℕ). getD ins v 0 < m) (sym size) (below v h))
+  module _ {Closed : List ℕ → Type 0} {start groups rows links heads firsts seconds : List ℕ} {done tail : ℕ}
+      (reached : Reached Closed n start groups firsts seconds done tail)
+      (kind : Kind n ins outs keys groups rows links heads (Joins firsts seconds done tail))
+      (ins-below : (v : ℕ) → v < n → getD ins v 0 < n) where
+    -- two groups are made one and their lists are merged
+    module _ {groups′ links′ heads′ firsts₁ seconds₁ firsts₂ seconds₂ : List ℕ} {to from tail₁ tail₂ : ℕ}
+        (put : PutInto n to from groups groups′)
+        (merged : Merged n outs keys rows to from links′ heads′ firsts₁ seconds₁ firsts₂ seconds₂ tail₁ tail₂) where
+      -- ins of group `to` or `from` are then in group `to`
+      is-to :
+          (v : ℕ) → (getD groups (getD ins v 0) 0 ≡ to) ⊎ (getD groups (getD ins v 0) 0 ≡ from) →
+          Relabel to from (getD groups (getD ins v 0) 0) (getD groups′ (getD ins v 0) 0) → getD groups′ (getD ins v 0) 0 ≡ to
+      is-to v was (moved e f) = f
+      is-to v (inl was) (kept d f) = f ∙ was
+      is-to v (inr was) (kept d f) = absurd (d was)
 
-    -- the ins of group `to` or `from` are then in group `to`
-    is-to :
-        (v : ℕ) → (getD groups (getD ins v 0) 0 ≡ to) ⊎ (getD groups (getD ins v 0) 0 ≡ from) →
-        Relabel to from (getD groups (getD ins v 0) 0) (getD (relabelled to from groups) (getD ins v 0) 0) →
-        getD (relabelled to from groups) (getD ins v 0) 0 ≡ to
-    is-to v was (moved e f) = f
-    is-to v (inl was) (kept d f) = f ∙ was
-    is-to v (inr was) (kept d f) = absurd (d was)
+      -- how the label of a state's ins changes
+      new-label : (v : ℕ) → v < n → Relabel to from (getD groups (getD ins v 0) 0) (getD groups′ (getD ins v 0) 0)
+      new-label v h = put .each (getD ins v 0) (ins-below v h)
 
-    -- and others stay
-    label-kept :
-        (v : ℕ) → (getD groups (getD ins v 0) 0 ≡ from → ⊥) →
-        Relabel to from (getD groups (getD ins v 0) 0) (getD (relabelled to from groups) (getD ins v 0) 0) →
-        getD (relabelled to from groups) (getD ins v 0) 0 ≡ getD groups (getD ins v 0) 0
-    label-kept v d (moved e f) = absurd (d e)
-    label-kept v d (kept e f) = f
-
-    -- a partition coarser than the joined one is coarser than the one before
-    finer : (others : List ℕ) → Refines n (relabelled to from groups) others → Refines n groups others
-    finer others refines a b ha hb e = refines a b ha hb (relabelled-coarser n to from groups size a b ha hb e)
-
-    module _ (links′ heads′ firsts seconds firsts′ seconds′ : List ℕ) (tail tail′ : ℕ)
-        (merged : Merged n outs keys rows to from links′ heads′ firsts seconds firsts′ seconds′ tail tail′) where
-      -- the row of an arc of list `from` that is still listed
-      row-moved :
-          (u : ℕ) → getD (merged .rows′) u 0 < state-limit → getD groups (getD ins u 0) 0 ≡ from →
-          (getD (merged .rows′) u 0 ≡ to) ⊎ (getD (merged .rows′) u 0 ≡ state-limit) →
-          Relabel to from (getD groups (getD ins u 0) 0) (getD (relabelled to from groups) (getD ins u 0) 0) →
-          getD (merged .rows′) u 0 ≡ getD (relabelled to from groups) (getD ins u 0) 0
-      row-moved u listed was (inl here) label = here ∙ sym (is-to u (inr was) label)
-      row-moved u listed was (inr none) label = let z : ⊥ = omega arith in absurd z
-
-      -- after merging the lists of two groups that become one, with the pairs queued by it pending too
+      -- the lists of both, with pairs pending from an earlier one to a later
       pub kind-merged :
-          (Pending′ : List ℕ → Type 0) →
-          ((others : List ℕ) → Refines n (relabelled to from groups) others → Pending′ others → Pending others) →
-          ((others : List ℕ) → Pending′ others → Joins firsts′ seconds′ tail tail′ others) →
-          Kind n ins outs keys (relabelled to from groups) (merged .rows′) links′ heads′ Pending′
-      kind-merged Pending′ fewer joins =
+          {firsts′ seconds′ : List ℕ} {tail′ : ℕ} → Grew firsts seconds firsts₁ seconds₁ tail tail₁ →
+          Grew firsts₂ seconds₂ firsts′ seconds′ tail₂ tail′ →
+          Kind n ins outs keys groups′ (merged .rows′) links′ heads′ (Joins firsts′ seconds′ done tail′)
+      kind-merged {firsts′} {seconds′} {tail′} before after =
           record {
             sorted = merged .sorted;
-            placed = λ u h listed. placed-at u h listed (eq-dec (getD rows u 0) from);
+            placed = λ u h listed. placed-at u h listed (eq-dec (getD rows u 0) from) (new-label u h);
             covers = λ v h k. covers v h k (new-label v h);
           }
         where
           placed-at :
               (u : ℕ) → u < n → getD (merged .rows′) u 0 < state-limit → (getD rows u 0 ≡ from) ⊎ (getD rows u 0 ≡ from → ⊥) →
-              getD (merged .rows′) u 0 ≡ getD (relabelled to from groups) (getD ins u 0) 0
-          placed-at u h listed (inl e) =
-              let old : getD rows u 0 < state-limit = omega arith in
-              let was : getD groups (getD ins u 0) 0 ≡ from = sym (kind .placed u h old) ∙ e in
-              row-moved u listed was (merged .moved u h e) (new-label u h)
-          placed-at u h listed (inr d) =
-              let same : getD (merged .rows′) u 0 ≡ getD rows u 0 = merged .kept u h d in
-              let old : getD rows u 0 < state-limit = omega arith in
-              let was : getD rows u 0 ≡ getD groups (getD ins u 0) 0 = kind .placed u h old in
-              same ∙ was ∙ sym (label-kept u (λ e. d (was ∙ e)) (new-label u h))
+              Relabel to from (getD groups (getD ins u 0) 0) (getD groups′ (getD ins u 0) 0) →
+              getD (merged .rows′) u 0 ≡ getD groups′ (getD ins u 0) 0
+          placed-at u h listed (inl e) (moved was now) =
+              ⊎-elim (λ here. here ∙ sym now) (λ none. let z : ⊥ = omega arith in absurd z) (merged .moved u h e)
+          placed-at u h listed (inl e) (kept other now) =
+              absurd (other (sym (kind .placed u h (omega (arith, put .low-from))) ∙ e))
+          placed-at u h listed (inr d) (moved was now) =
+              absurd (d (kind .placed u h (omega (arith, merged .kept u h d)) ∙ was))
+          placed-at u h listed (inr d) (kept other now) =
+              merged .kept u h d ∙ kind .placed u h (omega (arith, merged .kept u h d)) ∙ sym now
+
+          -- what joins the pairs pending then and is coarser joins those pending before
+          old-one :
+              {g v : ℕ} (old : Covered n outs keys groups rows (Joins firsts seconds done tail) g v) (others : List ℕ) →
+              Refines n groups′ others → Joins firsts′ seconds′ done tail′ others →
+              getD others (getD outs (old .arc) 0) 0 ≡ getD others (getD outs v 0) 0
+          old-one old others refines joins =
+              old .one others (λ a b ha hb e. refines a b ha hb (put .coarser a b ha hb e))
+              (each-shorter (grew-more before (grew-more (merged .grew) after)) (One others) done joins)
 
           covers :
               (v : ℕ) → v < n → getD keys v 0 < name-limit →
-              Relabel to from (getD groups (getD ins v 0) 0) (getD (relabelled to from groups) (getD ins v 0) 0) →
-              Covered n outs keys (relabelled to from groups) (merged .rows′) Pending′
-              (getD (relabelled to from groups) (getD ins v 0) 0) v
+              Relabel to from (getD groups (getD ins v 0) 0) (getD groups′ (getD ins v 0) 0) →
+              Covered n outs keys groups′ (merged .rows′) (Joins firsts′ seconds′ done tail′) (getD groups′ (getD ins v 0) 0) v
           covers v h k (moved e f) =
               let old = kind .covers v h k in
               let stands = merged .covered (old .arc) (old .inside) (old .listed ∙ e) in
@@ -311,9 +232,11 @@ module _ (n : ℕ) (ins outs keys : List ℕ) where
                 inside = stands .inside;
                 listed = stands .listed ∙ sym f;
                 keyed = stands .keyed ∙ old .keyed;
-                one = λ others refines pending.
-                    stands-one (merged .rows′) to (old .arc) firsts′ seconds′ tail tail′ others stands (joins others pending)
-                    ∙ old .one others (finer others refines) (fewer others refines pending);
+                one = λ others refines joins.
+                    stands-one others stands
+                    (λ i low high.
+                    each-shorter after (One others) done joins i (omega (arith, reached .order, before .longer)) high)
+                    ∙ old-one old others refines joins;
               }
           covers v h k (kept d f) =
               let old = kind .covers v h k in
@@ -322,27 +245,29 @@ module _ (n : ℕ) (ins outs keys : List ℕ) where
                 inside = old .inside;
                 listed = merged .kept (old .arc) (old .inside) (λ e. d (sym (old .listed) ∙ e)) ∙ old .listed ∙ sym f;
                 keyed = old .keyed;
-                one = λ others refines pending. old .one others (finer others refines) (fewer others refines pending);
+                one = old-one old;
               }
 
       -- the pairs that merging queues are joined by every coarser partition that is closed
-      pub merged-safe :
-          (others : List ℕ) → KeyClosed n ins outs keys others → Refines n (relabelled to from groups) others →
-          Joins firsts′ seconds′ tail tail′ others
-      merged-safe others closed refines i low high =
+      pub merged-added :
+          ((v : ℕ) → v < n → getD outs v 0 < n) →
+          ((closed : List ℕ) → Closed closed → KeyClosed n ins outs keys closed) →
+          Added Closed n groups′ firsts₂ seconds₂ tail₁ tail₂
+      merged-added outs-below by =
+          matched-added ins outs keys ins-below outs-below by
+          (λ i low high.
           let pair = merged .matched i low high in
-          let in-to : getD rows (pair .0) 0 ≡ to = pair .4 in
-          let in-from : getD rows (pair .1) 0 ≡ from = pair .5 in
-          let listed-c : getD rows (pair .0) 0 < state-limit = omega arith in
-          let listed-u : getD rows (pair .1) 0 < state-limit = omega arith in
-          let was-to : getD groups (getD ins (pair .0) 0) 0 ≡ to =
-          sym (kind .placed (pair .0) (pair .2) listed-c) ∙ in-to in
-          let was-from : getD groups (getD ins (pair .1) 0) 0 ≡ from =
-          sym (kind .placed (pair .1) (pair .3) listed-u) ∙ in-from in
-          let in-one : getD others (getD ins (pair .0) 0) 0 ≡ getD others (getD ins (pair .1) 0) 0 =
-          refines (getD ins (pair .0) 0) (getD ins (pair .1) 0) (below (pair .0) (pair .2)) (below (pair .1) (pair .3))
-          (is-to (pair .0) (inl was-to) (new-label (pair .0) (pair .2))
-          ∙ sym (is-to (pair .1) (inr was-from) (new-label (pair .1) (pair .3)))) in
-          ap (λ (x : ℕ). getD others x 0) (pair .7)
-          ∙ closed (pair .0) (pair .1) (pair .2) (pair .3) (kind .sorted .keyed (pair .0) (pair .2) listed-c) (pair .6) in-one
-          ∙ ap (λ (x : ℕ). getD others x 0) (sym (pair .8))
+          let listed-c : getD rows (pair .0) 0 < state-limit = omega (arith, pair .4, put .low-to) in
+          let listed-u : getD rows (pair .1) 0 < state-limit = omega (arith, pair .5, put .low-from) in (
+            pair .0,
+            pair .1,
+            pair .2,
+            pair .3,
+            kind .sorted .keyed (pair .1) (pair .3) listed-u,
+            pair .6,
+            is-to (pair .0) (inl (sym (kind .placed (pair .0) (pair .2) listed-c) ∙ pair .4)) (new-label (pair .0) (pair .2))
+                ∙ sym (is-to (pair .1) (inr (sym (kind .placed (pair .1) (pair .3) listed-u) ∙ pair .5))
+                (new-label (pair .1) (pair .3))),
+            pair .7,
+            pair .8,
+          ))

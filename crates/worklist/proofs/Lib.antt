@@ -7,9 +7,10 @@ pub mod PopLaws
 pub mod QueueLaws
 pub mod FillLaws
 pub mod MergeLaws
+pub mod SizeLaws
+pub mod ReachLaws
 pub mod KindLaws
 pub mod SettleLaws
-pub mod PairLaws
 pub mod ForkLaws
 pub mod ForkRounds
 pub mod SearchLaws

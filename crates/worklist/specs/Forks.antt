@@ -1,15 +1,17 @@
 -- Forks closed at the start, and again with each pair of states that is joined from outside, with lists of the tree's arcs by
 -- name that are kept in between. The arcs are of one kind: from parents, by names, to the states' own numbers. Assumes nothing.
 use mathlib.Core.Path.{_≡_}
+use mathlib.Core.Bool.{Bool}
 use mathlib.Core.List.{List}
 use Prim.Native.Nat.{ℕ, _+_, _<_, _≤_}
 use lib.ListN.{length, getD}
 use Rattle.model.specs.Limits.{state-limit}
 use Rattle.model.specs.Lists.{numbersFrom}
 use Rattle.indexed.specs.Partitions.{Refines, Labelled, KeyClosed}
+use Rattle.partition.specs.Joins.{JoinedTwo}
 use Rattle.partition.specs.Forests.{Forest, rootsOf}
 use Rattle.worklist.specs.Lists.{pair-limit, live, Grew}
-use Rattle.worklist.specs.Settling.{JoinedUntil, Joins, Kind, QueueRoom}
+use Rattle.worklist.specs.Settling.{JoinedUntil, Joins, Kind, QueueRoom, Reached}
 
 -- a tree of n states, at most 512, with the states' own numbers
 pub record ForksReady (n : ℕ) (parents names numbers : List ℕ) : Type 0 where
@@ -36,29 +38,21 @@ pub record ForkLists (n : ℕ) (parents names groups links heads : List ℕ) : T
   pub rows : List ℕ
   pub kind : Kind n parents (numbersFrom n 0) names groups rows links heads Nothing
 
--- what holds while the pairs from `done` on are still to be joined: arcs are covered once they are; every closed partition that
--- is coarser than the one at the start is coarser than this one and joins them; and the queue has room
+-- what holds while the pairs from `done` on are still to be joined: arcs are covered once they are, and the queue has room
 pub record Closing
     (n : ℕ) (parents names numbers start groups links heads firsts seconds : List ℕ) (done tail : ℕ) : Type 0 where
   pub rows : List ℕ
   pub ready : ForksReady n parents names numbers
-  pub labelled : Labelled n groups
+  pub reached : Reached (KeyClosed n parents numbers names) n start groups firsts seconds done tail
   pub kind : Kind n parents numbers names groups rows links heads (Joins firsts seconds done tail)
-  pub safe :
-      (closed : List ℕ) → KeyClosed n parents numbers names closed → Refines n start closed →
-      Refines n groups closed × Joins firsts seconds done tail closed
-  pub inside : (i : ℕ) → done ≤ i → i < tail → (getD firsts i 0 < n) × (getD seconds i 0 < n)
-  pub order : done ≤ tail
   pub room : tail + live rows ≤ pair-limit
-  pub queue : QueueRoom firsts seconds
 
 -- two states joined: what held before holds after, where every closed partition joins them
 pub record JoinedPair
     (n : ℕ) (names numbers above above′ links heads links′ heads′ firsts seconds firsts′ seconds′ : List ℕ) (v w tail tail′ : ℕ)
     : Type 0 where
   pub forest : Forest n above′
-  pub coarser : Refines n (rootsOf above) (rootsOf above′)
-  pub one : getD (rootsOf above′) v 0 ≡ getD (rootsOf above′) w 0
+  pub two : (joined : Bool) × JoinedTwo n v w (rootsOf above) (rootsOf above′) joined
   pub grew : Grew firsts seconds firsts′ seconds′ tail tail′
   pub closing :
       (parents start : List ℕ) (done : ℕ) →
@@ -67,16 +61,16 @@ pub record JoinedPair
       Closing n parents names numbers start (rootsOf above) links heads firsts seconds done tail →
       Closing n parents names numbers start (rootsOf above′) links′ heads′ firsts′ seconds′ done tail′
 
--- the pairs from `done` on joined up to `done′`
+-- the pairs of the queue joined up to `done`
 pub record SettledForks
-    (n : ℕ) (names numbers above above′ links heads links′ heads′ firsts seconds firsts′ seconds′ : List ℕ)
-    (done tail done′ tail′ : ℕ) : Type 0 where
+    (n : ℕ) (names numbers above above′ links heads links′ heads′ firsts seconds firsts′ seconds′ : List ℕ) (tail done tail′ : ℕ)
+    : Type 0 where
   pub forest : Forest n above′
   pub coarser : Refines n (rootsOf above) (rootsOf above′)
   pub closing :
       (parents start : List ℕ) →
-      Closing n parents names numbers start (rootsOf above) links heads firsts seconds done tail →
-      Closing n parents names numbers start (rootsOf above′) links′ heads′ firsts′ seconds′ done′ tail′
+      Closing n parents names numbers start (rootsOf above) links heads firsts seconds 0 tail →
+      Closing n parents names numbers start (rootsOf above′) links′ heads′ firsts′ seconds′ done tail′
 
 -- joined until forks are closed, and the lists kept
 pub record KeptClosed

@@ -115,25 +115,32 @@ pub record MergedAll
   pub backs : Merged n parents keys back-rows to from back-links back-heads firsts₁ seconds₁ firsts₂ seconds₂ tail₁ tail₂
   pub others : Merged n parents more more-rows to from more-links more-heads firsts₂ seconds₂ firsts′ seconds′ tail₂ tail′
 
--- what holds while the pairs from `done` on are still to be joined: arcs of each kind are covered once they are; every closed
--- partition that is coarser than the one at the start is coarser than this one and joins them; and the queue has room
+-- a partition reached from another, with the pairs from `done` on still to be joined: every closed partition that is coarser than
+-- the one at the start is coarser than this one and joins them
+pub record Reached
+    (Closed : List ℕ → Type 0) (n : ℕ) (start groups firsts seconds : List ℕ) (done tail : ℕ) : Type 0 where
+  pub labelled : Labelled n groups
+  pub safe :
+      (closed : List ℕ) → Closed closed → Refines n start closed →
+      Refines n groups closed × Joins firsts seconds done tail closed
+  pub inside : (i : ℕ) → done ≤ i → i < tail → (getD firsts i 0 < n) × (getD seconds i 0 < n)
+  pub order : done ≤ tail
+  pub queue : QueueRoom firsts seconds
+
+-- what holds while the pairs from `done` on are still to be joined, from a partition that was ready: arcs of each kind are covered
+-- once they are, and the queue has room for a pair for each arc that is in a list
 pub record Settling
     (n : ℕ) (parents names numbers keys more start groups : List ℕ)
     (fork-links fork-heads back-links back-heads more-links more-heads firsts seconds : List ℕ) (done tail : ℕ) : Type 0 where
   pub fork-rows : List ℕ
   pub back-rows : List ℕ
   pub more-rows : List ℕ
-  pub ready : RoundReady n parents names numbers keys more groups
+  pub ready : RoundReady n parents names numbers keys more start
+  pub coarser : Refines n start groups
+  pub reached : Reached (RoundClosed n parents names numbers keys more) n start groups firsts seconds done tail
   pub forks : Kind n parents numbers names groups fork-rows fork-links fork-heads (Joins firsts seconds done tail)
   pub backs : Kind n numbers parents keys groups back-rows back-links back-heads (Joins firsts seconds done tail)
   pub others : Kind n numbers parents more groups more-rows more-links more-heads (Joins firsts seconds done tail)
-  pub coarser : Refines n start groups
-  pub safe :
-      (closed : List ℕ) → RoundClosed n parents names numbers keys more closed → Refines n start closed →
-      Refines n groups closed × Joins firsts seconds done tail closed
-  pub inside : (i : ℕ) → done ≤ i → i < tail → (getD firsts i 0 < n) × (getD seconds i 0 < n)
-  pub order : done ≤ tail
-  pub queue : QueueRoom firsts seconds
   pub room : tail + live fork-rows + live back-rows + live more-rows ≤ pair-limit
 
 -- one pair joined: what held with it pending holds without it
@@ -147,11 +154,6 @@ pub record SettledAt
       Settling n parents names numbers keys more start (rootsOf above′) fl′ fh′ bl′ bh′ ml′ mh′ firsts′ seconds′ (suc done) tail′
 
 -- all pairs joined
-pub record SettledAll
-    (n : ℕ) (parents names numbers keys more above above′ : List ℕ)
-    (fl fh bl bh ml mh firsts seconds : List ℕ) (tail : ℕ) : Type 0 where
+pub record SettledAll (n : ℕ) (parents names numbers keys more above above′ : List ℕ) : Type 0 where
   pub forest : Forest n above′
-  pub until :
-      (start : List ℕ) →
-      Settling n parents names numbers keys more start (rootsOf above) fl fh bl bh ml mh firsts seconds 0 tail →
-      JoinedUntil (RoundClosed n parents names numbers keys more) n start (rootsOf above′)
+  pub until : JoinedUntil (RoundClosed n parents names numbers keys more) n (rootsOf above) (rootsOf above′)

@@ -176,13 +176,13 @@ fn settle_at(
     done: usize,
     tail: usize,
 ) -> usize
-    requires forest { ⌜ Forest (length (now groups)) (now groups) ⌝ }
+    requires forest { ⌜ Forest (length (now parents)) (now groups) ⌝ }
     requires settling { ⌜ ((start : List ℕ) ×
-        Settling (length (now groups)) (now parents) (now names) (now numbers) (now keys) (now more) start (rootsOf (now groups))
+        Settling (length (now parents)) (now parents) (now names) (now numbers) (now keys) (now more) start (rootsOf (now groups))
         (now links1) (now heads1) (now links2) (now heads2) (now links3) (now heads3) (now firsts) (now seconds) done tail) ⌝ }
     requires due { ⌜ done < tail ⌝ }
     ensures { λ r.
-        ⌜ SettledAt (length (now (groups .entry))) (now (parents .entry)) (now (names .entry)) (now (numbers .entry))
+        ⌜ SettledAt (length (now (parents .entry))) (now (parents .entry)) (now (names .entry)) (now (numbers .entry))
         (now (keys .entry)) (now (more .entry)) (now (groups .entry)) (now (groups .exit)) (now (links1 .entry))
         (now (heads1 .entry)) (now (links2 .entry)) (now (heads2 .entry)) (now (links3 .entry)) (now (heads3 .entry))
         (now (links1 .exit)) (now (heads1 .exit)) (now (links2 .exit)) (now (heads2 .exit)) (now (links3 .exit))
@@ -231,15 +231,13 @@ fn settle(
     seconds: &mut [u16; 1536],
     tail: usize,
 )
-    requires forest { ⌜ Forest (length (now groups)) (now groups) ⌝ }
-    requires settling { ⌜ ((start : List ℕ) ×
-        Settling (length (now groups)) (now parents) (now names) (now numbers) (now keys) (now more) start (rootsOf (now groups))
-        (now links1) (now heads1) (now links2) (now heads2) (now links3) (now heads3) (now firsts) (now seconds) 0 tail) ⌝ }
+    requires forest { ⌜ Forest (length (now parents)) (now groups) ⌝ }
+    requires settling { ⌜ Settling (length (now parents)) (now parents) (now names) (now numbers) (now keys) (now more)
+        (rootsOf (now groups)) (rootsOf (now groups)) (now links1) (now heads1) (now links2) (now heads2) (now links3)
+        (now heads3) (now firsts) (now seconds) 0 tail ⌝ }
     ensures { λ _.
-        ⌜ SettledAll (length (now (groups .entry))) (now (parents .entry)) (now (names .entry)) (now (numbers .entry))
-        (now (keys .entry)) (now (more .entry)) (now (groups .entry)) (now (groups .exit)) (now (links1 .entry))
-        (now (heads1 .entry)) (now (links2 .entry)) (now (heads2 .entry)) (now (links3 .entry)) (now (heads3 .entry))
-        (now (firsts .entry)) (now (seconds .entry)) tail ⌝ }
+        ⌜ SettledAll (length (now (parents .entry))) (now (parents .entry)) (now (names .entry)) (now (numbers .entry))
+        (now (keys .entry)) (now (more .entry)) (now (groups .entry)) (now (groups .exit)) ⌝ }
 {
     let mut done = 0;
     let mut end = tail;

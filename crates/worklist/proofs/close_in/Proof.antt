@@ -1,15 +1,10 @@
 -- `close_in` meets its contract: the lists are filled; where no pair is queued the partition is closed as it is; else all pairs
 -- are joined, and the forest is flattened. Assumes nothing.
-use mathlib.Core.Path.{sym, subst}
-use mathlib.Core.List.{List}
-use Prim.Native.Nat.{ℕ}
 use native.Mathlib.Omega.{arith}
 use lib.ListN.{length}
-use Rattle.partition.specs.Forests.{rootsOf}
-use Rattle.partition.proofs.ForestLaws.{flat-forest, forest-again}
-use Rattle.worklist.specs.Settling.{RoundClosed, JoinedUntil, Settling}
-use Rattle.worklist.proofs.SettleLaws.{settling-filled, settling-done}
-use Rattle.worklist.proofs.PairLaws.{settling-flat}
+use Rattle.partition.proofs.ForestLaws.{forest-again}
+use Rattle.worklist.proofs.SizeLaws.{flat-by-states}
+use Rattle.worklist.proofs.SettleLaws.{settling-filled, settling-opened, settling-done, settled-flat}
 use borrow.Author.Needs.{needs}
 use Rattle.worklist.proofs.close_in.Statement.{statement}
 use Rattle.worklist.proofs.close_in.Tie as tie
@@ -25,40 +20,6 @@ fills-of c = c .before .before .before .before .before .before .before .before .
 abbrev settles-of : tie.After-flatten-arg → tie.After-settle
 settles-of c = c .before .before .before
 
--- with all lists filled every pair is pending, the partition given by its labels
-abbrev Pending : tie.After-fill-all → List ℕ → Type 0
-Pending fills groups =
-    let at = entry (fills .before) in
-    let last = fills .fill-all .last in
-    Settling (length (at .args .groups .now)) (at .args .parents .now) (at .args .names .now) (at .args .numbers .now)
-    (at .args .keys .now) (at .args .more .now) (at .args .groups .now) groups (last .1 .1 .1 .1 .1 .1 .1 .0)
-    (last .1 .1 .1 .1 .1 .1 .1 .1 .0) (last .1 .1 .1 .1 .1 .1 .1 .1 .1 .0) (last .1 .1 .1 .1 .1 .1 .1 .1 .1 .1 .0)
-    (last .1 .1 .1 .1 .1 .1 .1 .1 .1 .1 .1 .0) (last .1 .1 .1 .1 .1 .1 .1 .1 .1 .1 .1 .1 .0)
-    (last .1 .1 .1 .1 .1 .1 .1 .1 .1 .1 .1 .1 .1 .0) (last .1 .1 .1 .1 .1 .1 .1 .1 .1 .1 .1 .1 .1 .1 .0) 0 (fills .fill-all .result)
-
--- as it is, and as a forest
-filled : (fills : tie.After-fill-all) → Pending fills (entry (fills .before) .args .groups .now)
-filled fills =
-    let at = entry (fills .before) in
-    let last = fills .fill-all .last in
-    settling-filled (length (at .args .groups .now)) (at .args .parents .now) (at .args .names .now) (at .args .numbers .now)
-    (at .args .keys .now) (at .args .more .now) (at .args .groups .now) (last .1 .1 .1 .1 .1 .1 .1 .0)
-    (last .1 .1 .1 .1 .1 .1 .1 .1 .0) (last .1 .1 .1 .1 .1 .1 .1 .1 .1 .0) (last .1 .1 .1 .1 .1 .1 .1 .1 .1 .1 .0)
-    (last .1 .1 .1 .1 .1 .1 .1 .1 .1 .1 .1 .0) (last .1 .1 .1 .1 .1 .1 .1 .1 .1 .1 .1 .1 .0) (at .args .firsts .now)
-    (at .args .seconds .now) (last .1 .1 .1 .1 .1 .1 .1 .1 .1 .1 .1 .1 .1 .0) (last .1 .1 .1 .1 .1 .1 .1 .1 .1 .1 .1 .1 .1 .1 .0)
-    (fills .fill-all .result) (at .pre .0) (at .pre .1 .1 .1 .1 .0) (fills .fill-all .ensures)
-
-pending : (fills : tie.After-fill-all) → Pending fills (rootsOf (entry (fills .before) .args .groups .now))
-pending fills =
-    let at = entry (fills .before) in
-    let last = fills .fill-all .last in
-    settling-flat (length (at .args .groups .now)) (at .args .parents .now) (at .args .names .now) (at .args .numbers .now)
-    (at .args .keys .now) (at .args .more .now) (at .args .groups .now) (at .args .groups .now) (last .1 .1 .1 .1 .1 .1 .1 .0)
-    (last .1 .1 .1 .1 .1 .1 .1 .1 .0) (last .1 .1 .1 .1 .1 .1 .1 .1 .1 .0) (last .1 .1 .1 .1 .1 .1 .1 .1 .1 .1 .0)
-    (last .1 .1 .1 .1 .1 .1 .1 .1 .1 .1 .1 .0) (last .1 .1 .1 .1 .1 .1 .1 .1 .1 .1 .1 .1 .0)
-    (last .1 .1 .1 .1 .1 .1 .1 .1 .1 .1 .1 .1 .1 .0) (last .1 .1 .1 .1 .1 .1 .1 .1 .1 .1 .1 .1 .1 .1 .0) 0 (fills .fill-all .result)
-    (filled fills)
-
 fill-all-requires : tie.Need-fill-all-requires
 fill-all-requires c κs = entry c .pre
 
@@ -67,29 +28,24 @@ same-length c = search needs
 
 returns : tie.Need-returns
 returns c =
-    let fills = c .before in
-    let at = entry (fills .before) in
-    let last = fills .fill-all .last in
-    settling-done (length (at .args .groups .now)) (at .args .parents .now) (at .args .names .now) (at .args .numbers .now)
-    (at .args .keys .now) (at .args .more .now) (at .args .groups .now) (at .args .groups .now) (last .1 .1 .1 .1 .1 .1 .1 .0)
-    (last .1 .1 .1 .1 .1 .1 .1 .1 .0) (last .1 .1 .1 .1 .1 .1 .1 .1 .1 .0) (last .1 .1 .1 .1 .1 .1 .1 .1 .1 .1 .0)
-    (last .1 .1 .1 .1 .1 .1 .1 .1 .1 .1 .1 .0) (last .1 .1 .1 .1 .1 .1 .1 .1 .1 .1 .1 .1 .0)
-    (last .1 .1 .1 .1 .1 .1 .1 .1 .1 .1 .1 .1 .1 .0) (last .1 .1 .1 .1 .1 .1 .1 .1 .1 .1 .1 .1 .1 .1 .0) 0 (fills .fill-all .result)
-    (omega (arith, c .if1 .taken)) (filled fills)
+    let at = entry (c .before .before) in
+    settling-done (settling-filled (at .pre .0) (at .pre .1 .1 .1 .1 .0) (c .before .fill-all .ensures))
+    (omega (arith, c .if1 .taken))
 
 settle-requires : tie.Need-settle-requires
 settle-requires c κs =
     let fills = fills-of c in
-    let at = entry (fills .before) in (
-      flat-forest (length (at .args .groups .now)) (at .args .groups .now) (at .pre .0 .labelled),
-      (at .args .groups .now, pending fills),
+    let at = entry (fills .before) in
+    let ready = at .pre .0 in (
+      flat-by-states (ready .parents-size) (ready .labelled),
+      settling-opened (settling-filled ready (at .pre .1 .1 .1 .1 .0) (fills .fill-all .ensures)),
     )
 
 flatten-requires : tie.Need-flatten-requires
 flatten-requires c κs =
     let settles = settles-of c in
     let at = entry (fills-of (settles .before) .before) in
-    forest-again (length (at .args .groups .now)) (settles .settle .last .1 .1 .1 .1 .1 .0) (settles .settle .ensures .forest)
+    forest-again (length (at .args .parents .now)) (settles .settle .last .1 .1 .1 .1 .1 .0) (settles .settle .ensures .forest)
 
 same-length-2 : tie.Need-same-length-2
 same-length-2 c = search needs
@@ -98,14 +54,8 @@ returns-2 : tie.Need-returns-2
 returns-2 c =
     let flat = c .before .before in
     let settles = settles-of (flat .before) in
-    let fills = fills-of (settles .before) in
-    let at = entry (fills .before) in
-    subst
-    (λ (groups : List ℕ).
-    JoinedUntil (RoundClosed (length (at .args .groups .now)) (at .args .parents .now) (at .args .names .now)
-    (at .args .numbers .now) (at .args .keys .now) (at .args .more .now))
-    (length (at .args .groups .now)) (at .args .groups .now) groups)
-    (sym (flat .flatten .ensures)) (settles .settle .ensures .until (at .args .groups .now) (pending fills))
+    let at = entry (fills-of (settles .before) .before) in
+    settled-flat (at .pre .0) (flat .flatten .ensures) (settles .settle .ensures .until)
 
 pub close-in-spec : {M : Type 1} → statement M
 close-in-spec =

@@ -3,8 +3,8 @@ use native.Mathlib.Omega.{arith}
 use lib.ListN.{length}
 use Rattle.worklist.specs.Settling.{QueueRoom}
 use Rattle.worklist.proofs.FillLaws.{filled-none}
-use Rattle.worklist.proofs.KindLaws.{queue-grew}
-use Rattle.worklist.proofs.SettleLaws.{numbers-size, numbers-below, fill-asked}
+use Rattle.worklist.proofs.QueueLaws.{queue-grew}
+use Rattle.worklist.proofs.SizeLaws.{own-size, own-below, fill-asked}
 use borrow.Author.Tests.{not-true}
 use Rattle.worklist.proofs.fill_all.Statement.{statement}
 use Rattle.worklist.proofs.fill_all.Tie as tie
@@ -21,41 +21,27 @@ second-of c = c .before .before .before .before .before
 
 -- the queue after each call is as long as before
 queue-first : (c : tie.After-fill) → QueueRoom (c .fill .last .1 .1 .1 .1 .1 .1 .0) (c .fill .last .1 .1 .1 .1 .1 .1 .1 .0)
-queue-first c =
-    let at = from-first (c .before) in
-    queue-grew (at .args .firsts .now) (at .args .seconds .now) (c .fill .last .1 .1 .1 .1 .1 .1 .0)
-    (c .fill .last .1 .1 .1 .1 .1 .1 .1 .0) 0 (c .fill .result) (c .fill .ensures .grew) (at .pre .1 .1 .1 .1 .0)
+queue-first c = queue-grew (c .fill .ensures .grew) (from-first (c .before) .pre .1 .1 .1 .1 .0)
 
 queue-second : (c : tie.After-fill2) → QueueRoom (c .fill2 .last .1 .1 .1 .1 .1 .1 .0) (c .fill2 .last .1 .1 .1 .1 .1 .1 .1 .0)
-queue-second c =
-    let first = first-of (c .before) in
-    queue-grew (first .fill .last .1 .1 .1 .1 .1 .1 .0) (first .fill .last .1 .1 .1 .1 .1 .1 .1 .0)
-    (c .fill2 .last .1 .1 .1 .1 .1 .1 .0) (c .fill2 .last .1 .1 .1 .1 .1 .1 .1 .0) (first .fill .result) (c .fill2 .result)
-    (c .fill2 .ensures .grew) (queue-first first)
+queue-second c = queue-grew (c .fill2 .ensures .grew) (queue-first (first-of (c .before)))
 
 fill-requires : tie.Need-fill-requires
 fill-requires c κs =
     let at = from-first c in
     let ready = at .pre .0 in
-    fill-asked (at .args .parents .now) (at .args .numbers .now) (at .args .names .now) (at .args .groups .now)
-    (at .args .links1 .now) (at .args .heads1 .now) (at .args .firsts .now) (at .args .seconds .now) 0 (ready .few)
-    (ready .parents-size) (numbers-size (length (at .args .groups .now)) (at .args .parents .now) (at .args .names .now)
-    (at .args .numbers .now) (at .args .keys .now) (at .args .more .now) (at .args .groups .now) ready) (ready .names-size)
-    (ready .parents-below) (ready .labelled) (omega (arith, ready .few)) (at .pre .1 .0) (at .pre .1 .1 .1 .1 .0)
+    fill-asked (at .args .parents .now) (at .args .numbers .now) (at .args .names .now) 0 (ready .few) (ready .parents-size)
+    (own-size (ready .own)) (ready .names-size) (ready .parents-below) (ready .labelled) (omega (arith, ready .few))
+    (at .pre .1 .0) (at .pre .1 .1 .1 .1 .0)
 
 fill-requires-2 : tie.Need-fill-requires-2
 fill-requires-2 c κs =
     let first = first-of c in
     let at = from-first (first .before) in
     let ready = at .pre .0 in
-    fill-asked (at .args .numbers .now) (at .args .parents .now) (at .args .keys .now) (at .args .groups .now)
-    (at .args .links2 .now) (at .args .heads2 .now) (first .fill .last .1 .1 .1 .1 .1 .1 .0)
-    (first .fill .last .1 .1 .1 .1 .1 .1 .1 .0) (first .fill .result) (ready .few) (numbers-size (length (at .args .groups .now))
-    (at .args .parents .now) (at .args .names .now) (at .args .numbers .now) (at .args .keys .now) (at .args .more .now)
-    (at .args .groups .now) ready) (ready .parents-size) (ready .keys-size) (numbers-below (length (at .args .groups .now))
-    (at .args .parents .now) (at .args .names .now) (at .args .numbers .now) (at .args .keys .now) (at .args .more .now)
-    (at .args .groups .now) ready) (ready .labelled) (omega (arith, ready .few, first .fill .ensures .counted))
-    (at .pre .1 .1 .0) (queue-first first)
+    fill-asked (at .args .numbers .now) (at .args .parents .now) (at .args .keys .now) (first .fill .result) (ready .few)
+    (own-size (ready .own)) (ready .parents-size) (ready .keys-size) (own-below (ready .own)) (ready .labelled)
+    (omega (arith, ready .few, first .fill .ensures .counted)) (at .pre .1 .1 .0) (queue-first first)
 
 fill-requires-3 : tie.Need-fill-requires-3
 fill-requires-3 c κs =
@@ -63,13 +49,8 @@ fill-requires-3 c κs =
     let first = first-of (second .before) in
     let at = from-first (first .before) in
     let ready = at .pre .0 in
-    fill-asked (at .args .numbers .now) (at .args .parents .now) (at .args .more .now) (at .args .groups .now)
-    (at .args .links3 .now) (at .args .heads3 .now) (second .fill2 .last .1 .1 .1 .1 .1 .1 .0)
-    (second .fill2 .last .1 .1 .1 .1 .1 .1 .1 .0) (second .fill2 .result) (ready .few) (numbers-size
-    (length (at .args .groups .now)) (at .args .parents .now) (at .args .names .now) (at .args .numbers .now)
-    (at .args .keys .now) (at .args .more .now) (at .args .groups .now) ready) (ready .parents-size) (ready .more-size)
-    (numbers-below (length (at .args .groups .now)) (at .args .parents .now) (at .args .names .now) (at .args .numbers .now)
-    (at .args .keys .now) (at .args .more .now) (at .args .groups .now) ready) (ready .labelled)
+    fill-asked (at .args .numbers .now) (at .args .parents .now) (at .args .more .now) (second .fill2 .result) (ready .few)
+    (own-size (ready .own)) (ready .parents-size) (ready .more-size) (own-below (ready .own)) (ready .labelled)
     (omega (arith, ready .few, first .fill .ensures .counted, second .fill2 .ensures .counted)) (at .pre .1 .1 .1 .0)
     (queue-second second)
 

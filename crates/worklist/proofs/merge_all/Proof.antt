@@ -1,13 +1,8 @@
 -- `merge_all` meets its contract: three kinds of lists merged, one after the other. Assumes nothing.
 use mathlib.Core.Path.{sym, _∙_}
-use mathlib.Core.List.{List}
-use Prim.Native.Nat.{ℕ}
 use native.Mathlib.Omega.{arith}
-use lib.ListN.{length}
-use Rattle.worklist.specs.Lists.{Merged}
-use Rattle.worklist.specs.Settling.{ListedAll}
-use Rattle.worklist.proofs.KindLaws.{grew-twice, queue-grew}
-use Rattle.worklist.proofs.SettleLaws.{sorted-by-keys, merged-by-states}
+use Rattle.worklist.proofs.QueueLaws.{queue-grew}
+use Rattle.worklist.proofs.SizeLaws.{sorted-by-keys, merged-by-states}
 use Rattle.worklist.proofs.merge_all.Statement.{statement}
 use Rattle.worklist.proofs.merge_all.Tie as tie
 
@@ -21,58 +16,12 @@ first-of c = c .before .before .before .before
 abbrev second-of : tie.After-merge-arg12 → tie.After-merge2
 second-of c = c .before .before .before .before
 
--- what the lists are at the entry, with any rows
-abbrev AtEntry : tie.Start → List ℕ → List ℕ → List ℕ → Type 0
-AtEntry at rows₁ rows₂ rows₃ =
-    ListedAll (length (at .args .parents .now)) (at .args .names .now) (at .args .keys .now) (at .args .more .now) rows₁ rows₂
-    rows₃ (at .args .links1 .now) (at .args .heads1 .now) (at .args .links2 .now) (at .args .heads2 .now) (at .args .links3 .now)
-    (at .args .heads3 .now) (at .args .tail)
-
--- what each call promises, by the number of states
-merged-first :
-    (c : tie.After-merge) → let at = from-first (c .before) in
-    (rows₁ rows₂ rows₃ : List ℕ) → AtEntry at rows₁ rows₂ rows₃ →
-    Merged (length (at .args .parents .now)) (at .args .numbers .now) (at .args .names .now) rows₁ (at .args .to) (at .args .from)
-    (c .merge .last .1 .1 .0) (c .merge .last .1 .1 .1 .0) (at .args .firsts .now) (at .args .seconds .now)
-    (c .merge .last .1 .1 .1 .1 .0) (c .merge .last .1 .1 .1 .1 .1 .0) (at .args .tail) (c .merge .result)
-merged-first c rows₁ rows₂ rows₃ listed =
-    let at = from-first (c .before) in
-    merged-by-states (length (at .args .parents .now)) (at .args .numbers .now) (at .args .names .now) rows₁
-    (at .args .links1 .now)
-    (at .args .heads1 .now) (at .args .to) (at .args .from) (c .merge .last .1 .1 .0) (c .merge .last .1 .1 .1 .0)
-    (at .args .firsts .now) (at .args .seconds .now) (c .merge .last .1 .1 .1 .1 .0) (c .merge .last .1 .1 .1 .1 .1 .0)
-    (at .args .tail) (c .merge .result) (listed .forks)
-    (c .merge .ensures rows₁)
-
-merged-second :
-    (c : tie.After-merge2) → let first = first-of (c .before) in
-    let at = from-first (first .before) in
-    (rows₁ rows₂ rows₃ : List ℕ) → AtEntry at rows₁ rows₂ rows₃ →
-    Merged (length (at .args .parents .now)) (at .args .parents .now) (at .args .keys .now) rows₂ (at .args .to) (at .args .from)
-    (c .merge2 .last .1 .1 .0) (c .merge2 .last .1 .1 .1 .0) (first .merge .last .1 .1 .1 .1 .0)
-    (first .merge .last .1 .1 .1 .1 .1 .0)
-    (c .merge2 .last .1 .1 .1 .1 .0) (c .merge2 .last .1 .1 .1 .1 .1 .0) (first .merge .result) (c .merge2 .result)
-merged-second c rows₁ rows₂ rows₃ listed =
-    let first = first-of (c .before) in
-    let at = from-first (first .before) in
-    merged-by-states (length (at .args .parents .now)) (at .args .parents .now) (at .args .keys .now) rows₂
-    (at .args .links2 .now)
-    (at .args .heads2 .now) (at .args .to) (at .args .from) (c .merge2 .last .1 .1 .0) (c .merge2 .last .1 .1 .1 .0)
-    (first .merge .last .1 .1 .1 .1 .0) (first .merge .last .1 .1 .1 .1 .1 .0) (c .merge2 .last .1 .1 .1 .1 .0)
-    (c .merge2 .last .1 .1 .1 .1 .1 .0) (first .merge .result) (c .merge2 .result) (listed .backs)
-    (c .merge2 .ensures rows₂)
-
 merge-requires : tie.Need-merge-requires
 merge-requires c κs =
     let at = from-first c in
-    let n = length (at .args .parents .now) in
     let queue = at .pre .1 .0 in
     let listed = at .pre .0 .3 in (
-      (
-        at .pre .0 .0,
-        sorted-by-keys n (at .args .names .now) (at .pre .0 .0) (at .args .links1 .now) (at .args .heads1 .now) (listed .forks),
-        omega (arith, listed .room),
-      ),
+      (at .pre .0 .0, sorted-by-keys (listed .forks), omega (arith, listed .room)),
       (
         at .pre .1 .1 .0 ∙ sym (listed .forks .keys-size),
         (
@@ -89,16 +38,10 @@ merge-requires-2 : tie.Need-merge-requires-2
 merge-requires-2 c κs =
     let first = first-of c in
     let at = from-first (first .before) in
-    let n = length (at .args .parents .now) in
     let listed = at .pre .0 .3 in
-    let merged = merged-first first (at .pre .0 .0) (at .pre .0 .1) (at .pre .0 .2) listed in
-    let queue = queue-grew (at .args .firsts .now) (at .args .seconds .now) (first .merge .last .1 .1 .1 .1 .0)
-    (first .merge .last .1 .1 .1 .1 .1 .0) (at .args .tail) (first .merge .result) (merged .grew) (at .pre .1 .0) in (
-      (
-        at .pre .0 .1,
-        sorted-by-keys n (at .args .keys .now) (at .pre .0 .1) (at .args .links2 .now) (at .args .heads2 .now) (listed .backs),
-        omega (arith, listed .room, merged .counted),
-      ),
+    let merged = merged-by-states (listed .forks) (first .merge .ensures (at .pre .0 .0)) in
+    let queue = queue-grew (merged .grew) (at .pre .1 .0) in (
+      (at .pre .0 .1, sorted-by-keys (listed .backs), omega (arith, listed .room, merged .counted)),
       (
         sym (listed .backs .keys-size),
         (
@@ -116,22 +59,11 @@ merge-requires-3 c κs =
     let second = second-of c in
     let first = first-of (second .before) in
     let at = from-first (first .before) in
-    let n = length (at .args .parents .now) in
     let listed = at .pre .0 .3 in
-    let merged₁ = merged-first first (at .pre .0 .0) (at .pre .0 .1) (at .pre .0 .2) listed in
-    let merged₂ = merged-second second (at .pre .0 .0) (at .pre .0 .1) (at .pre .0 .2) listed in
-    let grew =
-    grew-twice (at .args .firsts .now) (at .args .seconds .now) (first .merge .last .1 .1 .1 .1 .0)
-    (first .merge .last .1 .1 .1 .1 .1 .0) (second .merge2 .last .1 .1 .1 .1 .0) (second .merge2 .last .1 .1 .1 .1 .1 .0)
-    (at .args .tail) (first .merge .result) (second .merge2 .result) (merged₁ .grew) (merged₂ .grew) in
-    let queue =
-    queue-grew (at .args .firsts .now) (at .args .seconds .now) (second .merge2 .last .1 .1 .1 .1 .0)
-    (second .merge2 .last .1 .1 .1 .1 .1 .0) (at .args .tail) (second .merge2 .result) grew (at .pre .1 .0) in (
-      (
-        at .pre .0 .2,
-        sorted-by-keys n (at .args .more .now) (at .pre .0 .2) (at .args .links3 .now) (at .args .heads3 .now) (listed .others),
-        omega (arith, listed .room, merged₁ .counted, merged₂ .counted),
-      ),
+    let merged₁ = merged-by-states (listed .forks) (first .merge .ensures (at .pre .0 .0)) in
+    let merged₂ = merged-by-states (listed .backs) (second .merge2 .ensures (at .pre .0 .1)) in
+    let queue = queue-grew (merged₂ .grew) (queue-grew (merged₁ .grew) (at .pre .1 .0)) in (
+      (at .pre .0 .2, sorted-by-keys (listed .others), omega (arith, listed .room, merged₁ .counted, merged₂ .counted)),
       (
         sym (listed .others .keys-size),
         (
@@ -148,7 +80,6 @@ returns : tie.Need-returns
 returns c rows₁ rows₂ rows₃ listed =
     let second = second-of (c .before) in
     let first = first-of (second .before) in
-    let at = from-first (first .before) in
     record {
       firsts₁ = first .merge .last .1 .1 .1 .1 .0;
       seconds₁ = first .merge .last .1 .1 .1 .1 .1 .0;
@@ -156,14 +87,9 @@ returns c rows₁ rows₂ rows₃ listed =
       firsts₂ = second .merge2 .last .1 .1 .1 .1 .0;
       seconds₂ = second .merge2 .last .1 .1 .1 .1 .1 .0;
       tail₂ = second .merge2 .result;
-      forks = merged-first first rows₁ rows₂ rows₃ listed;
-      backs = merged-second second rows₁ rows₂ rows₃ listed;
-      others =
-          merged-by-states (length (at .args .parents .now)) (at .args .parents .now) (at .args .more .now) rows₃
-          (at .args .links3 .now) (at .args .heads3 .now) (at .args .to) (at .args .from) (c .merge3 .last .1 .1 .0)
-          (c .merge3 .last .1 .1 .1 .0) (second .merge2 .last .1 .1 .1 .1 .0) (second .merge2 .last .1 .1 .1 .1 .1 .0)
-          (c .merge3 .last .1 .1 .1 .1 .0) (c .merge3 .last .1 .1 .1 .1 .1 .0) (second .merge2 .result) (c .merge3 .result)
-          (listed .others) (c .merge3 .ensures rows₃);
+      forks = merged-by-states (listed .forks) (first .merge .ensures rows₁);
+      backs = merged-by-states (listed .backs) (second .merge2 .ensures rows₂);
+      others = merged-by-states (listed .others) (c .merge3 .ensures rows₃);
     }
 
 pub merge-all-spec : {M : Type 1} → statement M

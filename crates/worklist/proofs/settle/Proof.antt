@@ -1,20 +1,23 @@
--- `settle` meets its contract. The invariant of its loop: what held at the start with all pairs pending holds with those before
--- `done` joined. The measure is the room left in the queue. Assumes nothing.
-use Prim.Native.Nat.{_+_, _-_, _<_}
+-- `settle` meets its contract. The invariant of its loop: the groups are a forest, and from the partition at the entry on all
+-- pairs before `done` are joined. The measure is the room left in the queue. Assumes nothing.
+use mathlib.Core.Path.{sym, _∙_}
+use Prim.Native.Nat.{_-_, _<_}
 use native.Mathlib.Numerals.{add-one}
 use native.Mathlib.Omega.{arith}
 use lib.ListN.{length}
-use Rattle.partition.proofs.ForestLaws.{forest-again}
+use Rattle.partition.specs.Forests.{Forest, rootsOf}
 use Rattle.worklist.specs.Lists.{pair-limit}
-use Rattle.worklist.proofs.PairLaws.{SettledTo, settled-none, settled-again, settled-more, settled-all}
+use Rattle.worklist.specs.Settling.{Settling}
+use Rattle.worklist.proofs.SettleLaws.{settling-done}
 use Rattle.worklist.proofs.settle.Statement.{statement}
 use Rattle.worklist.proofs.settle.Tie as tie
 
 abbrev Inv-loop : tie.InvT-loop
 Inv-loop parents names numbers keys more groups₀ links1₀ heads1₀ links2₀ heads2₀ links3₀ heads3₀ firsts₀ seconds₀ tail done₀ end₀
     groups links1 heads1 links2 heads2 links3 heads3 firsts seconds done end =
-    SettledTo (length groups₀) parents names numbers keys more groups₀ groups links1₀ heads1₀ links2₀ heads2₀ links3₀ heads3₀
-    links1 heads1 links2 heads2 links3 heads3 firsts₀ seconds₀ firsts seconds tail done end
+    Forest (length parents) groups
+    × Settling (length parents) parents names numbers keys more (rootsOf groups₀) (rootsOf groups) links1 heads1 links2 heads2
+    links3 heads3 firsts seconds done end
 
 abbrev μ-loop : tie.MeasureT-loop
 μ-loop parents names numbers keys more groups₀ links1₀ heads1₀ links2₀ heads2₀ links3₀ heads3₀ firsts₀ seconds₀ tail done₀ end₀
@@ -33,35 +36,16 @@ step-of c = c .before .before
 
 -- a pair that is due stands in the queue
 due-low : (turn : tie.In-loop Inv-loop μ-loop) → turn .before .loop .done < pair-limit
-due-low turn = omega (arith, turn .loop-test .taken, turn .before .loop .inv .some .1 .room)
+due-low turn = omega (arith, turn .loop-test .taken, turn .before .loop .inv .1 .room)
 
 loop-holds : tie.Need-loop-holds Inv-loop μ-loop
-loop-holds c =
-    let at = c .before .before .before .before .before .before in
-    settled-none (length (at .args .groups .now)) (at .args .parents .now) (at .args .names .now) (at .args .numbers .now)
-    (at .args .keys .now) (at .args .more .now) (at .args .groups .now)
-    (at .args .links1 .now) (at .args .heads1 .now)
-    (at .args .links2 .now) (at .args .heads2 .now) (at .args .links3 .now) (at .args .heads3 .now) (at .args .firsts .now)
-    (at .args .seconds .now) (at .args .tail) (at .pre .0) (at .pre .1)
+loop-holds c = c .before .before .before .before .before .before .pre
 
 settle-at-requires : tie.Need-settle-at-requires Inv-loop μ-loop
 settle-at-requires c κs =
     let turn = turn-of c in
     let here = turn .before in
-    let at = entry here in (
-      forest-again (length (at .args .groups .now)) (here .loop .groups) (here .loop .inv .forest),
-      (
-        settled-again (length (at .args .groups .now)) (at .args .parents .now) (at .args .names .now) (at .args .numbers .now)
-            (at .args .keys .now) (at .args .more .now)
-            (at .args .groups .now) (at .args .links1 .now) (at .args .heads1 .now)
-            (at .args .links2 .now) (at .args .heads2 .now) (at .args .links3 .now) (at .args .heads3 .now)
-            (at .args .firsts .now) (at .args .seconds .now) (at .args .tail)
-            (here .loop .groups) (here .loop .links1) (here .loop .heads1) (here .loop .links2) (here .loop .heads2)
-            (here .loop .links3) (here .loop .heads3) (here .loop .firsts) (here .loop .seconds) (here .loop .done)
-            (here .loop .end) (here .loop .inv),
-        turn .loop-test .taken,
-      ),
-    )
+    (here .loop .inv .0, ((rootsOf (entry here .args .groups .now), here .loop .inv .1), turn .loop-test .taken))
 
 add-done : tie.Need-add-done Inv-loop μ-loop
 add-done c = omega (arith, due-low (turn-of (step-of c .before)))
@@ -73,37 +57,16 @@ loop-again : tie.Need-loop-again Inv-loop μ-loop
 loop-again c =
     let step = step-of c in
     let here = turn-of (step .before) .before in
-    let at = entry here in
-    settled-more (length (at .args .groups .now)) (at .args .parents .now) (at .args .names .now) (at .args .numbers .now)
-    (at .args .keys .now) (at .args .more .now)
-    (at .args .groups .now) (at .args .links1 .now) (at .args .heads1 .now)
-    (at .args .links2 .now) (at .args .heads2 .now) (at .args .links3 .now) (at .args .heads3 .now) (at .args .firsts .now)
-    (at .args .seconds .now) (at .args .tail)
-    (here .loop .groups) (here .loop .links1) (here .loop .heads1) (here .loop .links2) (here .loop .heads2)
-    (here .loop .links3) (here .loop .heads3) (here .loop .firsts) (here .loop .seconds) (here .loop .done) (here .loop .end)
-    (here .loop .inv) (step .settle-at .last .1 .1 .1 .1 .1 .0) (step .settle-at .last .1 .1 .1 .1 .1 .1 .0)
-    (step .settle-at .last .1 .1 .1 .1 .1 .1 .1 .0) (step .settle-at .last .1 .1 .1 .1 .1 .1 .1 .1 .0)
-    (step .settle-at .last .1 .1 .1 .1 .1 .1 .1 .1 .1 .0) (step .settle-at .last .1 .1 .1 .1 .1 .1 .1 .1 .1 .1 .0)
-    (step .settle-at .last .1 .1 .1 .1 .1 .1 .1 .1 .1 .1 .1 .0)
-    (step .settle-at .last .1 .1 .1 .1 .1 .1 .1 .1 .1 .1 .1 .1 .0)
-    (step .settle-at .last .1 .1 .1 .1 .1 .1 .1 .1 .1 .1 .1 .1 .1 .0) (here .loop .done + 1) (step .settle-at .result)
-    (add-one (here .loop .done)) (step .settle-at .ensures)
+    let settled = step .settle-at .ensures in
+    (settled .forest, rw add-one (settled .settling (rootsOf (entry here .args .groups .now)) (here .loop .inv .1)))
 
 same-length : tie.Need-same-length Inv-loop μ-loop
-same-length c = c .before .loop .inv .forest .size
+same-length c = c .before .loop .inv .0 .size ∙ sym (entry (c .before) .pre .0 .size)
 
 returns : tie.Need-returns Inv-loop μ-loop
 returns c =
-    let here = c .before in
-    let at = entry here in
-    settled-all (length (at .args .groups .now)) (at .args .parents .now) (at .args .names .now) (at .args .numbers .now)
-    (at .args .keys .now) (at .args .more .now)
-    (at .args .groups .now) (at .args .links1 .now) (at .args .heads1 .now)
-    (at .args .links2 .now) (at .args .heads2 .now) (at .args .links3 .now) (at .args .heads3 .now) (at .args .firsts .now)
-    (at .args .seconds .now) (at .args .tail)
-    (here .loop .groups) (here .loop .links1) (here .loop .heads1) (here .loop .links2) (here .loop .heads2)
-    (here .loop .links3) (here .loop .heads3) (here .loop .firsts) (here .loop .seconds) (here .loop .done) (here .loop .end)
-    (here .loop .inv) (omega arith)
+    let inv = c .before .loop .inv in
+    record { forest = inv .0; until = settling-done (inv .1) (omega arith) }
 
 pub settle-spec : {M : Type 1} → statement M
 settle-spec =

@@ -1,13 +1,13 @@
 -- `settle_at` meets its contract: the groups of both states of the pair are made one, and where they were two, their lists are
 -- merged. Assumes nothing.
-use mathlib.Core.Path.{sym, _∙_}
 use Prim.Native.Nat.{_<_}
 use native.Mathlib.Omega.{arith}
 use lib.ListN.{length}
 use borrow.Author.Needs.{needs}
-use Rattle.partition.specs.Forests.{rootsOf}
-use Rattle.worklist.proofs.SettleLaws.{numbers-size}
-use Rattle.worklist.proofs.PairLaws.{listed-all, settled-skipped, settled-joined}
+use Rattle.partition.specs.Forests.{JoinedRoots}
+use Rattle.partition.proofs.ForestLaws.{forest-again}
+use Rattle.worklist.proofs.SizeLaws.{own-size, roots-by-states}
+use Rattle.worklist.proofs.SettleLaws.{listed-all, settled-skipped, settled-joined}
 use Rattle.worklist.proofs.settle_at.Statement.{statement}
 use Rattle.worklist.proofs.settle_at.Tie as tie
 
@@ -21,16 +21,12 @@ joins-of c = c .before .before .before
 abbrev two-of : tie.After-merge-all-arg8 → tie.Else1
 two-of c = c .before .before .before .before .before .before .before .before
 
--- the pair's states are states
-first-inside : (c : tie.After-wide162) → c .before .before .wide16 .result < length (entry c .args .groups .now)
-first-inside c =
-    let at = entry c in
-    omega (arith, c .before .before .wide16 .ensures, at .pre .1 .0 .1 .inside (at .args .done) (omega arith) (at .pre .1 .1) .0)
-
-second-inside : (c : tie.After-wide162) → c .wide162 .result < length (entry c .args .groups .now)
-second-inside c =
-    let at = entry c in
-    omega (arith, c .wide162 .ensures, at .pre .1 .0 .1 .inside (at .args .done) (omega arith) (at .pre .1 .1) .1)
+-- the roots joined, by the number of states
+roots-of :
+    (c : tie.After-join) → let at = entry (c .before) in
+    JoinedRoots (length (at .args .parents .now)) (at .args .groups .now) (c .join .last .0)
+    (c .before .before .before .wide16 .result) (c .before .wide162 .result) (c .join .result .to) (c .join .result .from)
+roots-of c = roots-by-states (entry (c .before) .pre .0) (c .join .ensures)
 
 -- two roots, the lower first
 lower-of : (c : tie.Else1) → joins-of (c .before) .join .result .to < joins-of (c .before) .join .result .from
@@ -57,7 +53,18 @@ wide16-requires-2 c κs = search needs
 join-requires : tie.Need-join-requires
 join-requires c κs =
     let at = entry c in
-    (at .pre .0, (at .pre .1 .0 .1 .ready .few, (first-inside c, second-inside c)))
+    let forest = at .pre .0 in
+    let settling = at .pre .1 .0 .1 in
+    let pair = settling .reached .inside (at .args .done) (omega arith) (at .pre .1 .1) in (
+      forest-again (length (at .args .parents .now)) (at .args .groups .now) forest,
+      (
+        omega (arith, forest .size, settling .ready .few),
+        (
+          omega (arith, forest .size, c .before .before .wide16 .ensures, pair .0),
+          omega (arith, forest .size, c .wide162 .ensures, pair .1),
+        ),
+      ),
+    )
 
 same-length : tie.Need-same-length
 same-length c = search needs
@@ -66,34 +73,21 @@ returns : tie.Need-returns
 returns c =
     let joins = joins-of (c .before) in
     let at = entry (joins .before) in
-    settled-skipped (length (at .args .groups .now)) (at .args .parents .now) (at .args .names .now) (at .args .numbers .now)
-    (at .args .keys .now) (at .args .more .now) (at .args .groups .now) (joins .join .last .0) (at .args .links1 .now)
-    (at .args .heads1 .now) (at .args .links2 .now) (at .args .heads2 .now) (at .args .links3 .now) (at .args .heads3 .now)
-    (at .args .firsts .now) (at .args .seconds .now) (at .args .done) (at .args .tail)
-    (joins .before .before .before .wide16 .result) (joins .before .wide162 .result) (joins .join .result .to)
-    (joins .join .result .from) (at .pre .1 .1) (sym (joins .before .before .before .wide16 .ensures))
-    (sym (joins .before .wide162 .ensures)) (joins .join .ensures) (omega (arith, c .if1 .taken))
+    settled-skipped (at .pre .0) (at .pre .1 .1) (joins .before .before .before .wide16 .ensures)
+    (joins .before .wide162 .ensures) (roots-of joins) (omega (arith, c .if1 .taken))
 
 merge-all-requires : tie.Need-merge-all-requires
 merge-all-requires c κs =
     let two = two-of c in
     let joins = joins-of (two .before) in
     let at = entry (joins .before) in
-    let settling = at .pre .1 .0 .1 in
-    let listed =
-    listed-all (length (at .args .groups .now)) (at .args .parents .now) (at .args .names .now) (at .args .numbers .now)
-    (at .args .keys .now) (at .args .more .now) (at .pre .1 .0 .0) (rootsOf (at .args .groups .now)) (at .args .links1 .now)
-    (at .args .heads1 .now) (at .args .links2 .now) (at .args .heads2 .now) (at .args .links3 .now) (at .args .heads3 .now)
-    (at .args .firsts .now) (at .args .seconds .now) (at .args .done) (at .args .tail) settling in
-    let size =
-    numbers-size (length (at .args .groups .now)) (at .args .parents .now) (at .args .names .now) (at .args .numbers .now)
-    (at .args .keys .now) (at .args .more .now) (rootsOf (at .args .groups .now)) (settling .ready) in (
-      (settling .fork-rows, settling .back-rows, settling .more-rows, listed),
+    let settling = at .pre .1 .0 .1 in (
+      (settling .fork-rows, settling .back-rows, settling .more-rows, listed-all settling),
       (
-        settling .queue,
+        settling .reached .queue,
         (
-          size ∙ sym (settling .ready .parents-size),
-          (lower-of two, omega (arith, joins .join .ensures .inside, settling .ready .few)),
+          own-size (settling .ready .own),
+          (lower-of two, omega (arith, roots-of joins .inside, settling .ready .few)),
         ),
       ),
     )
@@ -106,18 +100,8 @@ returns-2 c =
     let two = two-of (c .before) in
     let joins = joins-of (two .before) in
     let at = entry (joins .before) in
-    settled-joined (length (at .args .groups .now)) (at .args .parents .now) (at .args .names .now) (at .args .numbers .now)
-    (at .args .keys .now) (at .args .more .now) (at .args .groups .now) (joins .join .last .0) (at .args .links1 .now)
-    (at .args .heads1 .now) (at .args .links2 .now) (at .args .heads2 .now) (at .args .links3 .now) (at .args .heads3 .now)
-    (at .args .firsts .now) (at .args .seconds .now) (at .args .done) (at .args .tail)
-    (joins .before .before .before .wide16 .result) (joins .before .wide162 .result) (joins .join .result .to)
-    (joins .join .result .from) (at .pre .1 .1) (sym (joins .before .before .before .wide16 .ensures))
-    (sym (joins .before .wide162 .ensures)) (joins .join .ensures) (c .merge-all .last .1 .1 .1 .1 .1 .0)
-    (c .merge-all .last .1 .1 .1 .1 .1 .1 .0) (c .merge-all .last .1 .1 .1 .1 .1 .1 .1 .0)
-    (c .merge-all .last .1 .1 .1 .1 .1 .1 .1 .1 .0) (c .merge-all .last .1 .1 .1 .1 .1 .1 .1 .1 .1 .0)
-    (c .merge-all .last .1 .1 .1 .1 .1 .1 .1 .1 .1 .1 .0) (c .merge-all .last .1 .1 .1 .1 .1 .1 .1 .1 .1 .1 .1 .0)
-    (c .merge-all .last .1 .1 .1 .1 .1 .1 .1 .1 .1 .1 .1 .1 .0) (c .merge-all .result) (first-inside (joins .before))
-    (second-inside (joins .before)) (lower-of two) (c .merge-all .ensures)
+    settled-joined (at .pre .0) (at .pre .1 .1) (joins .before .before .before .wide16 .ensures)
+    (joins .before .wide162 .ensures) (roots-of joins) (lower-of two) (c .merge-all .ensures)
 
 pub settle-at-spec : {M : Type 1} → statement M
 settle-at-spec =

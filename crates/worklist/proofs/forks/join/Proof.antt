@@ -1,11 +1,11 @@
 -- `forks::join` meets its contract: the groups of both states are made one, and where they were two, their lists are merged.
 -- Assumes nothing.
-use mathlib.Core.Path.{sym, _∙_, refl}
 use Prim.Native.Nat.{_<_}
 use native.Mathlib.Omega.{arith}
 use lib.ListN.{length}
 use borrow.Author.Needs.{needs}
-use Rattle.worklist.proofs.SettleLaws.{sorted-by-keys}
+use Rattle.partition.proofs.ForestLaws.{forest-again}
+use Rattle.worklist.proofs.SizeLaws.{roots-by-states}
 use Rattle.worklist.proofs.ForkLaws.{pair-skipped, pair-joined}
 use Rattle.worklist.proofs.forks.join.Statement.{statement}
 use Rattle.worklist.proofs.forks.join.Tie as tie
@@ -27,7 +27,13 @@ lower-of c = omega (arith, c .if1 .left, joins-of (c .before) .join .ensures .or
 join-requires : tie.Need-join-requires
 join-requires c κs =
     let at = entry c in
-    (at .pre .0, (at .pre .1 .0 .1 .few, (at .pre .1 .1 .1 .1 .0, at .pre .1 .1 .1 .1 .1)))
+    let forest = at .pre .0 in (
+      forest-again (length (at .args .names .now)) (at .args .groups .now) forest,
+      (
+        omega (arith, forest .size, at .pre .1 .0 .1 .few),
+        (omega (arith, forest .size, at .pre .1 .1 .1 .1 .0), omega (arith, forest .size, at .pre .1 .1 .1 .1 .1)),
+      ),
+    )
 
 same-length : tie.Need-same-length
 same-length c = search needs
@@ -36,29 +42,23 @@ returns : tie.Need-returns
 returns c =
     let joins = joins-of (c .before) in
     let at = entry (joins .before) in
-    pair-skipped (length (at .args .groups .now)) (at .args .names .now) (at .args .numbers .now) (at .args .groups .now)
-    (joins .join .last .0) (at .args .links .now) (at .args .heads .now) (at .args .firsts .now) (at .args .seconds .now)
-    (at .args .v) (at .args .w) (joins .join .result .to) (joins .join .result .from) (at .args .tail)
-    (joins .join .ensures) (omega (arith, c .if1 .taken))
+    pair-skipped (at .pre .0) (at .pre .1 .1 .1 .1 .0) (at .pre .1 .1 .1 .1 .1)
+    (roots-by-states (at .pre .0) (joins .join .ensures)) (omega (arith, c .if1 .taken))
 
 merge-requires : tie.Need-merge-requires
 merge-requires c κs =
     let two = two-of c in
     let joins = joins-of (two .before) in
     let at = entry (joins .before) in
-    let lists = at .pre .1 .0 in (
+    let roots = roots-by-states (at .pre .0) (joins .join .ensures) in
+    let few = at .pre .1 .0 .1 .few in (
+      at .pre .1 .0,
       (
-        lists .0,
-        sorted-by-keys (length (at .args .groups .now)) (at .args .names .now) (lists .0) (at .args .links .now)
-            (at .args .heads .now) (lists .1),
-        lists .2,
-      ),
-      (
-        at .pre .1 .1 .0 ∙ sym (lists .1 .keys-size),
+        at .pre .1 .1 .0,
         (
-          omega (arith, lower-of two, joins .join .ensures .inside, lists .1 .few),
+          omega (arith, lower-of two, roots .inside, few),
           (
-            omega (arith, joins .join .ensures .inside, lists .1 .few),
+            omega (arith, roots .inside, few),
             (λ e. omega (arith, e, lower-of two), (at .pre .1 .1 .1 .0 .firsts-size, at .pre .1 .1 .1 .0 .seconds-size)),
           ),
         ),
@@ -73,15 +73,8 @@ returns-2 c =
     let two = two-of (c .before) in
     let joins = joins-of (two .before) in
     let at = entry (joins .before) in
-    let lists = at .pre .1 .0 in
-    pair-joined (length (at .args .groups .now)) (at .args .names .now) (at .args .numbers .now) (at .args .groups .now)
-    (joins .join .last .0) (at .args .links .now) (at .args .heads .now) (at .args .firsts .now) (at .args .seconds .now)
-    (at .args .v) (at .args .w) (joins .join .result .to) (joins .join .result .from) (at .args .tail)
-    (joins .join .ensures) (c .merge .last .1 .1 .0) (c .merge .last .1 .1 .1 .0) (c .merge .last .1 .1 .1 .1 .0)
-    (c .merge .last .1 .1 .1 .1 .1 .0) (c .merge .result) refl (at .pre .1 .1 .1 .1 .0) (at .pre .1 .1 .1 .1 .1)
-    (lower-of two) (c .merge .ensures) (lists .0)
-    (sorted-by-keys (length (at .args .groups .now)) (at .args .names .now) (lists .0) (at .args .links .now)
-    (at .args .heads .now) (lists .1))
+    pair-joined (at .pre .0) (at .pre .1 .1 .1 .1 .0) (at .pre .1 .1 .1 .1 .1)
+    (roots-by-states (at .pre .0) (joins .join .ensures)) (lower-of two) (c .merge .ensures) (at .pre .1 .0 .1)
 
 pub join-spec : {M : Type 1} → statement M
 join-spec = tie.close (tie.spec join-requires same-length returns merge-requires same-length-2 returns-2)

@@ -1,27 +1,25 @@
 -- `forks::settle` meets its contract. The invariant of its loop: the pairs before `done` are joined. The measure is the room left
 -- in the queue. Assumes nothing.
 use mathlib.Core.Path.{sym, _∙_}
-use Prim.Native.Nat.{_+_, _-_, _<_}
+use Prim.Native.Nat.{_-_, _<_}
 use native.Mathlib.Numerals.{add-one}
 use native.Mathlib.Omega.{arith}
 use lib.ListN.{length}
 use Rattle.partition.specs.Forests.{rootsOf}
-use Rattle.partition.proofs.ForestLaws.{forest-again}
 use Rattle.worklist.specs.Lists.{pair-limit}
 use Rattle.worklist.specs.Forks.{Closing, SettledForks}
-use Rattle.worklist.proofs.KindLaws.{own-size}
-use Rattle.worklist.proofs.ForkLaws.{closing-sorted}
+use Rattle.worklist.proofs.SizeLaws.{own-size}
 use Rattle.worklist.proofs.ForkRounds.{settled-none, settled-more, settled-all}
 use Rattle.worklist.proofs.forks.settle.Statement.{statement}
 use Rattle.worklist.proofs.forks.settle.Tie as tie
 
 abbrev Inv-loop : tie.InvT-loop
-Inv-loop names numbers groups₀ links₀ heads₀ firsts₀ seconds₀ from tail done₀ end₀ groups links heads firsts seconds done end =
-    SettledForks (length groups₀) names numbers groups₀ groups links₀ heads₀ links heads firsts₀ seconds₀ firsts seconds from tail
+Inv-loop names numbers groups₀ links₀ heads₀ firsts₀ seconds₀ tail done₀ end₀ groups links heads firsts seconds done end =
+    SettledForks (length names) names numbers groups₀ groups links₀ heads₀ links heads firsts₀ seconds₀ firsts seconds tail
     done end
 
 abbrev μ-loop : tie.MeasureT-loop
-μ-loop names numbers groups₀ links₀ heads₀ firsts₀ seconds₀ from tail done₀ end₀ groups links heads firsts seconds done end =
+μ-loop names numbers groups₀ links₀ heads₀ firsts₀ seconds₀ tail done₀ end₀ groups links heads firsts seconds done end =
     pair-limit - done
 
 -- the function's entry from a turn of the loop, and the turn from the places in it
@@ -40,7 +38,7 @@ step-of c = c .before .before
 -- what holds here, with the parents and the start that the entry tells
 now-closing :
     (here : tie.At-loop Inv-loop μ-loop) → let at = entry here in
-    Closing (length (at .args .groups .now)) (at .pre .1 .0) (at .args .names .now) (at .args .numbers .now) (at .pre .1 .1)
+    Closing (length (at .args .names .now)) (at .pre .1 .0) (at .args .names .now) (at .args .numbers .now) (at .pre .1 .1)
     (rootsOf (here .loop .groups)) (here .loop .links) (here .loop .heads) (here .loop .firsts) (here .loop .seconds)
     (here .loop .done) (here .loop .end)
 now-closing here = let at = entry here in here .loop .inv .closing (at .pre .1 .0) (at .pre .1 .1) (at .pre .1 .2)
@@ -50,11 +48,7 @@ due-low : (turn : tie.In-loop Inv-loop μ-loop) → turn .before .loop .done < p
 due-low turn = omega (arith, turn .loop-test .taken, now-closing (turn .before) .room)
 
 loop-holds : tie.Need-loop-holds Inv-loop μ-loop
-loop-holds c =
-    let at = c .before .before .before in
-    settled-none (length (at .args .groups .now)) (at .args .names .now) (at .args .numbers .now) (at .args .groups .now)
-    (at .args .links .now) (at .args .heads .now) (at .args .firsts .now) (at .args .seconds .now) (at .args .from)
-    (at .args .tail) (at .pre .0)
+loop-holds c = settled-none (c .before .before .before .pre .0)
 
 mul-wide16 : tie.Need-mul-wide16 Inv-loop μ-loop
 mul-wide16 c = omega (arith, due-low c)
@@ -79,23 +73,16 @@ join-requires c κs =
     let read = read-of c in
     let turn = turn-of read in
     let here = turn .before in
-    let at = entry here in
     let closing = now-closing here in
-    let size = here .loop .inv .forest .size in
-    let pair = closing .inside (here .loop .done) (omega arith) (turn .loop-test .taken) in (
-      forest-again (length (at .args .groups .now)) (here .loop .groups) (here .loop .inv .forest),
+    let pair = closing .reached .inside (here .loop .done) (omega arith) (turn .loop-test .taken) in (
+      here .loop .inv .forest,
       (
-        closing-sorted (length (at .args .groups .now)) (at .pre .1 .0) (at .args .names .now) (at .args .numbers .now)
-            (here .loop .groups) (at .pre .1 .1) (rootsOf (here .loop .groups)) (here .loop .links) (here .loop .heads)
-            (here .loop .firsts) (here .loop .seconds) (here .loop .done) (here .loop .end) size closing,
+        (closing .rows, closing .kind .sorted, closing .room),
         (
-          own-size (length (at .args .groups .now)) (at .args .numbers .now) (closing .ready .own) ∙ sym size,
+          own-size (closing .ready .own),
           (
-            closing .queue,
-            (
-              omega (arith, size, read .before .before .wide16 .ensures, pair .0),
-              omega (arith, size, read .wide162 .ensures, pair .1),
-            ),
+            closing .reached .queue,
+            (omega (arith, read .before .before .wide16 .ensures, pair .0), omega (arith, read .wide162 .ensures, pair .1)),
           ),
         ),
       ),
@@ -112,28 +99,15 @@ loop-again c =
     let step = step-of c in
     let read = read-of (step .before) in
     let turn = turn-of read in
-    let here = turn .before in
-    let at = entry here in
-    settled-more (length (at .args .groups .now)) (at .args .names .now) (at .args .numbers .now) (at .args .groups .now)
-    (at .args .links .now) (at .args .heads .now) (at .args .firsts .now) (at .args .seconds .now) (at .args .from)
-    (at .args .tail) (here .loop .groups) (here .loop .links) (here .loop .heads) (here .loop .firsts) (here .loop .seconds)
-    (here .loop .done) (here .loop .end) (here .loop .inv) (step .join .last .1 .1 .0) (step .join .last .1 .1 .1 .0)
-    (step .join .last .1 .1 .1 .1 .0) (step .join .last .1 .1 .1 .1 .1 .0) (step .join .last .1 .1 .1 .1 .1 .1 .0)
-    (read .before .before .wide16 .result) (read .wide162 .result) (here .loop .done + 1) (step .join .result)
-    (turn .loop-test .taken) (add-one (here .loop .done)) (read .before .before .wide16 .ensures) (read .wide162 .ensures)
-    (step .join .ensures)
+    rw add-one
+    (settled-more (turn .before .loop .inv) (turn .loop-test .taken) (read .before .before .wide16 .ensures)
+    (read .wide162 .ensures) (step .join .ensures))
 
 same-length : tie.Need-same-length Inv-loop μ-loop
-same-length c = c .before .loop .inv .forest .size
+same-length c = c .before .loop .inv .forest .size ∙ sym (entry (c .before) .pre .0 .size)
 
 returns : tie.Need-returns Inv-loop μ-loop
-returns c =
-    let here = c .before in
-    let at = entry here in
-    settled-all (length (at .args .groups .now)) (at .args .names .now) (at .args .numbers .now) (at .args .groups .now)
-    (at .args .links .now) (at .args .heads .now) (at .args .firsts .now) (at .args .seconds .now) (at .args .from)
-    (at .args .tail) (here .loop .groups) (here .loop .links) (here .loop .heads) (here .loop .firsts) (here .loop .seconds)
-    (here .loop .done) (here .loop .end) (here .loop .inv) (omega arith) (now-closing here .order)
+returns c = settled-all (c .before .loop .inv) (omega arith) (now-closing (c .before) .reached .order)
 
 pub settle-spec : {M : Type 1} → statement M
 settle-spec =

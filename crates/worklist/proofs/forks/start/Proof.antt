@@ -1,15 +1,11 @@
 -- `forks::start` meets its contract: the lists are filled; where no pair is queued forks are closed already; else all pairs are
 -- joined, and the forest is flattened. Assumes nothing.
-use mathlib.Core.Path.{refl}
 use native.Mathlib.Omega.{arith}
 use lib.ListN.{length}
 use borrow.Author.Needs.{needs}
-use Rattle.partition.specs.Forests.{rootsOf}
-use Rattle.partition.proofs.ForestLaws.{flat-forest, forest-again}
-use Rattle.worklist.specs.Forks.{Closing}
-use Rattle.worklist.proofs.KindLaws.{own-size}
-use Rattle.worklist.proofs.SettleLaws.{fill-asked}
-use Rattle.worklist.proofs.ForkLaws.{opening-filled, filled-closed}
+use Rattle.partition.proofs.ForestLaws.{forest-again}
+use Rattle.worklist.proofs.SizeLaws.{own-size, fill-asked, flat-by-states}
+use Rattle.worklist.proofs.ForkLaws.{closing-filled, closing-opened, kept-closed}
 use Rattle.worklist.proofs.ForkRounds.{flat-coarser, round-ended}
 use Rattle.worklist.proofs.forks.start.Statement.{statement}
 use Rattle.worklist.proofs.forks.start.Tie as tie
@@ -24,56 +20,40 @@ fills-of c = c .before .before .before .before .before .before
 abbrev settles-of : tie.After-flatten-arg → tie.After-settle
 settles-of c = c .before .before .before
 
--- with the lists filled every pair is pending
-pending :
-    (fills : tie.After-fill) → let at = entry (fills .before) in
-    let last = fills .fill .last in
-    Closing (length (at .args .groups .now)) (at .args .parents .now) (at .args .names .now) (at .args .numbers .now)
-    (at .args .groups .now) (rootsOf (at .args .groups .now)) (last .1 .1 .1 .1 .0) (last .1 .1 .1 .1 .1 .0)
-    (last .1 .1 .1 .1 .1 .1 .0) (last .1 .1 .1 .1 .1 .1 .1 .0) 0 (fills .fill .result)
-pending fills =
-    let at = entry (fills .before) in
-    let last = fills .fill .last in
-    opening-filled (length (at .args .groups .now)) (at .args .parents .now) (at .args .names .now) (at .args .numbers .now)
-    (at .args .groups .now) (last .1 .1 .1 .1 .0) (last .1 .1 .1 .1 .1 .0) (at .args .firsts .now) (at .args .seconds .now)
-    (last .1 .1 .1 .1 .1 .1 .0) (last .1 .1 .1 .1 .1 .1 .1 .0) (fills .fill .result) (at .pre .0) (at .pre .1 .0)
-    (at .pre .1 .1 .1) (fills .fill .ensures)
-
 fill-requires : tie.Need-fill-requires
 fill-requires c κs =
     let at = entry c in
     let ready = at .pre .0 in
-    fill-asked (at .args .parents .now) (at .args .numbers .now) (at .args .names .now) (at .args .groups .now)
-    (at .args .links .now) (at .args .heads .now) (at .args .firsts .now) (at .args .seconds .now) 0 (ready .few)
-    (ready .parents-size) (own-size (length (at .args .groups .now)) (at .args .numbers .now) (ready .own)) (ready .names-size)
-    (ready .parents-below) (at .pre .1 .0) (omega (arith, ready .few)) (at .pre .1 .1 .0) (at .pre .1 .1 .1)
+    fill-asked (at .args .parents .now) (at .args .numbers .now) (at .args .names .now) 0 (ready .few) (ready .parents-size)
+    (own-size (ready .own)) (ready .names-size) (ready .parents-below) (at .pre .1 .0) (omega (arith, ready .few))
+    (at .pre .1 .1 .0) (at .pre .1 .1 .1)
 
 same-length : tie.Need-same-length
 same-length c = search needs
 
 returns : tie.Need-returns
 returns c =
-    let fills = c .before in
-    let at = entry (fills .before) in
-    let last = fills .fill .last in
-    filled-closed (length (at .args .groups .now)) (at .args .parents .now) (at .args .names .now) (at .args .numbers .now)
-    (at .args .groups .now) (last .1 .1 .1 .1 .0) (last .1 .1 .1 .1 .1 .0) (at .args .firsts .now) (at .args .seconds .now)
-    (last .1 .1 .1 .1 .1 .1 .0) (last .1 .1 .1 .1 .1 .1 .1 .0) (fills .fill .result) (omega (arith, c .if1 .taken))
-    (at .pre .0) (at .pre .1 .0) (at .pre .1 .1 .1) (fills .fill .ensures)
+    let at = entry (c .before .before) in
+    kept-closed (closing-filled (at .pre .0) (at .pre .1 .0) (at .pre .1 .1 .1) (c .before .fill .ensures))
+    (omega (arith, c .if1 .taken)) (λ x y hx hy e. e)
 
 settle-requires : tie.Need-settle-requires
 settle-requires c κs =
     let fills = fills-of c in
     let at = entry (fills .before) in (
-      flat-forest (length (at .args .groups .now)) (at .args .groups .now) (at .pre .1 .0),
-      (at .args .parents .now, at .args .groups .now, pending fills),
+      flat-by-states (at .pre .0 .names-size) (at .pre .1 .0),
+      (
+        at .args .parents .now,
+        at .args .groups .now,
+        closing-opened (closing-filled (at .pre .0) (at .pre .1 .0) (at .pre .1 .1 .1) (fills .fill .ensures)),
+      ),
     )
 
 flatten-requires : tie.Need-flatten-requires
 flatten-requires c κs =
     let settles = settles-of c in
     let at = entry (fills-of (settles .before) .before) in
-    forest-again (length (at .args .groups .now)) (settles .settle .last .1 .1 .0) (settles .settle .ensures .forest)
+    forest-again (length (at .args .names .now)) (settles .settle .last .1 .1 .0) (settles .settle .ensures .forest)
 
 same-length-2 : tie.Need-same-length-2
 same-length-2 c = search needs
@@ -84,14 +64,8 @@ returns-2 c =
     let settles = settles-of (flat .before) in
     let fills = fills-of (settles .before) in
     let at = entry (fills .before) in
-    let filled = fills .fill .last in
-    let last = settles .settle .last in
-    round-ended (length (at .args .groups .now)) (at .args .parents .now) (at .args .names .now) (at .args .numbers .now)
-    (at .args .groups .now) (at .args .groups .now) (last .1 .1 .0) (filled .1 .1 .1 .1 .0) (filled .1 .1 .1 .1 .1 .0)
-    (last .1 .1 .1 .0) (last .1 .1 .1 .1 .0) (filled .1 .1 .1 .1 .1 .1 .0) (filled .1 .1 .1 .1 .1 .1 .1 .0)
-    (last .1 .1 .1 .1 .1 .0) (last .1 .1 .1 .1 .1 .1 .0) (flat .flatten .last .0) 0 (fills .fill .result)
-    (settles .settle .result) refl (flat .flatten .ensures)
-    (flat-coarser (length (at .args .groups .now)) (at .args .groups .now) (at .pre .1 .0)) (pending fills)
+    round-ended (at .pre .0 .names-size) (flat .flatten .ensures) (flat-coarser (at .pre .1 .0))
+    (closing-opened (closing-filled (at .pre .0) (at .pre .1 .0) (at .pre .1 .1 .1) (fills .fill .ensures)))
     (settles .settle .ensures)
 
 pub start-spec : {M : Type 1} → statement M
