@@ -46,19 +46,20 @@ test: kit
 	@scripts/gate
 
 check: kit
-	@rt check
+	@scripts/proving rt check
 
 lib: $(LIBRARY)
 
 $(LIBRARY): $(SOURCES) | kit
 	@echo "make: proving the library; from nothing that takes some minutes" >&2
+	@scripts/proving rt check plans >&2
 	@scripts/quietly rt staticlib plans
 
 listing: $(LISTING)
 
 $(LISTING): $(SOURCES) | kit
 	@echo "make: proving the listing program; from nothing that takes some minutes" >&2
-	@scripts/quietly rt check listing
+	@scripts/proving rt check listing >&2
 	@touch $(LISTING)
 
 example: lib
