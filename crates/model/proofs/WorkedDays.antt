@@ -18,7 +18,7 @@ use Rattle.model.specs.Quotients.{putArc, arcsOutOf, metWith, metFrom, m
 use Rattle.model.specs.Quotients.{bookTable, tableAfter}
 use Rattle.model.specs.Calls.{bookOf, bookFault, joinsOf, tableOf, tableStates}
 use Rattle.model.specs.Listing.{digits, arcText, stateLine, stateLines, listing, refusalText, listingFault, listingOf}
-use Rattle.model.specs.WorkedDays.{sameRows, rowsOfLength, shortRows, acceptingIn, remarkHolds, dayHolds, isExample}
+use Rattle.model.specs.WorkedDays.{sameRows, rowsOfLength, shortRows, acceptingIn, remarkHolds, isFile, dayHolds}
 use Rattle.model.specs.WorkedDays.{exampleHolds, daysHold}
 
 -- all days, all remarks and the listing
@@ -36,5 +36,5 @@ unfolding flatMap
     putArc arcsOutOf metWith metFrom metGroups renumbered stateOf statesOf bookStates bookTable tableAfter
     bookOf bookFault joinsOf tableOf tableStates
     digits arcText stateLine stateLines listing refusalText listingFault listingOf
-    sameRows rowsOfLength shortRows acceptingIn remarkHolds dayHolds isExample exampleHolds daysHold
+    sameRows rowsOfLength shortRows acceptingIn remarkHolds isFile dayHolds exampleHolds daysHold
 worked-days-hold = refl
