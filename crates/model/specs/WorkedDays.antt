@@ -1,19 +1,20 @@
 -- The worked days (document 01): twelve days over four names, and three more, each with its book's bytes and what they come to,
 -- written out; the example book of the listing; one test that compares everything written here with what the definitions
--- compute; and what is claimed beyond that test: of rows of any length, and of the default class. The theorems are in
--- proofs/WorkedDays.antt. Byte values of names and text are hexadecimal, sets of names binary (s l d b from the left).
--- Assumes nothing.
+-- compute; and what is claimed of the days: that test, rows of any length, and the default class. `worked-days-hold` of
+-- proofs/WorkedDays.antt proves it all. Byte values of names and text are hexadecimal, sets of names binary (s l d b from the
+-- left). Assumes nothing.
+use mathlib.Core.Path.{_≡_}
 use mathlib.Core.Bool.{Bool, true, false, _&&_}
-use mathlib.Core.List.{List, [], _∷_, _++_, map, flatMap}
+use mathlib.Core.List.{List, [], _∷_, _++_, map, flatMap, List·Memᴰ as In}
 use Prim.Native.Nat.{ℕ, zero, suc}
 use lib.Dec.{eqb}
 use lib.ListN.{length, getD}
-use Rattle.model.specs.Lists.{all, filterBy, numbersFrom, same}
-use Rattle.model.specs.Fields.{Class, class-of, File, table, readFields}
+use Rattle.model.specs.Lists.{all, filterBy, numbersFrom, same, hasRow}
+use Rattle.model.specs.Fields.{Class, class-of, default-class, settingsOk, File, book, table, readWith, readFields}
 use Rattle.model.specs.Tables.{State, no-state, isFirstMet, walk, admits, outcome, longestBeginning, nextNames, nextCount}
 use Rattle.model.specs.Classes.{Word}
 use Rattle.model.specs.Joinings.{Step, step, treeOf, joinedGroups, isFullJoining}
-use Rattle.model.specs.Quotients.{bookTable, tableAfter}
+use Rattle.model.specs.Quotients.{bookStates, bookTable, tableAfter}
 use Rattle.model.specs.Calls.{bookOf, bookFault, joinsOf, tableStates}
 use Rattle.model.specs.Listing.{listingOf}
 
@@ -553,34 +554,34 @@ Q2 =
           remark (s ∷ b ∷ l ∷ []) admitted 3 (s ∷ b ∷ l ∷ []) 0b0000 0 ∷ [];
     }
 
--- Q3: no class field, bsssb: the class is the default one, context (2,1), and no other class gives these states
+-- Q3: no class field, bs and sss: the class is the default one, context (2,1), and no other class gives these states
 abbrev pub Q3 : Day
 Q3 =
     record {
       book-bytes =
           names-written
-          ++ (3 ∷ 0 ∷ 5 ∷ 0 ∷ 3 ∷ 3 ∷ 3 ∷ 0 ∷ []);
+          ++ (3 ∷ 0 ∷ 2 ∷ 0 ∷ 3 ∷ [])
+          ++ (3 ∷ 0 ∷ 3 ∷ 3 ∷ 3 ∷ 3 ∷ []);
       class-is = class-of 0 2 1;
-      rows = (b ∷ s ∷ s ∷ s ∷ b ∷ []) ∷ [];
-      tree = [] ∷ (b ∷ []) ∷ (b ∷ s ∷ []) ∷ (b ∷ s ∷ s ∷ []) ∷ (b ∷ s ∷ s ∷ s ∷ []) ∷ (b ∷ s ∷ s ∷ s ∷ b ∷ []) ∷ [];
-      groups = 0 ∷ 1 ∷ 2 ∷ 2 ∷ 2 ∷ 5 ∷ [];
-      joining = step 4 3 ∷ step 3 2 ∷ [];
+      rows = (b ∷ s ∷ []) ∷ (s ∷ s ∷ s ∷ []) ∷ [];
+      tree = [] ∷ (b ∷ []) ∷ (b ∷ s ∷ []) ∷ (s ∷ []) ∷ (s ∷ s ∷ []) ∷ (s ∷ s ∷ s ∷ []) ∷ [];
+      groups = 0 ∷ 1 ∷ 2 ∷ 3 ∷ 3 ∷ 3 ∷ [];
+      joining = step 5 4 ∷ step 4 3 ∷ [];
       tree-states = 6;
       table-states = 4;
       joins = 2;
       table-bytes =
           names-written
           ++ (2 ∷ 0 ∷ 3 ∷ 0 ∷ 2 ∷ 1 ∷ [])
-          ++ (4 ∷ 0 ∷ 4 ∷ 0 ∷ 0 ∷ 0 ∷ 1 ∷ [])
-          ++ (4 ∷ 0 ∷ 4 ∷ 0 ∷ 3 ∷ 0 ∷ 2 ∷ [])
-          ++ (4 ∷ 0 ∷ 7 ∷ 0 ∷ 0 ∷ 0 ∷ 3 ∷ 3 ∷ 0 ∷ 2 ∷ [])
+          ++ (4 ∷ 0 ∷ 7 ∷ 0 ∷ 0 ∷ 0 ∷ 1 ∷ 3 ∷ 0 ∷ 2 ∷ [])
+          ++ (4 ∷ 0 ∷ 4 ∷ 0 ∷ 3 ∷ 0 ∷ 3 ∷ [])
+          ++ (4 ∷ 0 ∷ 4 ∷ 1 ∷ 3 ∷ 0 ∷ 2 ∷ [])
           ++ (4 ∷ 0 ∷ 1 ∷ 1 ∷ []);
-      accepting = 3 ∷ [];
-      admitted-rows = (b ∷ s ∷ b ∷ []) ∷ (b ∷ s ∷ s ∷ b ∷ []) ∷ [];
+      accepting = 2 ∷ 3 ∷ [];
+      admitted-rows = (s ∷ []) ∷ (b ∷ s ∷ []) ∷ (s ∷ s ∷ []) ∷ (s ∷ s ∷ s ∷ []) ∷ (s ∷ s ∷ s ∷ s ∷ []) ∷ [];
       remarks =
-          remark (b ∷ s ∷ s ∷ s ∷ b ∷ []) admitted 5 (b ∷ s ∷ s ∷ s ∷ b ∷ []) 0b0000 0 ∷
-          remark (b ∷ s ∷ s ∷ s ∷ s ∷ []) on-the-way 5 (b ∷ s ∷ s ∷ s ∷ s ∷ []) 0b1001 2 ∷
-          remark (b ∷ b ∷ []) stops 1 (b ∷ []) 0b1000 1 ∷ [];
+          remark (s ∷ []) admitted 1 (s ∷ []) 0b1000 1 ∷
+          remark (b ∷ s ∷ s ∷ []) stops 2 (b ∷ s ∷ []) 0b0000 0 ∷ [];
     }
 
 abbrev pub furtherDays : List Day
@@ -693,3 +694,28 @@ daysHold =
     && all dayHolds furtherDays
     && all dayHolds workedDays
     && same (bookTable (bookOf (P12 .book-bytes))) (bookTable (bookOf (P3 .book-bytes)))
+
+-- ---- what is claimed
+
+-- the days whose tables have no cycle
+abbrev pub finiteDays : List Day
+finiteDays = P1 ∷ P3 ∷ P4 ∷ P5 ∷ P6 ∷ P7 ∷ P11 ∷ P12 ∷ Q1 ∷ []
+
+-- of all rows, of any length and of any numbers, the states of the day's book admit those written down and no other
+abbrev pub AdmitsOnly : Day → Type 0
+AdmitsOnly day = (r : Word) → admits (bookStates (bookOf (day .book-bytes))) r ≡ hasRow r (day .admitted-rows)
+
+-- the book's states tell the default class: if another class that a class field may hold were the default, they would be others
+abbrev pub TellsDefault : Day → Type 0
+TellsDefault day =
+    (c : Class) → settingsOk (c .kind) (c .first) (c .second) ≡ true →
+    bookStates (readWith c book (day .book-bytes) .file-is) ≡ bookStates (bookOf (day .book-bytes)) → c ≡ default-class
+
+-- all of it
+pub record DaysClaimed : Type 0 where
+  -- everything written down is what the definitions compute
+  pub computed : daysHold ≡ true
+  -- no row of any length is admitted on a finite day but those written down
+  pub any-length : (day : Day) → In day finiteDays → AdmitsOnly day
+  -- Q3, whose book has no class field, has the states that it has by the default class alone
+  pub default-told : TellsDefault Q3
