@@ -1,6 +1,6 @@
--- The worked days hold: what document 01's table of days, its notes and its listing say is computed by the definitions. In order:
--- the tests that compute, all in one lemma whose line `unfolding` names every definition that computes; the classes that a class
--- field may hold; and the theorem. Assumes nothing.
+-- The worked days hold: what document 01's table of days, its notes and its listing say is so of the definitions. In order: the
+-- tests that compute, all in one lemma, whose line `unfolding` names every definition that computes; the default class, told by
+-- Q3's states; and the theorem. Assumes nothing.
 use mathlib.Core.Path.{_≡_, refl, sym, ap, ap₂, _∙_, subst}
 use mathlib.Core.Logic.{⊎-elim}
 use mathlib.Core.Bool.{Bool, true, _&&_, not}
@@ -60,14 +60,14 @@ givesStates c =
 
 -- what computes
 record Computed : Type 0 where
-  -- everything written down of the days is so
+  -- all days, all remarks and the listing
   days : daysHold ≡ true
-  -- so are the admitted rows of the finite days
+  -- the rows admitted on the finite days
   finite : all isExact finiteDays ≡ true
-  -- of the classes but long contexts the default one alone gives Q3's states
+  -- the default class alone gives Q3's states, contexts of more than three names left out
   classes : filterBy givesStates settings ≡ default-class ∷ []
   default-states : length (statesBy default-class) ≡ 4
-  -- a context of more than three names joins nothing: Q3's rows have at most three
+  -- contexts of more than three names join nothing, since Q3's rows have at most three, and leave all six tree states
   long-contexts : (m h : ℕ) → length (statesBy (class-of 0 (suc (suc (suc (suc m)))) h)) ≡ 6
 
 computed : Computed

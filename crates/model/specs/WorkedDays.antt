@@ -554,7 +554,7 @@ Q2 =
           remark (s ∷ b ∷ l ∷ []) admitted 3 (s ∷ b ∷ l ∷ []) 0b0000 0 ∷ [];
     }
 
--- Q3: no class field, bs and sss: the class is the default one, context (2,1), and no other class gives these states
+-- Q3: no class field, bs and sss: the default class, context (2,1), and no other gives these states
 abbrev pub Q3 : Day
 Q3 =
     record {
@@ -705,7 +705,7 @@ finiteDays = P1 ∷ P3 ∷ P4 ∷ P5 ∷ P6 ∷ P7 ∷ P11 ∷ P12 ∷ Q1 ∷ []
 abbrev pub AdmitsOnly : Day → Type 0
 AdmitsOnly day = (r : Word) → admits (bookStates (bookOf (day .book-bytes))) r ≡ hasRow r (day .admitted-rows)
 
--- the book's states tell the default class: if another class that a class field may hold were the default, they would be others
+-- the book's states tell the default class: with any other default class that a class field may hold they would be others
 abbrev pub TellsDefault : Day → Type 0
 TellsDefault day =
     (c : Class) → settingsOk (c .kind) (c .first) (c .second) ≡ true →
@@ -713,9 +713,9 @@ TellsDefault day =
 
 -- all of it
 pub record DaysClaimed : Type 0 where
-  -- everything written down is what the definitions compute
+  -- the definitions compute everything that is written down
   pub computed : daysHold ≡ true
-  -- no row of any length is admitted on a finite day but those written down
+  -- on a day whose table has no cycle the rows written down are all that are admitted
   pub any-length : (day : Day) → In day finiteDays → AdmitsOnly day
-  -- Q3, whose book has no class field, has the states that it has by the default class alone
+  -- the book of Q3, which has no class field, would have other states with any other default class
   pub default-told : TellsDefault Q3
