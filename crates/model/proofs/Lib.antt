@@ -44,5 +44,6 @@ pub mod Reading
 pub mod Joined
 pub mod InTheClass
 pub mod Demands
--- the worked days of document 01
+-- tables that admit rows of bounded length only, and the worked days of document 01
+pub mod Walkable
 pub mod WorkedDays

@@ -6,7 +6,7 @@ mod edges;
 use libc::STDOUT_FILENO;
 use plans::limits::LISTING_BYTES;
 
-// Document 01's days and its example, and two days more. One more is a file in data/ and a line here.
+// Document 01's days and its example, and three days more. One more is a file in data/ and a line here.
 fn days() {
     day(b"P1.book");
     day(b"P2.book");
@@ -22,6 +22,7 @@ fn days() {
     day(b"P12.book");
     day(b"Q1.book");
     day(b"Q2.book");
+    day(b"Q3.book");
     day(b"example.book");
 }
 
