@@ -93,12 +93,12 @@ module _ (states : List State) (q n x : ℕ) (xs : List ℕ) where
   onward t = elim (eqb t 0) [ true ↦ walk-at q n | false ↦ walkFrom states (t - 1) (suc n) xs ]
 
   -- no target: the walk stops here
-  walk-stops : targetIn x (getD states q no-state .arcs) ≡ 0 → walkFrom states q n (x ∷ xs) ≡ walk-at q n
+  pub walk-stops : targetIn x (getD states q no-state .arcs) ≡ 0 → walkFrom states q n (x ∷ xs) ≡ walk-at q n
   unfolding walkFrom
   walk-stops e = ap onward e
 
   -- a target: the walk goes on from there, one name further
-  walk-goes :
+  pub walk-goes :
       (k : ℕ) → targetIn x (getD states q no-state .arcs) ≡ suc k →
       walkFrom states q n (x ∷ xs) ≡ walkFrom states k (suc n) xs
   unfolding walkFrom

@@ -25,6 +25,7 @@ pub mod NameSets
 pub mod Meeting
 pub mod FirstMet
 pub mod Admits
+pub mod TableWalks
 pub mod Paired
 pub mod Numbering
 -- reading: states that can be written, what one field and one turn of reading tell, and tables read back and rewritten

@@ -10,5 +10,6 @@ pub mod Joinings
 pub mod Quotients
 pub mod Calls
 pub mod Claims
+pub mod Sources
 pub mod Listing
 pub mod WorkedDays

@@ -1,0 +1,146 @@
+-- What the two sources of the classes say, held against the definitions (docs/SOURCES.md): of document 000 definitions (20) and
+-- (22), example (24) and figure 3; of document 002 lemma 5.10 and theorems 5.18, 4, and 5.19. `document-000` and `document-002`
+-- of proofs/Sources.antt prove it. Assumes nothing.
+use mathlib.Core.Path.{_≡_}
+use mathlib.Core.Logic.{_⊎_, _↔_}
+use mathlib.Core.Bool.{true, false}
+use mathlib.Core.List.{List, [], _∷_, _++_, map}
+use Prim.Native.Nat.{ℕ, suc, _≤_, _<_}
+use lib.ListN.{length, getD, take}
+use Rattle.model.specs.Lists.{hasRow}
+use Rattle.model.specs.Fields.{Class, class-of, File}
+use Rattle.model.specs.Tables.{State, state, arc, no-state, walk-at, walkFrom, admits}
+use Rattle.model.specs.Classes.{Word, fOf, Contextual, Distinguishable}
+use Rattle.model.specs.Quotients.{bookStates}
+use Rattle.model.specs.Calls.{tableFault, tableStates}
+
+-- the words that a table admits
+abbrev pub AdmittedBy : List State → Word → Type 0
+AdmittedBy states r = admits states r ≡ true
+
+-- the words of a list
+abbrev pub Listed : List Word → Word → Type 0
+Listed rows r = hasRow r rows ≡ true
+
+-- ---- document 000
+
+-- definition (20), a distinguishing function: words that it does not tell apart stay so with any names more
+pub record Distinguishing (f : Word → List ℕ) : Type 0 where
+  pub same-longer : (u w z : Word) → f w ≡ f z → f (w ++ u) ≡ f (z ++ u)
+
+-- definition (22) as printed: where f of w and z is equal and w u and w v are in l, z u and z v are both in l or both not
+pub record Distinguishable-22 (c : Class) (l : Word → Type 0) : Type 0 where
+  pub both-or-neither :
+      (u v w z : Word) → fOf c w ≡ fOf c z → l (w ++ u) → l (w ++ v) → l (z ++ u) ↔ l (z ++ v)
+
+-- the class of the seen set, the source's Ter
+abbrev pub seen-set : Class
+seen-set = class-of 1 0 0
+
+-- the words of example (24): a, aaa, ab, aababac, with 0, 1, 2 for a, b, c
+abbrev pub words-24 : List Word
+words-24 =
+    (0 ∷ [])
+    ∷ ((0 ∷ (0 ∷ (0 ∷ [])))
+    ∷ ((0 ∷ (1 ∷ []))
+    ∷ ((0 ∷ (0 ∷ (1 ∷ (0 ∷ (1 ∷ (0 ∷ (2 ∷ [])))))))
+    ∷ [])))
+
+-- their Ter as printed: {a}, {a}, {a, b}, {a, b, c}
+abbrev pub sets-24 : List (List ℕ)
+sets-24 = (0 ∷ []) ∷ ((0 ∷ []) ∷ ((0 ∷ (1 ∷ [])) ∷ ((0 ∷ (1 ∷ (2 ∷ []))) ∷ [])))
+
+-- the automaton of figure 3, with 0 for a: a leads from q0 to q1, from q1 to q2 and from q2 to q2, and q2 accepts
+abbrev pub figure-3 : List State
+figure-3 = state false (arc 0 1 ∷ []) ∷ (state false (arc 0 2 ∷ []) ∷ (state true (arc 0 2 ∷ []) ∷ []))
+
+-- what document 000 says
+pub record Document-000 : Type 1 where
+  -- f of kinds 1 and 2 is a distinguishing function
+  pub definition-20 : (c : Class) → Distinguishing (fOf c)
+  -- definition (22) as printed says the same as ours, of any set of words
+  pub definition-22 : (c : Class) (l : Word → Type 0) → Distinguishable c l ↔ Distinguishable-22 c l
+  -- example (24)
+  pub example-24 : map (fOf seen-set) words-24 ≡ sets-24
+  -- the set of words of figure 3 is not Ter-distinguishable
+  pub figure-3-not : Distinguishable seen-set (AdmittedBy figure-3) → ⊥
+
+-- ---- document 002, lemma 5.10
+
+-- the walk from state p takes all names of the word and ends in state q
+pub record Reaches (states : List State) (p : ℕ) (w : Word) (q : ℕ) : Type 0 where
+  pub walked : walkFrom states p 0 w ≡ walk-at q (length w)
+
+-- a word is admitted from a state: its walk from there takes all names and ends in an accepting state
+pub record AdmittedFrom (states : List State) (p : ℕ) (w : Word) : Type 0 where
+  pub end : ℕ
+  pub way : Reaches states p w end
+  pub accepting : getD states end no-state .accepts ≡ true
+
+-- two states have the same tails: the same words are admitted from both
+pub record SameTails (states : List State) (p q : ℕ) : Type 0 where
+  pub tails : (v : Word) → AdmittedFrom states p v ↔ AdmittedFrom states q v
+
+-- the condition of lemma 5.10 on an automaton: two walks by the same k names are in one state after the i-th name, for each i
+-- from h to k
+pub record ContextualStates (k h : ℕ) (states : List State) : Type 0 where
+  pub one-state :
+      (p q p-end q-end p-after q-after i : ℕ) (a : Word) → p < length states → q < length states →
+      length a ≡ k → h ≤ i → i ≤ k → Reaches states p a p-end → Reaches states q a q-end →
+      Reaches states p (take i a) p-after → Reaches states q (take i a) q-after → p-after ≡ q-after
+
+-- the same up to equal tails: where words that begin with the same k names are admitted from p and from q, the states after
+-- the i-th of these names have the same tails, for each i from h to k
+pub record ContextualTails (k h : ℕ) (states : List State) : Type 0 where
+  pub same-tails :
+      (p q p-after q-after i : ℕ) (a v w : Word) → p < length states → q < length states →
+      length a ≡ k → h ≤ i → i ≤ k → AdmittedFrom states p (a ++ v) → AdmittedFrom states q (a ++ w) →
+      Reaches states p (take i a) p-after → Reaches states q (take i a) q-after → SameTails states p-after q-after
+
+-- every state is reached from the start by some word
+abbrev pub AllReached : List State → Type 0
+AllReached states = (q : ℕ) → q < length states → (w : Word) × Reaches states 0 w q
+
+-- the canonical automaton of the set of words that it admits: every state is reached, each word that can be walked begins an
+-- admitted one, and states with the same tails are one
+pub record Canonical (states : List State) : Type 0 where
+  pub reached : AllReached states
+  pub live : (w : Word) (q : ℕ) → Reaches states 0 w q → (v : Word) × AdmittedFrom states q v
+  pub one-each : (p q : ℕ) → p < length states → q < length states → SameTails states p q → p ≡ q
+
+-- ---- document 002, theorem 5.19
+
+-- L1 = {abcd, ebcd} and L2 = {abg}, with 0, 1, 2, 3, 4, 5 for a, b, c, d, e, g
+abbrev pub l1 : List Word
+l1 = (0 ∷ (1 ∷ (2 ∷ (3 ∷ [])))) ∷ ((4 ∷ (1 ∷ (2 ∷ (3 ∷ [])))) ∷ [])
+
+abbrev pub l2 : List Word
+l2 = (0 ∷ (1 ∷ (5 ∷ []))) ∷ []
+
+-- what document 002 says
+pub record Document-002 : Type 1 where
+  -- lemma 5.10, from the automaton to the set of words, for every table
+  pub lemma-5-10-if :
+      (k h : ℕ) (states : List State) → ContextualStates k h states → Contextual k h (AdmittedBy states)
+  -- the tables of books of kind 0 are such automata
+  pub lemma-5-10-built :
+      (f : File) → f .class-is .kind ≡ 0 → ContextualStates (f .class-is .first) (f .class-is .second) (bookStates f)
+  -- both directions, up to states with the same tails, for every table whose states are all reached
+  pub lemma-5-10-tails :
+      (k h : ℕ) (states : List State) → AllReached states →
+      Contextual k h (AdmittedBy states) ↔ ContextualTails k h states
+  -- as the states of every accepted table are
+  pub accepted-reached : (s work : List ℕ) → tableFault s work ≡ 0 → AllReached (tableStates s)
+  -- both directions for canonical automata, as the source has it
+  pub lemma-5-10 :
+      (k h : ℕ) (states : List State) → Canonical states →
+      Contextual k h (AdmittedBy states) ↔ ContextualStates k h states
+  -- theorem 5.18, 4
+  pub theorem-5-18-4 : (k h : ℕ) (l : Word → Type 0) → Contextual k h l → Contextual k (suc h) l
+  -- theorem 5.19, 1: L1 and L2 are (2,1)-contextual, and their union is not
+  pub l1-contextual : Contextual 2 1 (Listed l1)
+  pub l2-contextual : Contextual 2 1 (Listed l2)
+  pub union-not : Contextual 2 1 (λ (r : Word). Listed l1 r ⊎ Listed l2 r) → ⊥
+  -- theorem 5.19, 2: the intersection of two (k,h)-contextual sets is (k,h)-contextual
+  pub intersection :
+      (k h : ℕ) (l m : Word → Type 0) → Contextual k h l → Contextual k h m → Contextual k h (λ (r : Word). l r × m r)
