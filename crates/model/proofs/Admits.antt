@@ -121,7 +121,7 @@ module _
     (rows nodes : List Word) (groups : List ℕ) (tree : Tree nodes) (fits : Fits nodes groups)
     (det : Deterministic (transitionsOf nodes groups)) where
   -- each walk from a group met is one of the two
-  walked :
+  pub walked :
       (r : Word) (g n : ℕ) → In g (metGroups nodes groups) →
       Walked (transitionsOf nodes groups) (statesOf rows nodes groups) (metGroups nodes groups) g n r
   unfolding walkFrom

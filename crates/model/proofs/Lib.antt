@@ -43,6 +43,7 @@ pub mod Rewriting
 pub mod Reading
 -- demands: all full joinings have one table, of the smallest set of the class, and all that is claimed
 pub mod Joined
+pub mod ContextualTables
 pub mod InTheClass
 pub mod Demands
 -- the worked days of document 01
