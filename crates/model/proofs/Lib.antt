@@ -26,6 +26,7 @@ pub mod Meeting
 pub mod FirstMet
 pub mod Admits
 pub mod TableWalks
+pub mod Reached
 pub mod Paired
 pub mod Numbering
 -- reading: states that can be written, what one field and one turn of reading tell, and tables read back and rewritten
@@ -46,5 +47,8 @@ pub mod Joined
 pub mod ContextualTables
 pub mod InTheClass
 pub mod Demands
+-- what the sources say
+pub mod ContextualRows
+pub mod Sources
 -- the worked days of document 01
 pub mod WorkedDays

@@ -1,0 +1,79 @@
+-- What the two sources say holds of the definitions: `document-000` and `document-002`. Assumes nothing.
+use mathlib.Core.Path.{_≡_, refl, sym, ap, _∙_, subst}
+use mathlib.Core.Logic.{_⊎_, ⊎-elim, _↔_}
+use mathlib.Core.Bool.{Bool, true, false, false≢true}
+use mathlib.Core.List.{List, [], _∷_, _++_}
+use Prim.Native.Nat.{ℕ, suc, _≤_}
+use native.Mathlib.Omega.{arith}
+use lib.Dec.{eqb}
+use Rattle.model.specs.Lists.{any, all, numbersFrom, same, hasRow}
+use Rattle.model.specs.Fields.{Class, File, table}
+use Rattle.model.specs.Tables.{targetIn, walkFrom, walk, reachedState, admits}
+use Rattle.model.specs.Classes.{Word, putName, seenSet, fOf, TailsEqual, Contextual, Distinguishable}
+use Rattle.model.specs.Joinings.{joinedGroups}
+use Rattle.model.specs.Quotients.{bookStates}
+use Rattle.model.specs.Sources.{AdmittedBy, Listed, Distinguishable-22, seen-set, figure-3, words-24, sets-24, l1, l2}
+use Rattle.model.specs.Sources.{Document-000, Document-002, ContextualStates}
+use Rattle.model.proofs.Functions.{f-append}
+use Rattle.model.proofs.Joined.{joinedGroups-joined}
+use Rattle.model.proofs.ContextualTables.{states-tails, tails-contextual, contextual-tails, tails-states, joined-contextual}
+use Rattle.model.proofs.ContextualRows.{tailsWithin, contextKept, isContextual, rows-contextual}
+use borrow.Author.Tests.{eq-eqb}
+
+-- ---- document 000
+
+-- definition (22) and ours: a common tail u, or v, makes all tails equal, and equal tails have both or neither
+to-22 : (c : Class) (l : Word → Type 0) → Distinguishable c l → Distinguishable-22 c l
+to-22 c l d =
+    record {
+      both-or-neither = λ u v w z e wu wv. (
+        λ zu. d .equal-tails w z u e wu zu .tails v .0 wv,
+        λ zv. d .equal-tails w z v e wv zv .tails u .0 wu,
+      );
+    }
+
+of-22 : (c : Class) (l : Word → Type 0) → Distinguishable-22 c l → Distinguishable c l
+of-22 c l d =
+    record {
+      equal-tails = λ w z v e wv zv.
+          record {
+            tails = λ x. (
+              λ wx. d .both-or-neither v x w z e wv wx .0 zv,
+              λ zx. d .both-or-neither v x z w (sym e) zv zx .0 wv,
+            );
+          };
+    }
+
+-- figure 3: aa and a have one Ter and the common tail a, and only aa is admitted
+figure-3-fails : Distinguishable seen-set (AdmittedBy figure-3) → ⊥
+unfolding putName seenSet fOf targetIn walkFrom walk reachedState admits
+figure-3-fails d = false≢true (d .equal-tails (0 ∷ (0 ∷ [])) (0 ∷ []) (0 ∷ []) refl refl refl .tails [] .0 refl)
+
+pub document-000 : Document-000
+unfolding putName seenSet fOf
+document-000 =
+    record {
+      definition-20 = λ c. record { same-longer = λ u w z e. f-append c w z u e };
+      definition-22 = λ c l. (to-22 c l, of-22 c l);
+      example-24 = refl;
+      figure-3-not = figure-3-fails;
+    }
+
+-- ---- document 002
+
+-- L1 and L2 pass the test of finite sets
+l1-passes : isContextual 2 1 l1 ≡ true
+unfolding any all numbersFrom same hasRow tailsWithin contextKept isContextual
+l1-passes = refl
+
+l2-passes : isContextual 2 1 l2 ≡ true
+unfolding any all numbersFrom same hasRow tailsWithin contextKept isContextual
+l2-passes = refl
+
+-- their union: bc follows a and e, and abg is in it, but ebg is not
+union-fails : Contextual 2 1 (λ (r : Word). Listed l1 r ⊎ Listed l2 r) → ⊥
+unfolding any same hasRow
+union-fails l =
+    ⊎-elim (λ e. false≢true e) (λ e. false≢true e)
+    (l .equal-tails (0 ∷ []) (4 ∷ []) (1 ∷ (2 ∷ [])) (3 ∷ []) (3 ∷ []) 1 refl (omega arith) (omega arith)
+    (_⊎_.inl refl) (_⊎_.inl refl) .tails (5 ∷ []) .0 (_⊎_.inr refl))
