@@ -1,16 +1,16 @@
 -- A finite set of words is (k,h)-contextual if a test over its words and their places says so. Assumes nothing.
-use mathlib.Core.Path.{_≡_, refl, sym, ap, ap₂, _∙_, subst, subst₂}
-use mathlib.Core.Logic.{_⊎_, ⊎-elim}
+use mathlib.Core.Path.{_≡_, sym, ap, _∙_, subst, subst₂}
+use mathlib.Core.Logic.{⊎-elim}
 use mathlib.Core.Bool.{Bool, true, not, _||_}
-use mathlib.Core.List.{List, [], _∷_, _++_, List·Memᴰ as In}
-use Prim.Native.Nat.{ℕ, suc, _+_, _-_, _≤_, _<_}
+use mathlib.Core.List.{List, _++_, List·Memᴰ as In}
+use Prim.Native.Nat.{ℕ, suc, _+_, _-_, _≤_}
 use native.Mathlib.Omega.{arith}
 use lib.ListN.{length, take, drop, length-append}
 use lib.Seq.{take-append-seam, drop-append-seam, take-append-le, take-append-add, take-at}
 use Rattle.model.specs.Lists.{all, numbersFrom, same, hasRow}
 use Rattle.model.specs.Classes.{Word, Contextual}
 use Rattle.model.specs.Sources.{Listed}
-use Rattle.model.proofs.Tests.{Tells, tells-or, tells-not, tells-same, tells-itself, tells-all, tells-hasRow}
+use Rattle.model.proofs.Tests.{tells-or, tells-not, tells-same, tells-itself, tells-all, tells-hasRow}
 use Rattle.model.proofs.Places.{in-numbersFrom}
 
 -- each tail of u among the rows is one of w

@@ -1,22 +1,21 @@
 -- Contextual sets of words by their automata (lemma 5.10 of document 002): a table that meets the condition admits a contextual
 -- set; up to states with the same tails the two say the same; and the automaton of a full joining meets the condition, since
 -- nothing is open. Assumes nothing.
-use mathlib.Core.Path.{_≡_, refl, sym, ap, _∙_, subst}
-use mathlib.Core.Logic.{_↔_}
+use mathlib.Core.Path.{_≡_, sym, ap, _∙_, subst}
 use mathlib.Core.Bool.{true}
-use mathlib.Core.List.{List, [], _∷_, _++_, List·Memᴰ as In}
-use Prim.Native.Nat.{ℕ, _+_, _-_, _≤_, _<_}
+use mathlib.Core.List.{List, _++_, List·Memᴰ as In}
+use Prim.Native.Nat.{ℕ, _-_, _≤_, _<_}
 use native.Mathlib.Omega.{arith}
 use lib.Dec.{eqb}
 use lib.ListN.{length, getD, take, drop, take-append-drop, length-drop}
 use lib.Seq.{length-take-le}
 use Rattle.model.specs.Fields.{Class}
 use Rattle.model.specs.Lists.{indexIn}
-use Rattle.model.specs.Classes.{Word, Contextual, TailsEqual}
+use Rattle.model.specs.Classes.{Word, Contextual}
 use Rattle.model.specs.Tables.{State, Walk, walkFrom}
 use Rattle.model.specs.Joinings.{Transition, transitionsOf, treeOf}
 use Rattle.model.specs.Quotients.{metGroups, statesOf}
-use Rattle.model.specs.Sources.{AdmittedBy, Reaches, AdmittedFrom, SameTails, ContextualStates, ContextualTails}
+use Rattle.model.specs.Sources.{AdmittedBy, Reaches, AdmittedFrom, ContextualStates, ContextualTails}
 use Rattle.model.specs.Sources.{AllReached, Canonical}
 use Rattle.model.proofs.Places.{nth-in, index-of-nth}
 use Rattle.model.proofs.Notions.{Walks}
@@ -25,7 +24,7 @@ use Rattle.model.proofs.Rules.{Ruled, full-equal}
 use Rattle.model.proofs.Trees.{treeOf-tree}
 use Rattle.model.proofs.FirstMet.{met-distinct, met-in, states-length}
 use Rattle.model.proofs.Admits.{Walked, all-taken, stopped, walked}
-use Rattle.model.proofs.TableWalks.{reaches-one, reaches-append, reaches-split, admitted-cut, admitted-after}
+use Rattle.model.proofs.TableWalks.{reaches-append, reaches-split, admitted-cut, admitted-after}
 use Rattle.model.proofs.TableWalks.{admitted-in, tells-admitted, word-tails, equal-tails}
 use Rattle.model.proofs.Joined.{Joined, joined-deterministic}
 
@@ -83,7 +82,11 @@ module _ (k h : ℕ) (states : List State) where
             size low high (x .on-from-it) (y .on-from-it) (x .way-on) (y .way-on));
       }
 
-  -- and a contextual set makes the tails the same, where every state is reached
+  -- and so do walks that meet
+  pub states-contextual : ContextualStates k h states → Contextual k h (AdmittedBy states)
+  states-contextual one = tails-contextual (states-tails one)
+
+  -- a contextual set makes the tails the same, where every state is reached
   pub contextual-tails : AllReached states → Contextual k h (AdmittedBy states) → ContextualTails k h states
   contextual-tails reached l =
       record {

@@ -42,6 +42,7 @@ pub mod ReadBack
 pub mod WrittenLengths
 pub mod Rewriting
 pub mod Reading
+pub mod TableBodies
 -- demands: all full joinings have one table, of the smallest set of the class, and all that is claimed
 pub mod Joined
 pub mod ContextualTables

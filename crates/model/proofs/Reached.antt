@@ -5,7 +5,7 @@ use mathlib.Core.Logic.{_⊎_, inl, inr, ⊎-elim}
 use mathlib.Core.Bool.{Bool, true, false}
 use mathlib.Core.List.{List, [], _∷_, List·Memᴰ as In, List·Memᴰ·head as here, List·Memᴰ·tail as there}
 use mathlib.Core.List.{List·Memᴰ·not-nil, List·Memᴰ·cases-cons, cons≢nil, head-eq-of-cons-eq, tail-eq-of-cons-eq}
-use Prim.Native.Nat.{ℕ, zero, suc, _≤_, _<_}
+use Prim.Native.Nat.{ℕ, suc, _≤_, _<_}
 use native.Mathlib.Omega.{arith}
 use lib.Dec.{eqb, ltb}
 use lib.ListN.{length, getD, drop, drop-of-length-le}
@@ -14,7 +14,7 @@ use borrow.Author.Tests.{eqb-true, ltb-true}
 use Rattle.model.specs.Classes.{Word}
 use Rattle.model.specs.Tables.{Arc, State, no-state, targetIn, metByArcs, metByStates, isFirstMet}
 use Rattle.model.specs.Sources.{Reaches, AllReached}
-use Rattle.model.proofs.Tests.{decided, tells-ltb, eq-dec}
+use Rattle.model.proofs.Tests.{decided, tells-ltb}
 use Rattle.model.proofs.Notions.{_▸_}
 use Rattle.model.proofs.Arcs.{Ascending, ascending-low}
 use Rattle.model.proofs.Admits.{targetIn-here, targetIn-there}

@@ -1,22 +1,22 @@
 -- What the two sources say holds of the definitions: `document-000` and `document-002`. Assumes nothing.
-use mathlib.Core.Path.{_≡_, refl, sym, ap, _∙_, subst}
-use mathlib.Core.Logic.{_⊎_, ⊎-elim, _↔_}
-use mathlib.Core.Bool.{Bool, true, false, false≢true}
-use mathlib.Core.List.{List, [], _∷_, _++_}
-use Prim.Native.Nat.{ℕ, suc, _≤_}
+use mathlib.Core.Path.{_≡_, refl, sym}
+use mathlib.Core.Logic.{_⊎_, ⊎-elim}
+use mathlib.Core.Bool.{true, false≢true}
+use mathlib.Core.List.{[], _∷_}
+use Prim.Native.Nat.{ℕ}
 use native.Mathlib.Omega.{arith}
-use lib.Dec.{eqb}
 use Rattle.model.specs.Lists.{any, all, numbersFrom, same, hasRow}
-use Rattle.model.specs.Fields.{Class, File, table}
+use Rattle.model.specs.Fields.{Class, File}
 use Rattle.model.specs.Tables.{targetIn, walkFrom, walk, reachedState, admits}
-use Rattle.model.specs.Classes.{Word, putName, seenSet, fOf, TailsEqual, Contextual, Distinguishable}
+use Rattle.model.specs.Classes.{Word, putName, seenSet, fOf, Contextual, Distinguishable}
 use Rattle.model.specs.Joinings.{joinedGroups}
 use Rattle.model.specs.Quotients.{bookStates}
-use Rattle.model.specs.Sources.{AdmittedBy, Listed, Distinguishable-22, seen-set, figure-3, words-24, sets-24, l1, l2}
+use Rattle.model.specs.Sources.{AdmittedBy, Listed, Distinguishable-22, seen-set, figure-3, l1, l2}
 use Rattle.model.specs.Sources.{Document-000, Document-002, ContextualStates}
 use Rattle.model.proofs.Functions.{f-append}
+use Rattle.model.proofs.TableBodies.{accepted-reached}
 use Rattle.model.proofs.Joined.{joinedGroups-joined}
-use Rattle.model.proofs.ContextualTables.{states-tails, tails-contextual, contextual-tails, tails-states, joined-contextual}
+use Rattle.model.proofs.ContextualTables.{tails-contextual, states-contextual, contextual-tails, tails-states, joined-contextual}
 use Rattle.model.proofs.ContextualRows.{tailsWithin, contextKept, isContextual, rows-contextual}
 use borrow.Author.Tests.{eq-eqb}
 
@@ -77,3 +77,42 @@ union-fails l =
     ⊎-elim (λ e. false≢true e) (λ e. false≢true e)
     (l .equal-tails (0 ∷ []) (4 ∷ []) (1 ∷ (2 ∷ [])) (3 ∷ []) (3 ∷ []) 1 refl (omega arith) (omega arith)
     (_⊎_.inl refl) (_⊎_.inl refl) .tails (5 ∷ []) .0 (_⊎_.inr refl))
+
+-- lemma 5.10 for the table of a book
+built : (f : File) → f .class-is .kind ≡ 0 → ContextualStates (f .class-is .first) (f .class-is .second) (bookStates f)
+unfolding bookStates
+built f kind =
+    joined-contextual (f .class-is) (f .items) (joinedGroups (f .class-is) (f .items))
+    (joinedGroups-joined (f .class-is) (f .items)) (eq-eqb (f .class-is .kind) 0 kind)
+
+-- theorem 5.19, 2: the tails in the intersection are the tails in both
+both : (k h : ℕ) (l m : Word → Type 0) → Contextual k h l → Contextual k h m → Contextual k h (λ (r : Word). l r × m r)
+both k h l m in-l in-m =
+    record {
+      equal-tails = λ u1 u2 a w1 w2 i size low high e1 e2.
+          let x = in-l .equal-tails u1 u2 a w1 w2 i size low high (e1 .0) (e2 .0) in
+          let y = in-m .equal-tails u1 u2 a w1 w2 i size low high (e1 .1) (e2 .1) in
+          record { tails = λ v. (λ e. (x .tails v .0 (e .0), y .tails v .0 (e .1)), λ e. (x .tails v .1 (e .0), y .tails v .1 (e .1))) };
+    }
+
+pub document-002 : Document-002
+document-002 =
+    record {
+      lemma-5-10-if = states-contextual;
+      lemma-5-10-built = built;
+      lemma-5-10-tails = λ k h states reached. (contextual-tails k h states reached, tails-contextual k h states);
+      accepted-reached = accepted-reached;
+      lemma-5-10 = λ k h states canonical. (
+        λ l. tails-states k h states canonical (contextual-tails k h states (canonical .reached) l),
+        states-contextual k h states,
+      );
+      theorem-5-18-4 = λ k h l in-l.
+          record {
+            equal-tails = λ u1 u2 a w1 w2 i size low high.
+                in-l .equal-tails u1 u2 a w1 w2 i size (omega arith) high;
+          };
+      l1-contextual = rows-contextual l1 2 1 l1-passes;
+      l2-contextual = rows-contextual l2 2 1 l2-passes;
+      union-not = union-fails;
+      intersection = both;
+    }
