@@ -39,7 +39,7 @@ module _ (k h : ℕ) (states : List State) where
             let x = admitted-cut states p a v from-p in
             let y = admitted-cut states q a w from-q in
             let same : p-after ≡ q-after =
-            one .one-state p q (x .0) (y .0) p-after q-after i a p-in q-in size low high (x .1) (y .1) f g in
+            one .one-state p q (x .0) (y .0) p-after q-after i a p-in q-in size (omega arith) high (x .1) (y .1) f g in
             record {
               tails = λ z. (
                 subst (λ (s : ℕ). AdmittedFrom states s z) same,
@@ -187,7 +187,7 @@ module _ (c : Class) (rows : List Word) (groups : List ℕ) (joined : Joined c r
   joined-contextual kind =
       record {
         one-state = λ p q p-end q-end p-after q-after i a p-in q-in size low high fp fq f g.
-            meet p q p-after q-after i a size low high (between p p-after (take i a) p-in f)
+            meet p q p-after q-after i a size (omega arith) high (between p p-after (take i a) p-in f)
             (between q q-after (take i a) q-in g) (between p p-end a p-in fp) (between q q-end a q-in fq);
       }
     where

@@ -91,7 +91,8 @@ module _ (states : List State) (ascending : (q : ℕ) → Ascending 0 (getD stat
       first = sym (drop-cons states i no-state inside) ∙ e
 
       go :
-          (b : Bool) → ltb i m ≡ b → ((n : ℕ) → drop (suc i) states ≡ rest → MetReached n → MetReached (metByStates (suc i) n rest)) →
+          (b : Bool) → ltb i m ≡ b →
+          ((n : ℕ) → drop (suc i) states ≡ rest → MetReached n → MetReached (metByStates (suc i) n rest)) →
           MetReached (elim b [ true ↦ metByStates (suc i) (metByArcs m (s .arcs)) rest | false ↦ 0 ])
       go true low again =
           again (metByArcs m (s .arcs)) (tail-eq-of-cons-eq first)

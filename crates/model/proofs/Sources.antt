@@ -1,10 +1,11 @@
 -- What the two sources say holds of the definitions: `document-000` and `document-002`. Assumes nothing.
-use mathlib.Core.Path.{_≡_, refl, sym}
-use mathlib.Core.Logic.{_⊎_, ⊎-elim}
+use mathlib.Core.Path.{_≡_, refl}
+use mathlib.Core.Logic.{_⊎_, inl, inr, ⊎-elim}
 use mathlib.Core.Bool.{true, false≢true}
 use mathlib.Core.List.{[], _∷_}
 use Prim.Native.Nat.{ℕ}
 use native.Mathlib.Omega.{arith}
+use borrow.Author.Tests.{eq-eqb}
 use Rattle.model.specs.Lists.{any, all, numbersFrom, same, hasRow}
 use Rattle.model.specs.Fields.{Class, File}
 use Rattle.model.specs.Tables.{targetIn, walkFrom, walk, reachedState, admits}
@@ -18,7 +19,6 @@ use Rattle.model.proofs.TableBodies.{accepted-reached}
 use Rattle.model.proofs.Joined.{joinedGroups-joined}
 use Rattle.model.proofs.ContextualTables.{tails-contextual, states-contextual, contextual-tails, tails-states, joined-contextual}
 use Rattle.model.proofs.ContextualRows.{tailsWithin, contextKept, isContextual, rows-contextual}
-use borrow.Author.Tests.{eq-eqb}
 
 -- ---- document 000
 
@@ -27,8 +27,8 @@ to-22 : (c : Class) (l : Word → Type 0) → Distinguishable c l → Distinguis
 to-22 c l d =
     record {
       both-or-neither = λ u v w z e wu wv. (
-        λ zu. d .equal-tails w z u e wu zu .tails v .0 wv,
-        λ zv. d .equal-tails w z v e wv zv .tails u .0 wu,
+        λ zu. d .equal-tails w z u (cc) wu zu .tails v .0 wv,
+        λ zv. d .equal-tails w z v (cc) wv zv .tails u .0 wu,
       );
     }
 
@@ -38,8 +38,8 @@ of-22 c l d =
       equal-tails = λ w z v e wv zv.
           record {
             tails = λ x. (
-              λ wx. d .both-or-neither v x w z e wv wx .0 zv,
-              λ zx. d .both-or-neither v x z w (sym e) zv zx .0 wv,
+              λ wx. d .both-or-neither v x w z (cc) wv wx .0 zv,
+              λ zx. d .both-or-neither v x z w (cc) zv zx .0 wv,
             );
           };
     }
@@ -76,7 +76,7 @@ unfolding any same hasRow
 union-fails l =
     ⊎-elim (λ e. false≢true e) (λ e. false≢true e)
     (l .equal-tails (0 ∷ []) (4 ∷ []) (1 ∷ (2 ∷ [])) (3 ∷ []) (3 ∷ []) 1 refl (omega arith) (omega arith)
-    (_⊎_.inl refl) (_⊎_.inl refl) .tails (5 ∷ []) .0 (_⊎_.inr refl))
+    (inl refl) (inl refl) .tails (5 ∷ []) .0 (inr refl))
 
 -- lemma 5.10 for the table of a book
 built : (f : File) → f .class-is .kind ≡ 0 → ContextualStates (f .class-is .first) (f .class-is .second) (bookStates f)
@@ -92,7 +92,12 @@ both k h l m in-l in-m =
       equal-tails = λ u1 u2 a w1 w2 i size low high e1 e2.
           let x = in-l .equal-tails u1 u2 a w1 w2 i size low high (e1 .0) (e2 .0) in
           let y = in-m .equal-tails u1 u2 a w1 w2 i size low high (e1 .1) (e2 .1) in
-          record { tails = λ v. (λ e. (x .tails v .0 (e .0), y .tails v .0 (e .1)), λ e. (x .tails v .1 (e .0), y .tails v .1 (e .1))) };
+          record {
+            tails = λ v. (
+              λ e. (x .tails v .0 (e .0), y .tails v .0 (e .1)),
+              λ e. (x .tails v .1 (e .0), y .tails v .1 (e .1)),
+            );
+          };
     }
 
 pub document-002 : Document-002
