@@ -97,8 +97,8 @@ module _ (rows : List Word) where
           equal-tails = λ u1 u2 a w1 w2 i size low high e1 e2.
               record {
                 tails = λ v. (
-                  one-way u1 u2 a w1 w2 i size low high e1 e2 v,
-                  one-way u2 u1 a w2 w1 i size low high e2 e1 v,
+                  one-way u1 u2 a w1 w2 i size (omega arith) high e1 e2 v,
+                  one-way u2 u1 a w2 w1 i size (omega arith) high e2 e1 v,
                 );
               };
         }

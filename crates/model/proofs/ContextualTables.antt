@@ -79,7 +79,7 @@ module _ (k h : ℕ) (states : List State) where
             (same .same-tails (x .at-it) (y .at-it) (x .after-it) (y .after-it) i a w1 w2
             (admitted-in states (x .at-it) (a ++ w1) (x .on-from-it))
             (admitted-in states (y .at-it) (a ++ w2) (y .on-from-it))
-            size low high (x .on-from-it) (y .on-from-it) (x .way-on) (y .way-on));
+            size (omega arith) high (x .on-from-it) (y .on-from-it) (x .way-on) (y .way-on));
       }
 
   -- and so do walks that meet
@@ -96,7 +96,7 @@ module _ (k h : ℕ) (states : List State) where
             equal-tails states (x .0 ++ take i a) (y .0 ++ take i a) p-after q-after
             (reaches-append states 0 p p-after (x .0) (take i a) (x .1) f)
             (reaches-append states 0 q q-after (y .0) (take i a) (y .1) g) .0
-            (l .equal-tails (x .0) (y .0) a v w i size low high
+            (l .equal-tails (x .0) (y .0) a v w i size (omega arith) high
             (word-tails states (x .0) (a ++ v) p (x .1) .1 from-p)
             (word-tails states (y .0) (a ++ w) q (y .1) .1 from-q));
       }
@@ -109,7 +109,7 @@ module _ (k h : ℕ) (states : List State) where
             let x = on p p-end a p-in fp in
             let y = on q q-end a q-in fq in
             canonical .one-each p-after q-after (in-table p p-after (take i a) p-in f) (in-table q q-after (take i a) q-in g)
-            (same .same-tails p q p-after q-after i a (x .0) (y .0) p-in q-in size low high (x .1) (y .1) f g);
+            (same .same-tails p q p-after q-after i a (x .0) (y .0) p-in q-in size (omega arith) high (x .1) (y .1) f g);
       }
     where
       -- what is reached from a state is live
