@@ -1,19 +1,20 @@
 -- What the two sources say holds of the definitions: `document-000` and `document-002`. Assumes nothing.
-use mathlib.Core.Path.{_≡_, refl}
+use mathlib.Core.Path.{_≡_, refl, sym, subst}
 use mathlib.Core.Logic.{_⊎_, inl, inr, ⊎-elim}
 use mathlib.Core.Bool.{true, false≢true}
-use mathlib.Core.List.{[], _∷_}
-use Prim.Native.Nat.{ℕ}
+use mathlib.Core.List.{[], _∷_, _++_}
+use Prim.Native.Nat.{ℕ, _≤_}
 use native.Mathlib.Omega.{arith}
 use borrow.Author.Tests.{eq-eqb}
+use lib.Seq.{take-all}
 use Rattle.model.specs.Lists.{any, all, numbersFrom, same, hasRow}
 use Rattle.model.specs.Fields.{Class, File}
 use Rattle.model.specs.Tables.{targetIn, walkFrom, walk, reachedState, admits}
-use Rattle.model.specs.Classes.{Word, putName, seenSet, fOf, Contextual, Distinguishable}
+use Rattle.model.specs.Classes.{Word, putName, seenSet, fOf, TailsEqual, Contextual, Distinguishable}
 use Rattle.model.specs.Joinings.{joinedGroups}
 use Rattle.model.specs.Quotients.{bookStates}
 use Rattle.model.specs.Sources.{AdmittedBy, Listed, Distinguishable-22, seen-set, figure-3, l1, l2}
-use Rattle.model.specs.Sources.{Document-000, Document-002, ContextualStates}
+use Rattle.model.specs.Sources.{Document-000, Document-002, ContextualStates, Reversible, ContextualAfter}
 use Rattle.model.proofs.Functions.{f-append}
 use Rattle.model.proofs.TableBodies.{accepted-reached}
 use Rattle.model.proofs.Joined.{joinedGroups-joined}
@@ -85,6 +86,28 @@ built f kind =
     joined-contextual (f .class-is) (f .items) (joinedGroups (f .class-is) (f .items))
     (joinedGroups-joined (f .class-is) (f .items)) (eq-eqb (f .class-is .kind) 0 kind)
 
+-- theorem 5.18: after all k names the tails are equal, from any h up to k on
+after-all : (k h : ℕ) (l : Word → Type 0) → h ≤ k → Contextual k h l → ContextualAfter k l
+after-all k h l low in-l =
+    record {
+      equal-tails = λ u1 u2 v w1 w2 size e1 e2.
+          subst (λ (a : Word). TailsEqual l (u1 ++ a) (u2 ++ a)) (take-all k v (omega arith))
+          (in-l .equal-tails u1 u2 v w1 w2 k size low (omega arith) e1 e2);
+    }
+
+-- and from k on it is after all k names
+from-all : (k : ℕ) (l : Word → Type 0) → ContextualAfter k l → Contextual k k l
+from-all k l in-l =
+    record {
+      equal-tails = λ u1 u2 a w1 w2 i size low high e1 e2.
+          subst (λ (v : Word). TailsEqual l (u1 ++ v) (u2 ++ v)) (sym (take-all i a (omega arith)))
+          (in-l .equal-tails u1 u2 a w1 w2 size e1 e2);
+    }
+
+-- words that go on alike are words that go on
+alike : (k : ℕ) (l : Word → Type 0) → ContextualAfter k l → Reversible k l
+alike k l in-l = record { equal-tails = λ u1 u2 v w. in-l .equal-tails u1 u2 v w w }
+
 -- theorem 5.19, 2: the tails in the intersection are the tails in both
 both : (k h : ℕ) (l m : Word → Type 0) → Contextual k h l → Contextual k h m → Contextual k h (λ (r : Word). l r × m r)
 both k h l m in-l in-m =
@@ -111,6 +134,9 @@ document-002 =
         λ l. tails-states k h states canonical (contextual-tails k h states (canonical .reached) l),
         states-contextual k h states,
       );
+      theorem-5-18-1 = alike;
+      theorem-5-18-2 = λ k h l low in-l. alike k l (after-all k h l low in-l);
+      theorem-5-18-3 = λ k l. (from-all k l, after-all k k l (omega arith));
       theorem-5-18-4 = λ k h l in-l.
           record {
             equal-tails = λ u1 u2 a w1 w2 i size low high.

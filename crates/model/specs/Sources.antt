@@ -1,5 +1,5 @@
 -- What the two sources of the classes say, held against the definitions (docs/SOURCES.md): of document 000 definitions (20) and
--- (22), example (24) and figure 3; of document 002 lemma 5.10 and theorems 5.18, 4, and 5.19. `document-000` and `document-002`
+-- (22), example (24) and figure 3; of document 002 lemma 5.10 and theorems 5.18 and 5.19. `document-000` and `document-002`
 -- of proofs/Sources.antt prove it. Assumes nothing.
 use mathlib.Core.Path.{_≡_}
 use mathlib.Core.Logic.{_⊎_, _↔_}
@@ -10,7 +10,7 @@ use lib.ListN.{length, getD, take}
 use Rattle.model.specs.Lists.{hasRow}
 use Rattle.model.specs.Fields.{Class, class-of, File}
 use Rattle.model.specs.Tables.{State, state, arc, no-state, walk-at, walkFrom, admits}
-use Rattle.model.specs.Classes.{Word, fOf, Contextual, Distinguishable}
+use Rattle.model.specs.Classes.{Word, fOf, TailsEqual, Contextual, Distinguishable}
 use Rattle.model.specs.Quotients.{bookStates}
 use Rattle.model.specs.Calls.{tableFault, tableStates}
 
@@ -108,7 +108,17 @@ pub record Canonical (states : List State) : Type 0 where
   pub live : (w : Word) (q : ℕ) → Reaches states 0 w q → (v : Word) × AdmittedFrom states q v
   pub one-each : (p q : ℕ) → p < length states → q < length states → SameTails states p q → p ≡ q
 
--- ---- document 002, theorem 5.19
+-- ---- document 002, theorems 5.18 and 5.19
+
+-- definition 5.3, k-reversible: the same k names, and after them the same names, make the tails after the k names equal
+pub record Reversible (k : ℕ) (l : Word → Type 0) : Type 0 where
+  pub equal-tails :
+      (u1 u2 v w : Word) → length v ≡ k → l (u1 ++ (v ++ w)) → l (u2 ++ (v ++ w)) → TailsEqual l (u1 ++ v) (u2 ++ v)
+
+-- definition 5.4, k-contextual: the same k names make the tails after them equal
+pub record ContextualAfter (k : ℕ) (l : Word → Type 0) : Type 0 where
+  pub equal-tails :
+      (u1 u2 v w1 w2 : Word) → length v ≡ k → l (u1 ++ (v ++ w1)) → l (u2 ++ (v ++ w2)) → TailsEqual l (u1 ++ v) (u2 ++ v)
 
 -- L1 = {abcd, ebcd} and L2 = {abg}, with 0, 1, 2, 3, 4, 5 for a, b, c, d, e, g
 abbrev pub l1 : List Word
@@ -135,7 +145,11 @@ pub record Document-002 : Type 1 where
   pub lemma-5-10 :
       (k h : ℕ) (states : List State) → Canonical states →
       Contextual k h (AdmittedBy states) ↔ ContextualStates k h states
-  -- theorem 5.18, 4
+  -- theorem 5.18: what is k-contextual is k-reversible; so is what is (k,h)-contextual; k-contextual is (k,k)-contextual, and
+  -- back; what is (k,h)-contextual is (k,h+1)-contextual
+  pub theorem-5-18-1 : (k : ℕ) (l : Word → Type 0) → ContextualAfter k l → Reversible k l
+  pub theorem-5-18-2 : (k h : ℕ) (l : Word → Type 0) → h ≤ k → Contextual k h l → Reversible k l
+  pub theorem-5-18-3 : (k : ℕ) (l : Word → Type 0) → ContextualAfter k l ↔ Contextual k k l
   pub theorem-5-18-4 : (k h : ℕ) (l : Word → Type 0) → Contextual k h l → Contextual k (suc h) l
   -- theorem 5.19, 1: L1 and L2 are (2,1)-contextual, and their union is not
   pub l1-contextual : Contextual 2 1 (Listed l1)
