@@ -53,6 +53,7 @@ pub mod InTheClass
 pub mod Demands
 -- what the sources say: finite sets of words tested, and the whole
 pub mod ContextualRows
+pub mod Samples
 pub mod Sources
 -- the worked days of document 01
 pub mod WorkedDays
