@@ -9,12 +9,13 @@ use native.Mathlib.Omega.{arith}
 use lib.Dec.{eqb}
 use lib.ListN.{length, getD, take, drop, take-append-drop, length-drop}
 use lib.Seq.{length-take-le}
-use Rattle.model.specs.Fields.{Class}
+use borrow.Author.Tests.{eq-eqb}
+use Rattle.model.specs.Fields.{Class, File}
 use Rattle.model.specs.Lists.{indexIn}
 use Rattle.model.specs.Classes.{Word, Contextual}
 use Rattle.model.specs.Tables.{State, Walk, walkFrom}
-use Rattle.model.specs.Joinings.{Transition, transitionsOf, treeOf}
-use Rattle.model.specs.Quotients.{metGroups, statesOf}
+use Rattle.model.specs.Joinings.{Transition, transitionsOf, treeOf, joinedGroups}
+use Rattle.model.specs.Quotients.{metGroups, statesOf, bookStates}
 use Rattle.model.specs.Sources.{AdmittedBy, Reaches, AdmittedFrom, ContextualStates, ContextualTails}
 use Rattle.model.specs.Sources.{AllReached, Canonical}
 use Rattle.model.proofs.Places.{nth-in, index-of-nth}
@@ -26,7 +27,7 @@ use Rattle.model.proofs.FirstMet.{met-distinct, met-in, states-length}
 use Rattle.model.proofs.Admits.{Walked, all-taken, stopped, walked}
 use Rattle.model.proofs.TableWalks.{reaches-append, reaches-split, admitted-cut, admitted-after}
 use Rattle.model.proofs.TableWalks.{admitted-in, tells-admitted, word-tails, equal-tails}
-use Rattle.model.proofs.Joined.{Joined, joined-deterministic}
+use Rattle.model.proofs.Joined.{Joined, joined-deterministic, joinedGroups-joined}
 
 -- ---- any table
 
@@ -235,3 +236,11 @@ module _ (c : Class) (rows : List Word) (groups : List ℕ) (joined : Joined c r
             out-of-y = onward (getD (metGroups nodes groups) q 0) (y .to) (y-end .to) i a (y .way) (y-end .way);
           })) in
           x .number ∙ ap (λ (z : ℕ). indexIn z (metGroups nodes groups)) one ∙ sym (y .number)
+
+-- the table of a book of kind 0 meets it
+pub book-contextual :
+    (f : File) → f .class-is .kind ≡ 0 → ContextualStates (f .class-is .first) (f .class-is .second) (bookStates f)
+unfolding bookStates
+book-contextual f kind =
+    joined-contextual (f .class-is) (f .items) (joinedGroups (f .class-is) (f .items))
+    (joinedGroups-joined (f .class-is) (f .items)) (eq-eqb (f .class-is .kind) 0 kind)

@@ -177,6 +177,13 @@ module _ (c : Class) (rows : List Word) (groups : List ℕ) (joined : Joined c r
       go true kind = rw kind (admits-contextual kind)
       go false kind = rw kind (admits-distinguishable kind)
 
+  -- without rows nothing is admitted
+  pub admits-none : ((r : Word) → In r rows → ⊥) → (r : Word) → Admits rows groups r → ⊥
+  admits-none none r e =
+      let h = told r .fact e in
+      let end = tells-accepts rows (treeOf rows) groups (h .0) .fact (h .2) in
+      none (end .0) (end .3)
+
   -- every set of words of the class that holds the rows holds what the table admits
   pub admits-smallest :
       (l : Word → Type 0) → InClass c l → ((r : Word) → In r rows → l r) → (first-row : Word) → In first-row rows →

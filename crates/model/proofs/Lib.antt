@@ -51,9 +51,10 @@ pub mod Joined
 pub mod ContextualTables
 pub mod InTheClass
 pub mod Demands
--- what the sources say: finite sets of words tested, and the whole
+-- what the sources say: finite sets of words tested, contextual sets told by finitely many words, and the whole
 pub mod ContextualRows
 pub mod Samples
+pub mod Identified
 pub mod Sources
 -- the worked days of document 01
 pub mod WorkedDays

@@ -7,15 +7,15 @@ use mathlib.Core.Bool.{Bool, true, false, not, cond}
 use mathlib.Core.List.{List, [], _∷_, _++_, map, flatMap, append-assoc, List·Memᴰ as In, List·Memᴰ·head as here}
 use mathlib.Core.List.{List·Memᴰ·tail as there, List·Memᴰ·not-nil, List·Memᴰ·cases-cons, Memᴰ·map, Memᴰ·append-left}
 use mathlib.Core.List.{Memᴰ·append-right}
-use Prim.Native.Nat.{ℕ, zero, suc, _+_, _-_, _*_, _≤_, _<_}
+use Prim.Native.Nat.{ℕ, zero, suc, _+_, _*_, _≤_, _<_}
 use native.Mathlib.Omega.{arith}
 use lib.ListN.{length, take, drop, length-append, length-drop, take-append-drop}
 use lib.Seq.{length-take-le, take-all}
 use Rattle.model.specs.Lists.{filterBy, numbersFrom, same}
 use Rattle.model.specs.Classes.{Word, TailsEqual, Contextual}
 use Rattle.model.specs.Sources.{ContextualAfter}
-use Rattle.model.proofs.Tests.{Tells, tells-same, tells-not, tells-leb, decided}
-use Rattle.model.proofs.Lists.{in-flatMap, in-filterBy, filterBy-in}
+use Rattle.model.proofs.Tests.{tells-same, tells-not, tells-leb, decided}
+use Rattle.model.proofs.Lists.{in-flatMap, filterBy-in}
 use Rattle.model.proofs.Places.{in-numbersFrom, numbersFrom-in, length-numbersFrom}
 
 -- ---- three numbers with one word
@@ -194,11 +194,14 @@ module _ (k : ℕ) (l l′ : Word → Type 0) (in-l : ContextualAfter k l) (in-l
           subst m (append-assoc c d t) (same .tails t .0 (subst m (sym (append-assoc b d t)) e))
 
   -- so l′ has all words of l over names below m if it has the short ones
-  module _ (m : ℕ) (below : (r : Word) → l r → (x : ℕ) → In x r → x < m) (short : (r : Word) → l r → length r ≤ enough m k → l′ r) where
+  module _
+      (m : ℕ) (below : (r : Word) → l r → (x : ℕ) → In x r → x < m)
+      (short : (r : Word) → l r → length r ≤ enough m k → l′ r) where
     -- a long word, if the shorter ones are there
     long-word : (r : Word) → l r → enough m k < length r → ((s : Word) → length s < length r → l s → l′ s) → l′ r
     unfolding enough
-    long-word r in-r long shorter = go (thrice key places (wordsOver m k) (numbersFrom places 0) (up-numbersFrom places 0) among many)
+    long-word r in-r long shorter =
+        go (thrice key places (wordsOver m k) (numbersFrom places 0) (up-numbersFrom places 0) among many)
       where
         key : ℕ → Word
         key p = take k (drop p r)

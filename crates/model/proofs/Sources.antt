@@ -1,24 +1,24 @@
 -- What the two sources say holds of the definitions: `document-000` and `document-002`. Assumes nothing.
 use mathlib.Core.Path.{_≡_, refl, sym, subst}
 use mathlib.Core.Logic.{_⊎_, inl, inr, ⊎-elim}
-use mathlib.Core.Bool.{true, false≢true}
-use mathlib.Core.List.{[], _∷_, _++_}
+use mathlib.Core.Bool.{Bool, true, false≢true}
+use mathlib.Core.List.{List, [], _∷_, _++_}
 use Prim.Native.Nat.{ℕ, _≤_}
 use native.Mathlib.Omega.{arith}
-use borrow.Author.Tests.{eq-eqb}
 use lib.Seq.{take-all}
 use Rattle.model.specs.Lists.{any, all, numbersFrom, same, hasRow}
-use Rattle.model.specs.Fields.{Class, File}
-use Rattle.model.specs.Tables.{targetIn, walkFrom, walk, reachedState, admits}
+use Rattle.model.specs.Fields.{Class, allBelow}
+use Rattle.model.specs.Tables.{State, targetIn, walkFrom, walk, reachedState, admits}
 use Rattle.model.specs.Classes.{Word, putName, seenSet, fOf, TailsEqual, Contextual, Distinguishable}
-use Rattle.model.specs.Joinings.{joinedGroups}
 use Rattle.model.specs.Quotients.{bookStates}
 use Rattle.model.specs.Sources.{AdmittedBy, Listed, Distinguishable-22, seen-set, figure-3, l1, l2}
 use Rattle.model.specs.Sources.{Document-000, Document-002, ContextualStates, Reversible, ContextualAfter}
 use Rattle.model.proofs.Functions.{f-append}
 use Rattle.model.proofs.TableBodies.{accepted-reached}
-use Rattle.model.proofs.Joined.{joinedGroups-joined}
-use Rattle.model.proofs.ContextualTables.{tails-contextual, states-contextual, contextual-tails, tails-states, joined-contextual}
+use Rattle.model.proofs.ContextualTables.{tails-contextual, states-contextual, contextual-tails, tails-states}
+use Rattle.model.proofs.ContextualTables.{book-contextual}
+use Rattle.model.proofs.Samples.{after-all}
+use Rattle.model.proofs.Identified.{book-of, all-there, identified}
 use Rattle.model.proofs.ContextualRows.{tailsWithin, contextKept, isContextual, rows-contextual}
 
 -- ---- document 000
@@ -79,23 +79,7 @@ union-fails l =
     (l .equal-tails (0 ∷ []) (4 ∷ []) (1 ∷ (2 ∷ [])) (3 ∷ []) (3 ∷ []) 1 refl (omega arith) (omega arith)
     (inl refl) (inl refl) .tails (5 ∷ []) .0 (inr refl))
 
--- lemma 5.10 for the table of a book
-built : (f : File) → f .class-is .kind ≡ 0 → ContextualStates (f .class-is .first) (f .class-is .second) (bookStates f)
-unfolding bookStates
-built f kind =
-    joined-contextual (f .class-is) (f .items) (joinedGroups (f .class-is) (f .items))
-    (joinedGroups-joined (f .class-is) (f .items)) (eq-eqb (f .class-is .kind) 0 kind)
-
--- theorem 5.18: after all k names the tails are equal, from any h up to k on
-after-all : (k h : ℕ) (l : Word → Type 0) → h ≤ k → Contextual k h l → ContextualAfter k l
-after-all k h l low in-l =
-    record {
-      equal-tails = λ u1 u2 v w1 w2 size e1 e2.
-          subst (λ (a : Word). TailsEqual l (u1 ++ a) (u2 ++ a)) (take-all k v (omega arith))
-          (in-l .equal-tails u1 u2 v w1 w2 k size low (omega arith) e1 e2);
-    }
-
--- and from k on it is after all k names
+-- theorem 5.18: from k on is after all k names
 from-all : (k : ℕ) (l : Word → Type 0) → ContextualAfter k l → Contextual k k l
 from-all k l in-l =
     record {
@@ -123,17 +107,39 @@ both k h l m in-l in-m =
           };
     }
 
+-- lemma 5.10: the table of a sample, and back
+has-table :
+    (k h m : ℕ) (test : Word → Bool) → h ≤ k → ((r : Word) → test r ≡ true → allBelow m r ≡ true) →
+    Contextual k h (λ (r : Word). test r ≡ true) →
+    (states : List State) × ContextualStates k h states × ((r : Word) → admits states r ≡ test r)
+has-table k h m test low below in-l =
+    let sample = identified k h m test low below in-l in
+    let book = book-of k h (sample .rows) in
+    (bookStates book, book-contextual book refl, sample .tells book refl (all-there (sample .rows)) (sample .in-set))
+
+of-table :
+    (k h : ℕ) (test : Word → Bool) (states : List State) → ContextualStates k h states →
+    ((r : Word) → admits states r ≡ test r) → Contextual k h (λ (r : Word). test r ≡ true)
+of-table k h test states met same-words =
+    subst (λ (t : Word → Bool). Contextual k h (λ (r : Word). t r ≡ true)) (λ i r. same-words r i)
+    (states-contextual k h states met)
+
 pub document-002 : Document-002
 document-002 =
     record {
+      lemma-5-10 = λ k h m test low below. (
+        has-table k h m test low below,
+        λ found. of-table k h test (found .0) (found .1) (found .2),
+      );
       lemma-5-10-if = states-contextual;
-      lemma-5-10-built = built;
-      lemma-5-10-tails = λ k h states reached. (contextual-tails k h states reached, tails-contextual k h states);
-      accepted-reached = accepted-reached;
-      lemma-5-10 = λ k h states canonical. (
+      lemma-5-10-built = book-contextual;
+      lemma-5-10-canonical = λ k h states canonical. (
         λ l. tails-states k h states canonical (contextual-tails k h states (canonical .reached) l),
         states-contextual k h states,
       );
+      lemma-5-10-tails = λ k h states reached. (contextual-tails k h states reached, tails-contextual k h states);
+      accepted-reached = accepted-reached;
+      identified = identified;
       theorem-5-18-1 = alike;
       theorem-5-18-2 = λ k h l low in-l. alike k l (after-all k h l low in-l);
       theorem-5-18-3 = λ k l. (from-all k l, after-all k k l (omega arith));

@@ -1,18 +1,19 @@
 -- What the two sources of the classes say, held against the definitions (docs/SOURCES.md): of document 000 definitions (20) and
--- (22), example (24) and figure 3; of document 002 lemma 5.10 and theorems 5.18 and 5.19. `document-000` and `document-002`
--- of proofs/Sources.antt prove it. Assumes nothing.
+-- (22), example (24) and figure 3; of document 002 definition 4.1, lemma 5.10 and theorems 5.18 and 5.19. `document-000` and
+-- `document-002` of proofs/Sources.antt prove it. Assumes nothing.
 use mathlib.Core.Path.{_≡_}
 use mathlib.Core.Logic.{_⊎_, _↔_}
-use mathlib.Core.Bool.{true, false}
+use mathlib.Core.Bool.{Bool, true, false}
 use mathlib.Core.List.{List, [], _∷_, _++_, map}
 use Prim.Native.Nat.{ℕ, suc, _≤_, _<_}
 use lib.ListN.{length, getD, take}
-use Rattle.model.specs.Lists.{hasRow}
-use Rattle.model.specs.Fields.{Class, class-of, File}
+use Rattle.model.specs.Lists.{all, hasRow}
+use Rattle.model.specs.Fields.{Class, class-of, allBelow, File}
 use Rattle.model.specs.Tables.{State, state, arc, no-state, walk-at, walkFrom, admits}
 use Rattle.model.specs.Classes.{Word, fOf, TailsEqual, Contextual, Distinguishable}
 use Rattle.model.specs.Quotients.{bookStates}
 use Rattle.model.specs.Calls.{tableFault, tableStates}
+use Rattle.model.specs.Claims.{allAmong}
 
 -- the words that a table admits
 abbrev pub AdmittedBy : List State → Word → Type 0
@@ -108,6 +109,15 @@ pub record Canonical (states : List State) : Type 0 where
   pub live : (w : Word) (q : ℕ) → Reaches states 0 w q → (v : Word) × AdmittedFrom states q v
   pub one-each : (p q : ℕ) → p < length states → q < length states → SameTails states p q → p ≡ q
 
+-- words that tell a set: the table of every book of the class whose rows are words of the set, these among them, admits exactly
+-- the set
+pub record Sample (k h : ℕ) (test : Word → Bool) : Type 0 where
+  pub rows : List Word
+  pub in-set : all test rows ≡ true
+  pub tells :
+      (f : File) → f .class-is ≡ class-of 0 k h → allAmong rows (f .items) ≡ true → all test (f .items) ≡ true →
+      (r : Word) → admits (bookStates f) r ≡ test r
+
 -- ---- document 002, theorems 5.18 and 5.19
 
 -- definition 5.3, k-reversible: the same k names, and after them the same names, make the tails after the k names equal
@@ -129,22 +139,31 @@ l2 = (0 ∷ (1 ∷ (5 ∷ []))) ∷ []
 
 -- what document 002 says
 pub record Document-002 : Type 1 where
-  -- lemma 5.10, from the automaton to the set of words, for every table
-  pub lemma-5-10-if :
-      (k h : ℕ) (states : List State) → ContextualStates k h states → Contextual k h (AdmittedBy states)
+  -- lemma 5.10, for sets of words over the names below m that a test decides, as regular ones are: such a set is
+  -- (k,h)-contextual exactly if some table that meets the condition admits it
+  pub lemma-5-10 :
+      (k h m : ℕ) (test : Word → Bool) → h ≤ k → ((r : Word) → test r ≡ true → allBelow m r ≡ true) →
+      Contextual k h (λ (r : Word). test r ≡ true)
+      ↔ ((states : List State) × ContextualStates k h states × ((r : Word) → admits states r ≡ test r))
+  -- from the automaton to the set of words, for every table
+  pub lemma-5-10-if : (k h : ℕ) (states : List State) → ContextualStates k h states → Contextual k h (AdmittedBy states)
   -- the tables of books of kind 0 are such automata
   pub lemma-5-10-built :
       (f : File) → f .class-is .kind ≡ 0 → ContextualStates (f .class-is .first) (f .class-is .second) (bookStates f)
-  -- both directions, up to states with the same tails, for every table whose states are all reached
+  -- both directions for canonical automata
+  pub lemma-5-10-canonical :
+      (k h : ℕ) (states : List State) → Canonical states →
+      Contextual k h (AdmittedBy states) ↔ ContextualStates k h states
+  -- and, up to states with the same tails, for every table whose states are all reached
   pub lemma-5-10-tails :
       (k h : ℕ) (states : List State) → AllReached states →
       Contextual k h (AdmittedBy states) ↔ ContextualTails k h states
   -- as the states of every accepted table are
   pub accepted-reached : (s work : List ℕ) → tableFault s work ≡ 0 → AllReached (tableStates s)
-  -- both directions for canonical automata, as the source has it
-  pub lemma-5-10 :
-      (k h : ℕ) (states : List State) → Canonical states →
-      Contextual k h (AdmittedBy states) ↔ ContextualStates k h states
+  -- definition 4.1, identification in the limit: finitely many words of such a set tell it
+  pub identified :
+      (k h m : ℕ) (test : Word → Bool) → h ≤ k → ((r : Word) → test r ≡ true → allBelow m r ≡ true) →
+      Contextual k h (λ (r : Word). test r ≡ true) → Sample k h test
   -- theorem 5.18: what is k-contextual is k-reversible; so is what is (k,h)-contextual; k-contextual is (k,k)-contextual, and
   -- back; what is (k,h)-contextual is (k,h+1)-contextual
   pub theorem-5-18-1 : (k : ℕ) (l : Word → Type 0) → ContextualAfter k l → Reversible k l
