@@ -9,13 +9,13 @@ use Prim.Native.Nat.{ℕ, _≤_}
 use native.Mathlib.Omega.{arith}
 use lib.ListN.{length}
 use Rattle.model.specs.Lists.{all, filterBy}
-use Rattle.model.specs.Fields.{Class, class-of, File, file, allBelow}
+use Rattle.model.specs.Fields.{Class, class-of, File, file}
 use Rattle.model.specs.Tables.{admits}
 use Rattle.model.specs.Classes.{Word, Contextual, InClass}
 use Rattle.model.specs.Joinings.{joinedGroups}
 use Rattle.model.specs.Quotients.{bookStates}
 use Rattle.model.specs.Claims.{allAmong}
-use Rattle.model.specs.Sources.{AdmittedBy, ContextualStates, Sample}
+use Rattle.model.specs.Sources.{AdmittedBy, ContextualStates, Passing, OverNames, Sample}
 use Rattle.model.proofs.Tests.{tells-itself, tells-all, tells-hasRow, same-tests}
 use Rattle.model.proofs.Lists.{in-filterBy, filterBy-in}
 use Rattle.model.proofs.Books.{tells-allBelow}
@@ -39,8 +39,7 @@ some-row [] = inr (λ r m. List·Memᴰ·not-nil m)
 some-row (r ∷ rows) = inl (r, here refl)
 
 module _
-    (k h m : ℕ) (test : Word → Bool) (low : h ≤ k) (below : (r : Word) → test r ≡ true → allBelow m r ≡ true)
-    (in-l : Contextual k h (λ (r : Word). test r ≡ true)) where
+    (k h m : ℕ) (test : Word → Bool) (low : h ≤ k) (below : OverNames m test) (in-l : Contextual k h (Passing test)) where
   -- the short words of the set
   abbrev sample-rows : List Word
   sample-rows = filterBy test (shortWords m (enough m k))
@@ -61,7 +60,7 @@ module _
         ⊎-elim
         (λ first.
         admits-smallest (f .class-is) (f .items) (joinedGroups (f .class-is) (f .items)) joined
-        (λ (x : Word). test x ≡ true) (subst (λ (c : Class). InClass c (λ (x : Word). test x ≡ true)) (sym class) in-l)
+        (Passing test) (subst (λ (c : Class). InClass c (Passing test)) (sym class) in-l)
         row-in-set (first .0) (first .1) r e)
         (λ none. absurd (admits-none (f .class-is) (f .items) (joinedGroups (f .class-is) (f .items)) joined none r e))
         (some-row (f .items))
@@ -81,8 +80,8 @@ module _
         let met : ContextualStates k h (bookStates f) =
         subst (λ (c : Class). ContextualStates (c .first) (c .second) (bookStates f)) class
         (book-contextual f (ap (λ (c : Class). c .kind) class)) in
-        told-by-short k (λ (x : Word). test x ≡ true) (AdmittedBy (bookStates f))
-        (after-all k h (λ (x : Word). test x ≡ true) low in-l)
+        told-by-short k (Passing test) (AdmittedBy (bookStates f))
+        (after-all k h (Passing test) low in-l)
         (after-all k h (AdmittedBy (bookStates f)) low (states-contextual k h (bookStates f) met))
         m (λ x e. tells-allBelow m x .fact (below x e)) short-admitted (length r) r (omega arith)
 

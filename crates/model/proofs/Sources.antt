@@ -7,12 +7,12 @@ use Prim.Native.Nat.{ℕ, _≤_}
 use native.Mathlib.Omega.{arith}
 use lib.Seq.{take-all}
 use Rattle.model.specs.Lists.{any, all, numbersFrom, same, hasRow}
-use Rattle.model.specs.Fields.{Class, allBelow}
+use Rattle.model.specs.Fields.{Class}
 use Rattle.model.specs.Tables.{State, targetIn, walkFrom, walk, reachedState, admits}
 use Rattle.model.specs.Classes.{Word, putName, seenSet, fOf, TailsEqual, Contextual, Distinguishable}
 use Rattle.model.specs.Quotients.{bookStates}
 use Rattle.model.specs.Sources.{AdmittedBy, Listed, Distinguishable-22, seen-set, figure-3, l1, l2}
-use Rattle.model.specs.Sources.{Document-000, Document-002, ContextualStates, Reversible, ContextualAfter}
+use Rattle.model.specs.Sources.{Document-000, Document-002, ContextualStates, Passing, OverNames, Reversible, ContextualAfter}
 use Rattle.model.proofs.Functions.{f-append}
 use Rattle.model.proofs.TableBodies.{accepted-reached}
 use Rattle.model.proofs.ContextualTables.{tails-contextual, states-contextual, contextual-tails, tails-states}
@@ -109,8 +109,7 @@ both k h l m in-l in-m =
 
 -- lemma 5.10: the table of a sample, and back
 has-table :
-    (k h m : ℕ) (test : Word → Bool) → h ≤ k → ((r : Word) → test r ≡ true → allBelow m r ≡ true) →
-    Contextual k h (λ (r : Word). test r ≡ true) →
+    (k h m : ℕ) (test : Word → Bool) → h ≤ k → OverNames m test → Contextual k h (Passing test) →
     (states : List State) × ContextualStates k h states × ((r : Word) → admits states r ≡ test r)
 has-table k h m test low below in-l =
     let sample = identified k h m test low below in-l in
@@ -119,9 +118,9 @@ has-table k h m test low below in-l =
 
 of-table :
     (k h : ℕ) (test : Word → Bool) (states : List State) → ContextualStates k h states →
-    ((r : Word) → admits states r ≡ test r) → Contextual k h (λ (r : Word). test r ≡ true)
+    ((r : Word) → admits states r ≡ test r) → Contextual k h (Passing test)
 of-table k h test states met same-words =
-    subst (λ (t : Word → Bool). Contextual k h (λ (r : Word). t r ≡ true)) (λ i r. same-words r i)
+    subst (λ (t : Word → Bool). Contextual k h (Passing t)) (λ i r. same-words r i)
     (states-contextual k h states met)
 
 pub document-002 : Document-002

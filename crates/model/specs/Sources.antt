@@ -109,7 +109,15 @@ pub record Canonical (states : List State) : Type 0 where
   pub live : (w : Word) (q : ℕ) → Reaches states 0 w q → (v : Word) × AdmittedFrom states q v
   pub one-each : (p q : ℕ) → p < length states → q < length states → SameTails states p q → p ≡ q
 
--- words that tell a set: the table of every book of the class whose rows are words of the set, these among them, admits exactly
+-- the words that a test lets pass, a set of words that can be decided
+abbrev pub Passing : (Word → Bool) → Word → Type 0
+Passing test r = test r ≡ true
+
+-- they are over the names below m
+abbrev pub OverNames : ℕ → (Word → Bool) → Type 0
+OverNames m test = (r : Word) → test r ≡ true → allBelow m r ≡ true
+
+-- words that tell such a set: the table of every book of the class whose rows are words of the set, these among them, admits exactly
 -- the set
 pub record Sample (k h : ℕ) (test : Word → Bool) : Type 0 where
   pub rows : List Word
@@ -130,10 +138,11 @@ pub record ContextualAfter (k : ℕ) (l : Word → Type 0) : Type 0 where
   pub equal-tails :
       (u1 u2 v w1 w2 : Word) → length v ≡ k → l (u1 ++ (v ++ w1)) → l (u2 ++ (v ++ w2)) → TailsEqual l (u1 ++ v) (u2 ++ v)
 
--- L1 = {abcd, ebcd} and L2 = {abg}, with 0, 1, 2, 3, 4, 5 for a, b, c, d, e, g
+-- L1 = {abcd, ebcd}, with 0, 1, 2, 3, 4, 5 for a, b, c, d, e, g
 abbrev pub l1 : List Word
 l1 = (0 ∷ (1 ∷ (2 ∷ (3 ∷ [])))) ∷ ((4 ∷ (1 ∷ (2 ∷ (3 ∷ [])))) ∷ [])
 
+-- L2 = {abg}
 abbrev pub l2 : List Word
 l2 = (0 ∷ (1 ∷ (5 ∷ []))) ∷ []
 
@@ -142,8 +151,8 @@ pub record Document-002 : Type 1 where
   -- lemma 5.10, for sets of words over the names below m that a test decides, as regular ones are: such a set is
   -- (k,h)-contextual exactly if some table that meets the condition admits it
   pub lemma-5-10 :
-      (k h m : ℕ) (test : Word → Bool) → h ≤ k → ((r : Word) → test r ≡ true → allBelow m r ≡ true) →
-      Contextual k h (λ (r : Word). test r ≡ true)
+      (k h m : ℕ) (test : Word → Bool) → h ≤ k → OverNames m test →
+      Contextual k h (Passing test)
       ↔ ((states : List State) × ContextualStates k h states × ((r : Word) → admits states r ≡ test r))
   -- from the automaton to the set of words, for every table
   pub lemma-5-10-if : (k h : ℕ) (states : List State) → ContextualStates k h states → Contextual k h (AdmittedBy states)
@@ -162,8 +171,7 @@ pub record Document-002 : Type 1 where
   pub accepted-reached : (s work : List ℕ) → tableFault s work ≡ 0 → AllReached (tableStates s)
   -- definition 4.1, identification in the limit: finitely many words of such a set tell it
   pub identified :
-      (k h m : ℕ) (test : Word → Bool) → h ≤ k → ((r : Word) → test r ≡ true → allBelow m r ≡ true) →
-      Contextual k h (λ (r : Word). test r ≡ true) → Sample k h test
+      (k h m : ℕ) (test : Word → Bool) → h ≤ k → OverNames m test → Contextual k h (Passing test) → Sample k h test
   -- theorem 5.18: what is k-contextual is k-reversible; so is what is (k,h)-contextual; k-contextual is (k,k)-contextual, and
   -- back; what is (k,h)-contextual is (k,h+1)-contextual
   pub theorem-5-18-1 : (k : ℕ) (l : Word → Type 0) → ContextualAfter k l → Reversible k l
