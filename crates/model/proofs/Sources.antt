@@ -12,7 +12,8 @@ use Rattle.model.specs.Tables.{State, targetIn, walkFrom, walk, reachedS
 use Rattle.model.specs.Classes.{Word, putName, seenSet, fOf, TailsEqual, Contextual, Distinguishable}
 use Rattle.model.specs.Quotients.{bookStates}
 use Rattle.model.specs.Sources.{AdmittedBy, Listed, Distinguishable-22, seen-set, figure-3, l1, l2}
-use Rattle.model.specs.Sources.{Document-000, Document-002, ContextualStates, Passing, OverNames, Reversible, ContextualAfter}
+use Rattle.model.specs.Sources.{Contextual-5-9, figure-5-5, ContextualStates, Passing, OverNames, Reversible}
+use Rattle.model.specs.Sources.{ContextualAfter, Document-000, Document-002}
 use Rattle.model.proofs.Functions.{f-append}
 use Rattle.model.proofs.TableBodies.{accepted-reached}
 use Rattle.model.proofs.ContextualTables.{tails-contextual, states-contextual, contextual-tails, tails-states}
@@ -61,6 +62,15 @@ document-000 =
     }
 
 -- ---- document 002
+
+-- definition 5.9 as printed: with Inflection Example for a and Example after it, Headword Inflection and Headword Preferred_form
+-- may stand before Example Example, and only after the second may the word end with one Example
+printed-fails : Contextual-5-9 2 2 (AdmittedBy figure-5-5) → ⊥
+unfolding targetIn walkFrom walk reachedState admits
+printed-fails l =
+    false≢true
+    (l .equal-tails (1 ∷ []) (1 ∷ []) (2 ∷ (0 ∷ [])) (0 ∷ []) (0 ∷ []) (1 ∷ (2 ∷ [])) (1 ∷ (4 ∷ [])) 2 refl
+    (omega arith) (omega arith) (omega arith) refl refl refl refl .tails [] .1 refl)
 
 -- L1 and L2 pass the test of finite sets
 l1-passes : isContextual 2 1 l1 ≡ true
@@ -126,6 +136,7 @@ of-table k h test states met same-words =
 pub document-002 : Document-002
 document-002 =
     record {
+      printed-5-9-not = printed-fails;
       lemma-5-10 = λ k h m test low below. (
         has-table k h m test low below,
         λ found. of-table k h test (found .0) (found .1) (found .2),

@@ -1,12 +1,12 @@
 -- What the two sources of the classes say, held against the definitions (docs/SOURCES.md): of document 000 definitions (20) and
--- (22), example (24) and figure 3; of document 002 definition 4.1, lemma 5.10 and theorems 5.18 and 5.19. `document-000` and
--- `document-002` of proofs/Sources.antt prove it. Assumes nothing.
+-- (22), example (24) and figure 3; of document 002 definitions 4.1 and 5.9, lemma 5.10 and theorems 5.18 and 5.19.
+-- `document-000` and `document-002` of proofs/Sources.antt prove it. Assumes nothing.
 use mathlib.Core.Path.{_≡_}
 use mathlib.Core.Logic.{_⊎_, _↔_}
 use mathlib.Core.Bool.{Bool, true, false}
 use mathlib.Core.List.{List, [], _∷_, _++_, map}
-use Prim.Native.Nat.{ℕ, suc, _≤_, _<_}
-use lib.ListN.{length, getD, take}
+use Prim.Native.Nat.{ℕ, suc, _-_, _≤_, _<_}
+use lib.ListN.{length, getD, take, drop}
 use Rattle.model.specs.Lists.{all, hasRow}
 use Rattle.model.specs.Fields.{Class, class-of, allBelow, File}
 use Rattle.model.specs.Tables.{State, state, arc, no-state, walk-at, walkFrom, admits}
@@ -65,6 +65,33 @@ pub record Document-000 : Type 1 where
   pub example-24 : map (fOf seen-set) words-24 ≡ sets-24
   -- the set of words of figure 3 is not Ter-distinguishable
   pub figure-3-not : Distinguishable seen-set (AdmittedBy figure-3) → ⊥
+
+-- ---- document 002, definition 5.9
+
+-- definition 5.9 as printed, for i from 1 on, with a for a_1 .. a_k: drop (i - 1) a is a_i .. a_k, and v1 and v2 are any words
+-- before that
+pub record Contextual-5-9 (k h : ℕ) (l : Word → Type 0) : Type 0 where
+  pub equal-tails :
+      (u1 u2 a w1 w2 v1 v2 : Word) (i : ℕ) → length a ≡ k → 1 ≤ i → h ≤ i → i ≤ k →
+      l (u1 ++ (a ++ w1)) → l (u2 ++ (a ++ w2)) → l (v1 ++ (drop (i - 1) a ++ w1)) → l (v2 ++ (drop (i - 1) a ++ w2)) →
+      TailsEqual l (v1 ++ take 1 (drop (i - 1) a)) (v2 ++ take 1 (drop (i - 1) a))
+
+-- the source's 2-contextual automaton of Entry, figure 5.5 (examples/sources/entry_2_2.listing), with 0, 1, 2, 3, 4 for Example,
+-- Headword, Inflection, Parallel_form, Preferred_form
+abbrev pub figure-5-5 : List State
+figure-5-5 =
+    state false (arc 1 1 ∷ [])
+    ∷ (state false (arc 2 2 ∷ (arc 3 3 ∷ (arc 4 4 ∷ [])))
+    ∷ (state false (arc 0 5 ∷ (arc 3 6 ∷ (arc 4 7 ∷ [])))
+    ∷ (state false (arc 0 8 ∷ [])
+    ∷ (state false (arc 0 9 ∷ [])
+    ∷ (state false (arc 0 10 ∷ [])
+    ∷ (state false (arc 0 8 ∷ [])
+    ∷ (state false (arc 0 9 ∷ [])
+    ∷ (state false (arc 0 10 ∷ [])
+    ∷ (state true (arc 0 10 ∷ [])
+    ∷ (state true (arc 0 10 ∷ [])
+    ∷ []))))))))))
 
 -- ---- document 002, lemma 5.10
 
@@ -148,6 +175,8 @@ l2 = (0 ∷ (1 ∷ (5 ∷ []))) ∷ []
 
 -- what document 002 says
 pub record Document-002 : Type 1 where
+  -- by definition 5.9 as printed the set of words of figure 5.5 would not be (2,2)-contextual
+  pub printed-5-9-not : Contextual-5-9 2 2 (AdmittedBy figure-5-5) → ⊥
   -- lemma 5.10, for sets of words over the names below m that a test decides, as regular ones are: such a set is
   -- (k,h)-contextual exactly if some table that meets the condition admits it
   pub lemma-5-10 :
