@@ -1,6 +1,6 @@
--- A contextual set of words over finitely many names is told by its short words: of numbers with few different words one word
--- has three; a word that holds the same k names at three places is in every contextual set that has the shorter words of its
--- set; so finitely many words tell the set, and the tables of books with these rows admit it. Assumes nothing.
+-- A contextual set of words over finitely many names is told by its short words. In order: of many numbers with few different
+-- words three have the same one; the words of n names; a word that holds the same k names at three places is in every contextual
+-- set that holds the shorter words of its set, and so, by induction over the length, is every word. Assumes nothing.
 use mathlib.Core.Path.{_≡_, refl, sym, ap, _∙_, subst}
 use mathlib.Core.Logic.{_⊎_, inl, inr, ⊎-elim}
 use mathlib.Core.Bool.{Bool, true, false, not, cond}
