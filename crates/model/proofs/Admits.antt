@@ -29,11 +29,11 @@ pub data Target (met : List ℕ) (arcs : List Arc) (a : ℕ) : Type 0 where
   to-group : (y : ℕ) → In (arc a y) arcs → targetIn a (renumbered met arcs) ≡ suc (indexIn y met) → Target met arcs a
   no-group : ((y : ℕ) → In (arc a y) arcs → ⊥) → targetIn a (renumbered met arcs) ≡ 0 → Target met arcs a
 
-targetIn-here : (n : ℕ) (b : Arc) (arcs : List Arc) → n ≡ b .name → targetIn n (b ∷ arcs) ≡ suc (b .to)
+pub targetIn-here : (n : ℕ) (b : Arc) (arcs : List Arc) → n ≡ b .name → targetIn n (b ∷ arcs) ≡ suc (b .to)
 unfolding targetIn
 targetIn-here n b arcs e = rw (eq-eqb n (b .name) e, targetIn)
 
-targetIn-there : (n : ℕ) (b : Arc) (arcs : List Arc) → (n ≡ b .name → ⊥) → targetIn n (b ∷ arcs) ≡ targetIn n arcs
+pub targetIn-there : (n : ℕ) (b : Arc) (arcs : List Arc) → (n ≡ b .name → ⊥) → targetIn n (b ∷ arcs) ≡ targetIn n arcs
 unfolding targetIn
 targetIn-there n b arcs other = rw (ne-eqb n (b .name) other, targetIn)
 
@@ -121,7 +121,7 @@ module _
     (rows nodes : List Word) (groups : List ℕ) (tree : Tree nodes) (fits : Fits nodes groups)
     (det : Deterministic (transitionsOf nodes groups)) where
   -- each walk from a group met is one of the two
-  walked :
+  pub walked :
       (r : Word) (g n : ℕ) → In g (metGroups nodes groups) →
       Walked (transitionsOf nodes groups) (statesOf rows nodes groups) (metGroups nodes groups) g n r
   unfolding walkFrom
