@@ -4,6 +4,7 @@ use mathlib.Core.Path.{_≡_, sym, ap, ap₂, _∙_, subst}
 use mathlib.Core.Bool.{true}
 use mathlib.Core.List.{List}
 use Prim.Native.Nat.{ℕ, _-_}
+use native.Mathlib.Omega.{arith}
 use lib.ListN.{length}
 use Rattle.model.specs.Tables.{State, admits}
 use Rattle.model.specs.Classes.{Word, InClass}
@@ -76,9 +77,9 @@ module _ (b c : AcceptedBuild) (like : SameBook (bookOf (b .book)) (bookOf (c .b
   same-results =
       record {
         bytes-same = front b .bytes-are ∙ tables-same ∙ sym (front c .bytes-are);
-        lengths-same = front b .length-is ∙ ap length tables-same ∙ sym (front c .length-is);
-        states-same = front b .states-are ∙ ap length book-states-same ∙ sym (front c .states-are);
-        joins-same = front b .joins-are ∙ book-joins-same ∙ sym (front c .joins-are);
+        lengths-same = omega (arith, front b .length-is, ap length tables-same, front c .length-is);
+        states-same = omega (arith, front b .states-are, ap length book-states-same, front c .states-are);
+        joins-same = omega (arith, front b .joins-are, book-joins-same, front c .joins-are);
       }
 
 -- ---- all of it
