@@ -190,6 +190,8 @@ pub record Front (book work out out′ : List ℕ) (r : Built) : Type 0 where
   pub no-refusal : buildFault book work out ≡ 0
   pub within : r .length ≤ length out′
   pub bytes-are : take (r .length) out′ ≡ bookTable (bookOf book)
+  pub length-is : r .length ≡ length (bookTable (bookOf book))
+  pub states-are : r .states ≡ length (bookStates (bookOf book))
   pub joins-are : r .joins ≡ joinsOf (bookOf book)
 
 pub built-front :
@@ -207,5 +209,7 @@ built-front book work out out′ r gives none =
           ap (λ (n : ℕ). take n out′) size
           ∙ ap (λ (l : List ℕ). take (length table) l) wrote
           ∙ take-append-seam table (drop (length table) out);
+      length-is = size;
+      states-are = gives .states-are ∙ unless-accepted (buildFault book work out) 0 (length (bookStates (bookOf book))) fault;
       joins-are = gives .joins-are ∙ unless-accepted (buildFault book work out) 0 (joinsOf (bookOf book)) fault;
     }

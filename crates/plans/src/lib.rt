@@ -32,7 +32,7 @@ pub struct Walked {
 }
 
 // Builds the table of a book: the prefix tree of its rows, joined by the rules of its class until none applies, numbered
-// first-met. `build-handed-over` of proofs/Handed says what holds of the table that is written: demand 3, whole.
+// first-met. `build-handed-over` of the crate handed_over says what holds of the table that is written: demand 3, whole.
 pub fn build_table(book: &[u8], work: &mut [u8], out: &mut [u8]) -> Built
     ensures { λ r. ⌜ BuildSays (now (book .entry)) (now (work .entry)) (now (work .exit)) (now (out .entry)) (now (out .exit)) r ⌝ }
 {
