@@ -7,7 +7,7 @@ import sys
 from pathlib import Path
 
 ROOT = Path(__file__).resolve().parents[2]
-STRUCTS = {"plans_built": "Built", "plans_walked": "Walked"}
+STRUCTS = {"plans_built": "Built", "plans_walked": "Walked", "plans_written": "Written"}
 TYPES = {"uint8_t": "u8", "uint32_t": "u32", "uint64_t": "u64"}
 # a slice passes as a pointer and a length
 SLICES = {"const uint8_t *": "&[u8]", "uint8_t *": "&mut [u8]"}

@@ -36,5 +36,5 @@ table-handed-over book ok =
 pub build-handed-over : BuildHandedOver
 build-handed-over book work work′ out out′ r says none =
     let front = built-front book work out out′ r (says .gives) none in
-    subst (λ (bytes : List ℕ). HandedOver book bytes) (sym (front .bytes-are))
+    subst (λ (bytes : List ℕ). HandedOver book bytes) (sym (front .at-front .bytes-are))
     (table-handed-over book (accepted-book book work out (front .no-refusal)))
