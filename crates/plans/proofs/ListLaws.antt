@@ -192,8 +192,8 @@ module _ (book work work′ text : List ℕ) (work-fits : work-bytes ≤ length 
       list-fault book work text
       ∙ second-none (inputFault book work) (outputFault (bookListing (bookOf book)) text)
       (λ (none : inputFault book work ≡ 0).
-          output-fits (bookListing (bookOf book)) text
-          (omega (arith, text-fits, listing-short book (first-of (sizesFault book work) (bookFault book) none .1))))
+      output-fits (bookListing (bookOf book)) text
+      (omega (arith, text-fits, listing-short book (first-of (sizesFault book work) (bookFault book) none .1))))
       ∙ ap (λ (n : ℕ). firstOf n (bookFault book)) sizes-are
 
   refusal-is : (number : ℕ) → listingFault book ≡ number → 0 < number → listingOf book ≡ refusalText number

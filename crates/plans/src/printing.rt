@@ -6,11 +6,7 @@ use listings::refusal_text;
 ghost use Rattle.plans.specs.Says.{PrintSays};
 
 // That text, at the front of one that takes every listing; its length.
-pub fn print_book(
-    book: &[u8],
-    work: &mut [u8; WORK_BYTES],
-    text: &mut [u8; LISTING_BYTES],
-) -> usize
+pub fn print_book(book: &[u8], work: &mut [u8; WORK_BYTES], text: &mut [u8; LISTING_BYTES]) -> usize
     ensures { λ r. ⌜ PrintSays (now (book .entry)) (now (work .entry)) (now (work .exit)) (now (text .entry)) (now (text .exit)) r ⌝ }
 {
     let listed = list_book(book, work, text);
