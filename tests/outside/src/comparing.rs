@@ -94,8 +94,13 @@ impl Run {
         wrong.map_or(Ok(expected.ok()), |wrong| Err(Mismatch::new(name, wrong, &[("input", input)])))
     }
 
-    /// A listing with buffers of the given lengths. Gives back the text that both gave, none where both refused.
-    pub fn compare_list(&mut self, book: &[u8], lent: Lent) -> Result<Option<Vec<u8>>, Mismatch> {
+    /// A listing with buffers that are long enough. Gives back the text that both gave, none where both refused.
+    pub fn compare_list(&mut self, book: &[u8]) -> Result<Option<Vec<u8>>, Mismatch> {
+        self.compare_list_lent(book, Lent { work: WORK_BYTES, output: INPUT_LIMIT })
+    }
+
+    /// The same with buffers of the given lengths.
+    pub fn compare_list_lent(&mut self, book: &[u8], lent: Lent) -> Result<Option<Vec<u8>>, Mismatch> {
         let expected = list(book, lent, &mut self.random);
         let text = expected.as_deref().unwrap_or(&[]);
         let wrong = self.call_lent(plans_list, &written_of(&expected), text, book, lent);

@@ -11,16 +11,14 @@ use std::io::Write;
 use std::path::PathBuf;
 use std::process::{Command, Stdio};
 
-const ENOUGH: Lent = Lent { work: WORK_BYTES, output: INPUT_LIMIT };
-
 /// A book of up to 100 names' numbers, listed in texts of each length about the listing's.
 pub fn texts(run: &mut Run) -> Result<(), Mismatch> {
     let entries = run.random.between(0, 100);
     let class = draw_class(&mut run.random);
     let book = draw_book(&mut run.random, class, entries).bytes();
-    let text = run.compare_list(&book, ENOUGH)?.expect("a valid book");
+    let text = run.compare_list(&book)?.expect("a valid book");
     for output in [0, 1, text.len() / 2].into_iter().chain(text.len() - 3..text.len() + 3) {
-        run.compare_list(&book, Lent { output, ..ENOUGH })?;
+        run.compare_list_lent(&book, Lent { work: WORK_BYTES, output })?;
     }
     Ok(())
 }
@@ -29,7 +27,7 @@ pub fn texts(run: &mut Run) -> Result<(), Mismatch> {
 pub fn damaged(run: &mut Run) -> Result<(), Mismatch> {
     let book = draw_small_book(&mut run.random).bytes();
     for input in damaged_everywhere(&book, &mut run.random) {
-        run.compare_list(&input, ENOUGH)?;
+        run.compare_list(&input)?;
     }
     Ok(())
 }
@@ -40,8 +38,8 @@ pub fn working_areas(run: &mut Run) -> Result<(), Mismatch> {
     let other = any_bytes(&mut run.random);
     for work in [0, WORK_BYTES - 1, WORK_BYTES, WORK_BYTES + 1, 100_000] {
         for output in [0, INPUT_LIMIT] {
-            run.compare_list(&book, Lent { work, output })?;
-            run.compare_list(&other, Lent { work, output })?;
+            run.compare_list_lent(&book, Lent { work, output })?;
+            run.compare_list_lent(&other, Lent { work, output })?;
         }
     }
     Ok(())
