@@ -1,5 +1,7 @@
 //! The library's calls as functions over slices. They are declared once, in tests/outside.
 
+// listings are not timed here
+#[allow(dead_code)]
 #[path = "../../tests/outside/src/library.rs"]
 mod calls;
 

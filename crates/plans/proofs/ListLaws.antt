@@ -1,21 +1,17 @@
 -- What a listing comes to: refused as a build is, or for the text's length; otherwise the listing of the table that was built, which
--- is read back as it was written. Then what the listing program prints, and, for callers, that it lies within the text. Assumes
--- nothing.
+-- is read back as it was written. Assumes nothing.
 use mathlib.Core.Path.{_≡_, refl, sym, ap, _∙_, subst}
-use mathlib.Core.Bool.{Bool, false, _||_, or-false}
 use mathlib.Core.List.{List}
 use Prim.Native.Nat.{ℕ, zero, suc, _≤_, _<_}
 use native.Mathlib.Omega.{arith}
-use borrow.Author.Tests.{le-ltb, eq-eqb, ne-eqb}
-use lib.Dec.{eqb, ltb}
 use lib.ListN.{length, take}
-use Rattle.model.specs.Limits.{when, firstOf, input-limit, work-bytes, bad-sizes, output-too-short}
+use Rattle.model.specs.Limits.{firstOf, work-bytes, bad-sizes, output-too-short}
 use Rattle.model.specs.Fields.{Read, readFields}
 use Rattle.model.specs.Fields as model
 use Rattle.model.specs.Tables.{State}
 use Rattle.model.specs.Quotients.{bookTable}
 use Rattle.model.specs.Calls.{sizesFault, outputFault, bookOf, bookFault, buildFault, joinsOf, tableOf, tableStates}
-use Rattle.model.specs.Listing.{listing, bookListing, listFault, refusalText, listingFault, listingOf}
+use Rattle.model.specs.Listing.{listing, bookListing, listFault}
 use Rattle.model.specs.Claims.{Accepted}
 use Rattle.model.proofs.FieldLaws.{first-of, when-none}
 use Rattle.model.proofs.WrittenLengths.{table-bytes}
@@ -26,7 +22,7 @@ use Rattle.listings.specs.Texts.{Puts}
 use Rattle.listings.proofs.Lengths.{listing-bytes, book-listing-length}
 use Rattle.plans.specs.declared.Built.{Built}
 use Rattle.plans.specs.declared.Written.{Written}
-use Rattle.plans.specs.Says.{over, unless, BuildGives, GivesText, ListGives, ListSays, PrintSays}
+use Rattle.plans.specs.Says.{over, BuildGives, GivesText, ListGives}
 use Rattle.plans.specs.Parts.{NoText}
 use Rattle.plans.proofs.CallLaws.{unless-refused, unless-accepted, first-refuses, output-short, output-fits}
 use Rattle.plans.proofs.CallLaws.{FrontOf, front-of, SizesBad, sizes-fit}
@@ -71,7 +67,7 @@ first-assoc zero b c = refl
 first-assoc (suc a) b c = refl
 
 -- a second refusal that is none where the first is none
-second-none : (a b : ℕ) → (a ≡ 0 → b ≡ 0) → firstOf a b ≡ a
+pub second-none : (a b : ℕ) → (a ≡ 0 → b ≡ 0) → firstOf a b ≡ a
 second-none zero b h = h refl
 second-none (suc a) b h = refl
 
@@ -88,7 +84,7 @@ build-fault book work out long =
     (second-none (bookFault book) (outputFault table out)
     (λ (ok : Accepted book). output-fits table out (omega (arith, long, table-length book ok))))
 
-list-fault : (book work text : List ℕ)
+pub list-fault : (book work text : List ℕ)
     → listFault book work text ≡ firstOf (inputFault book work) (outputFault (bookListing (bookOf book)) text)
 unfolding listFault
 list-fault book work text =
@@ -109,7 +105,7 @@ names-read : (book : List ℕ) → Accepted book → tableOf (bookTable (bookOf 
 unfolding tableOf
 names-read book ok = ap (λ (r : Read). r .file-is .names) (read-table book ok)
 
-listing-short : (book : List ℕ) → Accepted book → length (bookListing (bookOf book)) ≤ listing-bytes
+pub listing-short : (book : List ℕ) → Accepted book → length (bookListing (bookOf book)) ≤ listing-bytes
 listing-short book ok = book-listing-length book _ (joinsOf (bookOf book)) ok (book-writable book ok)
 
 sizes-none : (book work : List ℕ) → sizesFault book work ≡ 0 → work-bytes ≤ length work
@@ -175,70 +171,3 @@ module _ (book work text : List ℕ) where
       sym (list-fault book work text ∙ ap (λ (n : ℕ). firstOf n (outputFault whole text)) none) in
       subst (λ (fault : ℕ). GivesText fault whole text text′ r) e
       (subst (λ (l : List ℕ). GivesText (outputFault l text) l text text′ r) is copied)
-
--- ---- what the listing program prints
-
-module _ (book work work′ text : List ℕ) (work-fits : work-bytes ≤ length work) (text-fits : listing-bytes ≤ length text) where
-  sizes-are : sizesFault book work ≡ when (ltb input-limit (length book)) bad-sizes
-  unfolding sizesFault
-  sizes-are =
-      ap (λ (b : Bool). when (ltb input-limit (length book) || b) bad-sizes) (le-ltb (length work) work-bytes work-fits)
-      ∙ ap (λ (b : Bool). when b bad-sizes) (or-false (ltb input-limit (length book)))
-
-  -- with so much lent neither the working area nor the text is refused
-  fault-is : listFault book work text ≡ listingFault book
-  unfolding listingFault
-  fault-is =
-      list-fault book work text
-      ∙ second-none (inputFault book work) (outputFault (bookListing (bookOf book)) text)
-      (λ (none : inputFault book work ≡ 0).
-      output-fits (bookListing (bookOf book)) text
-      (omega (arith, text-fits, listing-short book (first-of (sizesFault book work) (bookFault book) none .1))))
-      ∙ ap (λ (n : ℕ). firstOf n (bookFault book)) sizes-are
-
-  refusal-is : (number : ℕ) → listingFault book ≡ number → 0 < number → listingOf book ≡ refusalText number
-  unfolding listingOf
-  refusal-is number e some =
-      let refuses : eqb (listingFault book) 0 ≡ false = ne-eqb (listingFault book) 0 (λ (z : listingFault book ≡ 0). omega arith) in
-      let printed : listingOf book ≡ refusalText (listingFault book) = rw (refuses, listingOf) in
-      printed ∙ ap refusalText e
-
-  listing-is : listingFault book ≡ 0 → listingOf book ≡ bookListing (bookOf book)
-  unfolding listingOf
-  listing-is e = rw (eq-eqb (listingFault book) 0 e, listingOf)
-
-  pub prints-refusal :
-      (text₁ text′ : List ℕ) (r : Written) (after : ℕ) → ListSays book work work′ text text₁ r → 0 < r .refusal →
-      Puts text₁ text′ 0 (refusalText (r .refusal)) after → PrintSays book work work′ text text′ after
-  prints-refusal text₁ text′ r after says some puts =
-      let fault : listFault book work text ≡ r .refusal = sym (says .gives .refusal-is) in
-      let bytes = refusalText (r .refusal) in
-      let same : text₁ ≡ text =
-      says .gives .text-is ∙ unless-refused (listFault book work text) text (over (bookListing (bookOf book)) text) (omega arith) in
-      let printed : bytes ≡ listingOf book = sym (refusal-is (r .refusal) (sym fault-is ∙ fault) some) in
-      record {
-        text-is =
-            written-from-zero (puts .written) ∙ ap (λ (l : List ℕ). over bytes l) same ∙ ap (λ (l : List ℕ). over l text) printed;
-        length-is = omega (arith, puts .ends, ap length printed);
-        work-zero = says .work-zero;
-      }
-
-  pub prints-listing :
-      (text′ : List ℕ) (r : Written) → ListSays book work work′ text text′ r → r .refusal ≡ 0 →
-      PrintSays book work work′ text text′ (r .length)
-  prints-listing text′ r says accepted =
-      let fault = listFault book work text in
-      let none : listFault book work text ≡ 0 = sym (says .gives .refusal-is) ∙ accepted in
-      let printed = sym (listing-is (sym fault-is ∙ none)) in
-      let whole = bookListing (bookOf book) in
-      record {
-        text-is =
-            says .gives .text-is ∙ unless-accepted fault text (over whole text) none ∙ ap (λ (l : List ℕ). over l text) printed;
-        length-is = says .gives .length-is ∙ unless-accepted fault 0 (length whole) none ∙ ap length printed;
-        work-zero = says .work-zero;
-      }
-
--- what is printed lies within the text
-pub printed-within : {book work work′ text text′ : List ℕ} {r : ℕ} → PrintSays book work work′ text text′ r → r ≤ length text′
-printed-within {book} {work} {work′} {text} {text′} {r} says =
-    front-of (listingOf book) text text′ r (says .text-is) (says .length-is) .within

@@ -1,7 +1,7 @@
--- `print_book` meets its contract: one law of ListLaws for each answer. Assumes nothing.
+-- `print_book` meets its contract: one law of PrintLaws for each answer. Assumes nothing.
 use native.Mathlib.Omega.{arith}
 use Rattle.listings.proofs.Lengths.{refusal-text-length}
-use Rattle.plans.proofs.ListLaws.{prints-refusal, prints-listing}
+use Rattle.plans.proofs.PrintLaws.{prints-refusal, prints-listing}
 use borrow.Author.Needs.{needs}
 use Rattle.plans.proofs.printing.print_book.Statement.{statement}
 use Rattle.plans.proofs.printing.print_book.Tie as tie

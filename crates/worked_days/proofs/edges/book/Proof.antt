@@ -1,7 +1,7 @@
 -- `book` meets its contract: what is printed lies within the text. Assumes nothing.
 use mathlib.Core.Path.{sym}
 use lib.Seq.{length-take-le}
-use Rattle.plans.proofs.ListLaws.{printed-within}
+use Rattle.plans.proofs.PrintLaws.{printed-within}
 use borrow.Author.Needs.{needs}
 use Rattle.worked_days.proofs.edges.book.Statement.{statement}
 use Rattle.worked_days.proofs.edges.book.Tie as tie
