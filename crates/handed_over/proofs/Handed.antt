@@ -53,7 +53,7 @@ book-accepted b =
 
 handed-over : (b : AcceptedBuild) → HandedOver (b .book) (written b)
 handed-over b =
-    subst (λ (bytes : List ℕ). HandedOver (b .book) bytes) (sym (front b .bytes-are))
+    subst (λ (bytes : List ℕ). HandedOver (b .book) bytes) (sym (front b .at-front .bytes-are))
     (table-handed-over (b .book) (book-accepted b))
 
 -- ---- two builds
@@ -76,7 +76,7 @@ module _ (b c : AcceptedBuild) (like : SameBook (bookOf (b .book)) (bookOf (c .b
   same-results : SameResults b c
   same-results =
       record {
-        bytes-same = front b .bytes-are ∙ tables-same ∙ sym (front c .bytes-are);
+        bytes-same = front b .at-front .bytes-are ∙ tables-same ∙ sym (front c .at-front .bytes-are);
         lengths-same = omega (arith, front b .length-is, ap length tables-same, front c .length-is);
         states-same = omega (arith, front b .states-are, ap length book-states-same, front c .states-are);
         joins-same = omega (arith, front b .joins-are, book-joins-same, front c .joins-are);

@@ -13,7 +13,7 @@ pub const WORK_BYTES: usize = 65536;
 // A book's table has at most so many bytes: table-bytes of model/proofs/WrittenLengths.
 pub const TABLE_BYTES: usize = 5830;
 
-// A text of so many bytes takes every listing: listing-bytes of specs/Says.
+// A text of so many bytes takes every listing: listing-bytes of listings/proofs/Lengths.
 pub const LISTING_BYTES: usize = 32768;
 
 // The refusals of lent slices.
