@@ -12,7 +12,7 @@ use lib.Seq.{drop-cons, drop-drop, getD-drop}
 use Rattle.model.specs.Fields.{arcsOk, stateOk}
 use Rattle.model.specs.Tables.{Arc, arc, arcsIn, stateIn, targetIn}
 use Rattle.model.proofs.Arcs.{Ascending}
-use Rattle.fields.proofs.StateLaws.{ArcsLeft, arcs-begin, arcs-cut, arcs-unnamed, arcs-unordered, arcs-go}
+use Rattle.judging.proofs.StateLaws.{ArcsLeft, arcs-begin, arcs-cut, arcs-unnamed, arcs-unordered, arcs-go}
 use Rattle.tables.specs.Arcs.{StateOk, targetAt}
 
 -- the arcs from offset i on
