@@ -14,7 +14,7 @@ use Rattle.model.specs.Tables.{Arc, arc, arcsIn, stateIn, targetIn}
 use Rattle.model.proofs.Arcs.{Ascending}
 use Rattle.model.proofs.TableBodies.{arcs-ascend}
 pub use Rattle.model.proofs.TableBodies.{NamesBelow, state-ascends}
-use Rattle.fields.proofs.StateLaws.{ArcsLeft, arcs-begin, arcs-cut, arcs-unnamed, arcs-unordered, arcs-go}
+use Rattle.judging.proofs.StateLaws.{ArcsLeft, arcs-begin, arcs-cut, arcs-unnamed, arcs-unordered, arcs-go}
 use Rattle.tables.specs.Arcs.{StateOk, targetAt}
 
 -- the arcs from offset i on
