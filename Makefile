@@ -52,7 +52,7 @@ lib: $(LIBRARY)
 
 $(LIBRARY): $(SOURCES) | kit
 	@echo "make: proving the library; from nothing that takes some minutes" >&2
-	@scripts/proving rt check plans >&2
+	@scripts/proving rt check handed_over >&2
 	@scripts/quietly rt staticlib plans
 
 listing: $(LISTING)
