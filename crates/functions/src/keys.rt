@@ -13,14 +13,14 @@ ghost use Rattle.functions.specs.Parts.{keyWhere, KeyAt};
 // A key of this or more is none.
 const NAME_LIMIT: u8 = 64;
 
-// The keys of one arc: among the arcs that enlarge the seen set, and among the others.
+// The keys of one arc among the arcs that enlarge the seen set, and among the others; 64, no key, at one of the two.
 pub struct Keys {
     pub enlarging: u8,
     pub others: u8,
 }
 
-// The keys of an arc by its name and the seen sets before and after it. The arc enlarges the set where that after it has more names;
-// its key is then the lowest name added, and else its name.
+// The keys of an arc by its name and the seen sets before and after it. It enlarges the set where the set after it has more names
+// than the set before it: its key is then the lowest name added, among the enlarging ones; else it is the name, among the others.
 fn keys_of(before: u64, after: u64, name: u8) -> Keys
     requires name_below { ⌜ name < name-limit ⌝ }
     requires with_name { ⌜ after ≡ bitOr before (2 ^ name) ⌝ }

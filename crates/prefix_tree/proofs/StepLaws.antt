@@ -2,6 +2,7 @@
 -- there is no room. The walk along a row: begun, gone on, out of room, ended. The rows of a book: begun, gone on, out of room.
 -- Assumes nothing.
 use mathlib.Core.Path.{_≡_, refl, sym, ap, _∙_, subst}
+use mathlib.Core.Bool.{Bool}
 use mathlib.Core.List.{List, [], _∷_, _++_, Memᴰ·cast}
 use Prim.Native.Nat.{ℕ, suc, _+_, _<_, _≤_}
 use native.Mathlib.Numerals.{add-one}
@@ -9,7 +10,7 @@ use native.Mathlib.Omega.{arith}
 use borrow.Author.Tests.{lt-ltb, le-ltb}
 use lib.ListN.{length, getD, take, set, length-set}
 use lib.Seq.{take-suc, take-all}
-use Rattle.model.specs.Limits.{name-limit, state-limit, tree-too-large}
+use Rattle.model.specs.Limits.{name-limit, state-limit, tree-too-large, when}
 use Rattle.model.specs.Classes.{Word}
 use Rattle.model.specs.Joinings.{beginnings, withStates, withRows, treeOf}
 use Rattle.fields.specs.Offsets.{bodyAt, nextAt, offsetAt, fieldsAt}
@@ -250,7 +251,7 @@ module _ (book : List ℕ) (start items : ℕ) (work₀ : List ℕ) (s : Store) 
       let over = full .over (treeOf (fieldsAt book start i)) (fieldsAt book start i) (a .grown) in
       let large : state-limit < length (treeOf (fieldsAt book start items)) =
       omega (arith, over, ap length tree-next, treeOf-longer book start (suc i) items more) in
-      rw (lt-ltb state-limit (length (treeOf (fieldsAt book start items))) large) refl
+      sym (ap (λ (b : Bool). when b tree-too-large) (lt-ltb _ (length (treeOf (fieldsAt book start items))) (omega arith)))
 
 pub adding-ends : (book : List ℕ) (start items : ℕ) (work₀ : List ℕ) (s : Store) (n at i : ℕ) → Adding book start items work₀ s n at i
     → items ≤ i
@@ -279,4 +280,4 @@ tree-answer rows s s′ answer number built sizes sizes′ kept =
 -- a tree that is built is not too large
 pub built-number : (rows : List Word) (s : Store) (n : ℕ) → TreeBuilt rows s n → 0 ≡ treeFault (treeOf rows)
 built-number rows s n built =
-    rw (le-ltb state-limit (length (treeOf rows)) (omega (arith, built .size, built .few))) refl
+    sym (ap (λ (b : Bool). when b tree-too-large) (le-ltb _ (length (treeOf rows)) (omega (arith, built .size, built .few))))

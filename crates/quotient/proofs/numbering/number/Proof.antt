@@ -243,8 +243,11 @@ loop-again c =
                     meeting .then (met .last .1 .1 .1 .0) (met .last .1 .1 .1 .1 .0) (met .result)
                     (met .ensures (length (treeOf rows)) (meeting .after) (meeting .meeting));
                 counted =
-                    sized-more rows groups work next gathered (head .loop .i) g (head .loop .bytes) (c .how-many .result) (here .0)
-                    (here .1) (omega (arith, low, group .wide162 .ensures)) (c .how-many .ensures) (before .counted);
+                    omega (
+                      arith,
+                      sized-more rows groups work next gathered (head .loop .i) g (head .loop .bytes) (c .how-many .result) (here .0)
+                          (here .1) (omega (arith, low, group .wide162 .ensures)) (c .how-many .ensures) (before .counted),
+                    );
               },
         ),
       ),
