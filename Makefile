@@ -16,7 +16,7 @@ help:
 	@echo "make listing       target/bin/listing: a book on standard input, its listing on standard output"
 	@echo
 	@echo "make check         proves what changed since the last check"
-	@echo "make test-book     tests of the book scripts, the texts and the drawings"
+	@echo "make test-book     tests of the book scripts, the texts, the drawings and the listing program"
 	@echo "make test-outside  compares the library with an independent implementation on generated inputs"
 	@echo "make test-c        the header and the library from C, with sanitizers and under valgrind"
 	@echo "make seeded-fault  faults put into copies of the library, which test-outside must find"
@@ -46,19 +46,20 @@ test: kit
 	@scripts/gate
 
 check: kit
-	@rt check
+	@scripts/proving rt check
 
 lib: $(LIBRARY)
 
 $(LIBRARY): $(SOURCES) | kit
 	@echo "make: proving the library; from nothing that takes some minutes" >&2
+	@scripts/proving rt check handed_over >&2
 	@scripts/quietly rt staticlib plans
 
 listing: $(LISTING)
 
 $(LISTING): $(SOURCES) | kit
 	@echo "make: proving the listing program; from nothing that takes some minutes" >&2
-	@scripts/quietly rt check listing
+	@scripts/proving rt check listing >&2
 	@touch $(LISTING)
 
 example: lib
@@ -79,7 +80,7 @@ picture: python listing
 images: python listing
 	@scripts/images
 
-test-book: python
+test-book: python listing
 	@scripts/test-book
 
 test-outside: lib listing

@@ -4,8 +4,9 @@
  * What holds of every call:
  * - Every buffer is the caller's, before and after. Nothing is allocated, nothing is kept between calls, and a call writes to no
  *   memory but the buffers that its comment says it writes.
- * - The buffers of one call must not overlap. A buffer is given by its first byte and its length in bytes; where the length is 0
- *   the pointer is not read, and may be null.
+ * - A buffer that a call writes must not overlap another buffer of that call. This is the caller's one duty: a call cannot see it,
+ *   and nothing is promised where it is not kept. Buffers that are only read may overlap.
+ * - A buffer is given by its first byte and its length in bytes; where the length is 0 the pointer is not read, and may be null.
  * - Any bytes may be passed as book, table and row: what is wrong with them is told by a refusal.
  * - The working area is of PLANS_WORK_BYTES or more. What it holds before the call does not matter. After the call every byte of
  *   it is 0, also where the call is refused, and also where the area was too short.
@@ -27,7 +28,10 @@ extern "C" {
 /* The longest table or book, in bytes. */
 #define PLANS_INPUT_LIMIT 65535
 
-/* What `number` says: 0, or the one refusal. */
+/* A text of so many bytes is long enough for the listing of every book. */
+#define PLANS_LISTING_BYTES 32768
+
+/* What `number` says, and `refusal` of a plans_written: 0, or the one refusal. */
 enum {
     PLANS_OK = 0,
     PLANS_BAD_SIZES = 1,         /* input over 65,535 bytes, or a working area under 65,536 */
@@ -42,7 +46,7 @@ enum {
     PLANS_TREE_TOO_LARGE = 10,   /* the prefix tree needs over 512 states */
     PLANS_BAD_STATE = 11,        /* a state field of wrong length, first byte, or arc names */
     PLANS_BAD_NUMBERING = 12,    /* an arc to no state, a state never met, or states not numbered first-met */
-    PLANS_OUTPUT_TOO_SHORT = 13  /* the output is shorter than the table */
+    PLANS_OUTPUT_TOO_SHORT = 13  /* the output is shorter than the table, or the text than the listing */
 };
 
 /* What `outcome` says of a walk that is not refused. */
@@ -59,6 +63,12 @@ typedef struct {
     uint32_t states; /* how many states it has */
     uint32_t joins;  /* states of the prefix tree less states of the table; 0 for a rewritten table */
 } plans_built;
+
+/* What a call that writes a text gives back. */
+typedef struct {
+    uint8_t refusal; /* 0, or the refusal */
+    uint32_t length; /* how many bytes were written; 0 where the call is refused */
+} plans_written;
 
 /* What a walk gives back. Where it is refused, all but `number` is 0. */
 typedef struct {
@@ -97,6 +107,17 @@ plans_built plans_rewrite(const uint8_t *table, size_t table_len,
 plans_walked plans_walk(const uint8_t *table, size_t table_len,
                         const uint8_t *row, size_t row_len,
                         uint8_t *work, size_t work_len);
+
+/*
+ * Writes the listing of a book's table to the front of `text`: the line `states N joins M`, then a line for each state: its number,
+ * `+` accepting or `-` not, and each arc as name, `>`, target. Every line ends with a newline; no 0 byte is written after the last.
+ * Reads `book`; writes `work` (zeros) and `text`. Bytes of `text` beyond the listing are left as they were, and where the call is
+ * refused all of `text` is. Refusals, the first that applies: 1; those of the fields, in the book's order; 10; 13. A text of
+ * PLANS_LISTING_BYTES is always enough.
+ */
+plans_written plans_list(const uint8_t *book, size_t book_len,
+                         uint8_t *work, size_t work_len,
+                         uint8_t *text, size_t text_len);
 
 #ifdef __cplusplus
 }

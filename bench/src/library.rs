@@ -1,9 +1,11 @@
 //! The library's calls as functions over slices. They are declared once, in tests/outside.
 
+// listings are not timed here
+#[allow(dead_code)]
 #[path = "../../tests/outside/src/library.rs"]
 mod calls;
 
-use calls::TableCall;
+use calls::Call;
 pub use calls::{Built, Walked};
 
 pub const WORK_BYTES: usize = 65_536;
@@ -22,7 +24,7 @@ pub fn walk(table: &[u8], row: &[u8], work: &mut [u8]) -> Walked {
     unsafe { calls::plans_walk(table.as_ptr(), table.len(), row.as_ptr(), row.len(), work.as_mut_ptr(), work.len()) }
 }
 
-fn call(call: TableCall, input: &[u8], work: &mut [u8], out: &mut [u8]) -> Built {
+fn call(call: Call<Built>, input: &[u8], work: &mut [u8], out: &mut [u8]) -> Built {
     // SAFETY: each pointer comes with the length of the slice it was taken from, and the slices do not overlap
     unsafe { call(input.as_ptr(), input.len(), work.as_mut_ptr(), work.len(), out.as_mut_ptr(), out.len()) }
 }

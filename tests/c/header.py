@@ -1,13 +1,15 @@
 #!/usr/bin/env python3
 """Compares include/plans.h with the library: its functions with the symbols of libplans.a and with the extern "C" functions of
-crates/plans/src/lib.rt, its structs with the #[repr(C)] structs there. The last line is 'N passed, M failed'."""
+crates/plans/src/lib.rt, its structs with the #[repr(C)] structs there, its sizes with the constants of src/limits.rt in judging and
+plans.
+The last line is 'N passed, M failed'."""
 import re
 import subprocess
 import sys
 from pathlib import Path
 
 ROOT = Path(__file__).resolve().parents[2]
-STRUCTS = {"plans_built": "Built", "plans_walked": "Walked"}
+STRUCTS = {"plans_built": "Built", "plans_walked": "Walked", "plans_written": "Written"}
 TYPES = {"uint8_t": "u8", "uint32_t": "u32", "uint64_t": "u64"}
 # a slice passes as a pointer and a length
 SLICES = {"const uint8_t *": "&[u8]", "uint8_t *": "&mut [u8]"}
@@ -50,6 +52,15 @@ def library_functions(text):
     return functions
 
 
+def header_sizes(text):
+    return dict(re.findall(r"^#define PLANS_(\w+) (\d+)$", text, re.M))
+
+
+def library_sizes(text, names):
+    """The constants of these names."""
+    return {name: size for name, size in re.findall(r"^pub const (\w+): usize = (\d+);", text, re.M) if name in names}
+
+
 def exported_symbols(library):
     listing = subprocess.run(["nm", "--extern-only", "--defined-only", library], check=True, capture_output=True, text=True)
     return {line.split()[2] for line in listing.stdout.splitlines() if " T " in line}
@@ -58,12 +69,14 @@ def exported_symbols(library):
 def main():
     header = re.sub(r"/\*.*?\*/", "", (ROOT / "include/plans.h").read_text(), flags=re.S)
     source = (ROOT / "crates/plans/src/lib.rt").read_text()
-    functions, structs = header_functions(header), header_structs(header)
+    limits = "".join((ROOT / "crates" / crate / "src/limits.rt").read_text() for crate in ("judging", "plans"))
+    functions, structs, sizes = header_functions(header), header_structs(header), header_sizes(header)
     checks = [
         ("functions declared and symbols exported", set(functions), exported_symbols(sys.argv[1])),
         ("functions declared and their source", functions, library_functions(source)),
         ("structs declared and their source", {STRUCTS.get(name, name): fields for name, fields in structs.items()},
          library_structs(source)),
+        ("sizes defined and their source", sizes, library_sizes(limits, sizes)),
     ]
     failed = 0
     for what, declared, given in checks:

@@ -15,3 +15,7 @@ _Static_assert(offsetof(plans_walked, outcome) == 1, "plans_walked.outcome");
 _Static_assert(offsetof(plans_walked, count) == 2, "plans_walked.count");
 _Static_assert(offsetof(plans_walked, length) == 4, "plans_walked.length");
 _Static_assert(offsetof(plans_walked, names) == 8, "plans_walked.names");
+
+_Static_assert(sizeof(plans_written) == 8, "size of plans_written");
+_Static_assert(offsetof(plans_written, refusal) == 0, "plans_written.refusal");
+_Static_assert(offsetof(plans_written, length) == 4, "plans_written.length");

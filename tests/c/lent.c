@@ -65,25 +65,45 @@ static int same(const uint8_t *bytes, const uint8_t *others, size_t length)
     return length == 0 || memcmp(bytes, others, length) == 0;
 }
 
+/* The buffers lent to a call that writes. */
+typedef struct {
+    uint8_t *input;
+    uint8_t *work;
+    size_t work_len;
+    uint8_t *out;
+    size_t out_len;
+} lent;
+
+static lent lend_all(const writing *from, size_t work_len, size_t out_len)
+{
+    lent all = {lend_copy(from->bytes, from->length), lend(work_len), work_len, lend(out_len), out_len};
+
+    return all;
+}
+
+/* A look at every byte lent, of which `length` were written; they go to `to`. */
+static void take_back(lent all, const writing *from, size_t length, writing *to)
+{
+    check("the working area is zero after the call", all_are(0, all.work, 0, all.work_len));
+    check("the input is as it was", same(all.input, from->bytes, from->length));
+    check("what is written fits the output", length <= all.out_len);
+    check("the output beyond it is as it was", all_are(BEFORE, all.out, length, all.out_len));
+    if (length > 0)
+        memcpy(to->bytes, all.out, length);
+    to->length = length;
+    free(all.input);
+    free(all.work);
+    free(all.out);
+}
+
 static plans_built call_lent(table_call *call, const writing *from, size_t work_len, size_t out_len, writing *table)
 {
-    uint8_t *input = lend_copy(from->bytes, from->length);
-    uint8_t *work = lend(work_len);
-    uint8_t *out = lend(out_len);
-    plans_built built = call(input, from->length, work, work_len, out, out_len);
+    lent all = lend_all(from, work_len, out_len);
+    plans_built built = call(all.input, from->length, all.work, work_len, all.out, out_len);
 
-    check("the working area is zero after the call", all_are(0, work, 0, work_len));
-    check("the input is as it was", same(input, from->bytes, from->length));
-    check("the table fits the output", built.length <= out_len);
-    check("the output beyond the table is as it was", all_are(BEFORE, out, built.length, out_len));
     if (built.number != PLANS_OK)
         check("a refusal gives zeros else", built.length == 0 && built.states == 0 && built.joins == 0);
-    if (built.length > 0)
-        memcpy(table->bytes, out, built.length);
-    table->length = built.length;
-    free(input);
-    free(work);
-    free(out);
+    take_back(all, from, built.length, table);
     return built;
 }
 
@@ -95,6 +115,16 @@ plans_built build(const writing *book, size_t work_len, size_t out_len, writing 
 plans_built rewrite(const writing *from, size_t work_len, size_t out_len, writing *table)
 {
     return call_lent(plans_rewrite, from, work_len, out_len, table);
+}
+
+plans_written list(const writing *book, size_t work_len, size_t text_len, writing *text)
+{
+    lent all = lend_all(book, work_len, text_len);
+    plans_written written = plans_list(all.input, book->length, all.work, work_len, all.out, text_len);
+
+    check("what is written has a length, and a refusal has none", (written.refusal == PLANS_OK) == (written.length > 0));
+    take_back(all, book, written.length, text);
+    return written;
 }
 
 plans_walked walk(const writing *table, const uint8_t *row, size_t row_len, size_t work_len)

@@ -5,7 +5,7 @@
 
 #include "plans.h"
 
-/* A book, a table or a row while it is written. */
+/* A book, a table, a row or a text while it is written. */
 typedef struct {
     uint8_t bytes[PLANS_INPUT_LIMIT + 1];
     size_t length;
@@ -17,9 +17,10 @@ void check(const char *what, int holds);
 /* How many checks did not hold, after the line 'N passed, M failed' has been printed. */
 unsigned summed_up(void);
 
-/* The calls; `work_len` and `out_len` are the lengths lent. What is written to the output goes to `table`. */
+/* The calls; `work_len`, `out_len` and `text_len` are the lengths lent. What is written goes to `table` or `text`. */
 plans_built build(const writing *book, size_t work_len, size_t out_len, writing *table);
 plans_built rewrite(const writing *from, size_t work_len, size_t out_len, writing *table);
+plans_written list(const writing *book, size_t work_len, size_t text_len, writing *text);
 plans_walked walk(const writing *table, const uint8_t *row, size_t row_len, size_t work_len);
 
 /* Appends one field. */

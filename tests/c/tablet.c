@@ -1,5 +1,5 @@
-/* The library used as the tablet's program uses it: builds a book, walks rows, offers the names that may come next, and meets
- * each refusal. All of it runs in a thread with a stack of STACK_BYTES, which scripts/test-c sets; 0 leaves the system's own. */
+/* The library used as the tablet's program uses it: builds a book, walks rows, offers the names that may come next, lists a book,
+ * and meets each refusal. All of it runs in a thread with a stack of STACK_BYTES, which scripts/test-c sets; 0 leaves the system's own. */
 #include <pthread.h>
 #include <stdio.h>
 #include <string.h>
@@ -115,9 +115,29 @@ static void rewrite_it(void)
     check("to the same bytes", again.length == table.length && memcmp(again.bytes, table.bytes, table.length) == 0);
 }
 
+/* Worked day P2 of the scope document, whose listing is that of its example. */
+static void list_it(void)
+{
+    static const char listing[] = "states 2 joins 1\n0 - snack>1\n1 + snack>1\n";
+    size_t length = sizeof listing - 1;
+    plans_written listed;
+
+    start_book(0, 1, 1);
+    put_day("ss");
+    listed = list(&book, PLANS_WORK_BYTES, PLANS_LISTING_BYTES, &again);
+    check("a book is listed", listed.refusal == PLANS_OK && listed.length == length);
+    check("line by line", memcmp(again.bytes, listing, length) == 0);
+    check("a text just long enough", list(&book, PLANS_WORK_BYTES, length, &again).refusal == PLANS_OK);
+    check("13: a text one byte short", list(&book, PLANS_WORK_BYTES, length - 1, &again).refusal == PLANS_OUTPUT_TOO_SHORT);
+    check("13: no text", list(&book, PLANS_WORK_BYTES, 0, &again).refusal == PLANS_OUTPUT_TOO_SHORT);
+    check("1: a short working area", list(&book, PLANS_WORK_BYTES - 1, 0, &again).refusal == PLANS_BAD_SIZES);
+    check("1: no working area", list(&book, 0, length, &again).refusal == PLANS_BAD_SIZES);
+}
+
 static void refused_build(const char *what, uint8_t number)
 {
     check(what, build_all().number == number);
+    check(what, list(&book, PLANS_WORK_BYTES, PLANS_LISTING_BYTES, &again).refusal == number);
 }
 
 /* Refusals 1 and 13: the lengths lent. */
@@ -232,6 +252,7 @@ static void *tablet(void *unused)
     worked_days();
     tap_a_day();
     rewrite_it();
+    list_it();
     refused_lengths();
     refused_fields();
     refused_counts();

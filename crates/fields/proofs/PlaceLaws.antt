@@ -13,7 +13,7 @@ use Rattle.model.specs.Lists.{lastOr}
 use Rattle.model.specs.Limits.{name-limit, book-rows, state-limit, when, firstOf}
 use Rattle.model.specs.Fields.{File, nameOk, above, settingsOk, classOk, nameFault, classFault, rowFault, stateFault, withField}
 use Rattle.fields.specs.Offsets.{lengthAt, bodyAt, nextAt, offsetAt, fieldsAt}
-use Rattle.fields.specs.Judged.{NameJudged, RowJudged, StateJudged}
+use Rattle.judging.specs.Judged.{NameJudged, RowJudged, StateJudged}
 use Rattle.fields.specs.Places.{fileOf, withItem, Sound, Whole, Grown, Faulty}
 use Rattle.fields.specs.declared.Place.{Place}
 use Rattle.fields.proofs.OffsetLaws.{body-at, length-body, offset-suc, length-fields, fields-more, last-more}

@@ -1,5 +1,4 @@
--- What the reader's contracts cite, over the definitions of model: the judging of one field; fields by their offsets; the file that
--- a place stands for, and what the reader's answers say. Assumes nothing.
-pub mod Judged
+-- What the reader's contracts cite, over the definitions of model: fields by their offsets; the file that a place stands for, and what
+-- the reader's answers say. Assumes nothing.
 pub mod Offsets
 pub mod Places

@@ -1,12 +1,12 @@
 // The reader of books and tables: fields in file order, each judged by the refusals that concern it, nothing copied. What is accepted
 // stays where it is, and a Place says where: specs/Places has the file that a place stands for.
-pub mod classes;
 pub mod limits;
-pub mod names;
 pub mod offsets;
-pub mod rows;
-pub mod states;
 
+use judging::classes::class_fault;
+use judging::names::name_fault;
+use judging::rows::row_fault;
+use judging::states::state_fault;
 use limits::CLASS_MARK;
 use limits::CLASS_MET;
 use limits::CUT_OFF;
@@ -70,7 +70,7 @@ fn name_field(s: &[u8], p: Place) -> Step
     let last = p.last;
     let end = last + p.width;
     let name = body(s, at);
-    let fault = names::name_fault(&s[last..end], p.names, name);
+    let fault = name_fault(&s[last..end], p.names, name);
     if fault != 0 {
         return Step::Refused(fault);
     }
@@ -97,7 +97,7 @@ fn class_field(s: &[u8], p: Place) -> Step
 {
     let at = p.at;
     let class = body(s, at);
-    let fault = classes::class_fault(class);
+    let fault = class_fault(class);
     if fault != 0 {
         return Step::Refused(fault);
     }
@@ -141,7 +141,7 @@ fn row_field(s: &[u8], p: Place) -> Step
     ensures { λ r. ⌜ RowStep (now (s .entry)) p r ⌝ }
 {
     let at = p.at;
-    let fault = rows::row_fault(p.names, p.items, body(s, at));
+    let fault = row_fault(p.names, p.items, body(s, at));
     if fault != 0 {
         return Step::Refused(fault);
     }
@@ -155,7 +155,7 @@ fn state_field(s: &[u8], p: Place) -> Step
     ensures { λ r. ⌜ StateStep (now (s .entry)) p r ⌝ }
 {
     let at = p.at;
-    let fault = states::state_fault(p.names, p.items, body(s, at));
+    let fault = state_fault(p.names, p.items, body(s, at));
     if fault != 0 {
         return Step::Refused(fault);
     }

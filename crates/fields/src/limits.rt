@@ -1,20 +1,4 @@
-// The numbers that document 01 fixes for files, by the names that model/specs/Limits has for them.
-
-// At most so many names, of at most so many bytes.
-pub const NAME_LIMIT: u8 = 64;
-
-pub const NAME_BYTES: usize = 32;
-
-// At most so many rows in a book, of at most so many entries.
-pub const BOOK_ROWS: usize = 256;
-
-pub const ROW_LIMIT: usize = 64;
-
-// At most so many states in a table.
-pub const STATE_LIMIT: usize = 512;
-
-// k of a context and j of last names are at most this.
-pub const SETTING_LIMIT: u8 = 8;
+// The numbers that document 01 fixes for the order of fields, by the names that model/specs/Limits has for its refusals.
 
 // The marks of fields.
 pub const NAME_MARK: u8 = 1;
@@ -34,21 +18,9 @@ pub const CLASS_MET: u8 = 2;
 
 pub const ITEMS_MET: u8 = 3;
 
-// The refusals of a file's fields.
+// The refusals of a field that is cut off or misplaced, and of a file that ends too early.
 pub const CUT_OFF: u8 = 2;
 
 pub const MISPLACED: u8 = 3;
 
 pub const UNFINISHED: u8 = 4;
-
-pub const BAD_NAME: u8 = 5;
-
-pub const NAME_ORDER: u8 = 6;
-
-pub const TOO_MANY: u8 = 7;
-
-pub const BAD_CLASS: u8 = 8;
-
-pub const BAD_ROW: u8 = 9;
-
-pub const BAD_STATE: u8 = 11;

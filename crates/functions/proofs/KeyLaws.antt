@@ -1,23 +1,22 @@
--- Laws of the key of one arc: what the arc adds to the seen set before it, and which key that gives. Assumes nothing.
+-- Laws of the keys of one arc: what its name adds to the seen set before it, and which keys that gives. Assumes nothing.
 use mathlib.Core.Path.{_≡_, refl, sym, ap, _∙_, subst}
 use mathlib.Core.Logic.{_⊎_, inl, inr, ⊎-elim}
-use mathlib.Core.Bool.{Bool, true, false, cond, Bool·beq, true≢false}
+use mathlib.Core.Bool.{Bool, true, false, cond, Bool·beq}
 use mathlib.Core.List.{List}
-use Prim.Native.Nat.{ℕ, _+_, _-_, _^_, _<_, _≤_}
-use native.Mathlib.Nat.{one-mul}
+use Prim.Native.Nat.{ℕ, zero, suc, _+_, _-_, _*_, _/_, _%_, _^_, _<_, _≤_, min}
+use native.Mathlib.Nat.{pow-suc}
 use native.Mathlib.Omega.{arith}
-use lib.Bits.{bitAnd, bitOr, or-zero-l, or-disjoint}
-use lib.Count.{ones, trailingZeros, trailing-of-zero}
-use lib.Dec.{eqb}
+use lib.Bits.{bitAnd, bitOr, and-step, or-zero-l, or-disjoint}
+use lib.Count.{ones, ones-step, trailingZeros}
 use lib.ListN.{getD}
 use lib.Pow.{pow-pos}
-use borrow.Author.Tests.{eqb-true, eqb-false, eq-eqb, ne-eqb}
+use borrow.Author.Tests.{eq-eqb, ne-eqb}
 use Rattle.model.specs.Limits.{name-limit}
-use Rattle.model.proofs.NameSets.{ones-one, trailing-shifted}
+use Rattle.model.proofs.NameSets.{trailing-shifted}
 use Rattle.model.proofs.Tests.{eq-dec}
 use Rattle.indexed.specs.Passes.{SeenSets}
 use Rattle.indexed.proofs.Bits.{bit, bit-zero, bit-of-set, bit-of-both, bits-told, set-again}
-use Rattle.functions.specs.Parts.{Added, AddedAt, KeyAt}
+use Rattle.functions.specs.Parts.{keyWhere, KeyAt}
 
 -- 0 has no bit, a power of 2 has one
 no-bit : (a : ℕ) → bit a 0 ≡ 1 → ⊥
@@ -36,101 +35,77 @@ apart set name off = bits-told (bitAnd set (2 ^ name)) 0 (λ a. (λ h. absurd (c
         let both = bit-of-both a set (2 ^ name) .0 h in
         off (subst (λ (b : ℕ). bit b set ≡ 1) (bit-power a name (both .1)) (both .0))
 
--- a set, and the set with one name more
-pub record Grown (name before after : ℕ) : Type 0 where
-  pub not-less : before ≤ after
-  pub added : Added name (after - before)
+-- and with it the set has one name more
+ones-more : (name set : ℕ) → bitAnd set (2 ^ name) ≡ 0 → ones (set + 2 ^ name) ≡ suc (ones set)
+ones-more zero set none =
+    let common : bitAnd set 1 ≡ bitAnd (set / 2) 0 * 2 + min (set % 2) 1 = and-step set 1 in
+    let half : (set + 1) / 2 ≡ set / 2 = omega arith in
+    omega (arith, ones-step (set + 1), ones-step set, ap ones half)
+ones-more (suc name) set none =
+    let double : 2 ^ suc name ≡ 2 ^ name * 2 = pow-suc 2 name in
+    let lower : 2 ^ suc name / 2 ≡ 2 ^ name = omega arith in
+    let half : (set + 2 ^ suc name) / 2 ≡ set / 2 + 2 ^ name = omega arith in
+    let common = ones-more name (set / 2) (omega (arith, and-step set (2 ^ suc name), ap (bitAnd (set / 2)) lower)) in
+    omega (arith, ones-step (set + 2 ^ suc name), ones-step set, ap ones half, common)
+
+-- a set, and the set with a name put into it: the same, or one name more
+abbrev Grown : ℕ → ℕ → ℕ → Type 0
+Grown name before after = (after ≡ before) ⊎ ((after ≡ before + 2 ^ name) × (ones after ≡ suc (ones before)))
 
 grown : (name before after : ℕ) → after ≡ bitOr before (2 ^ name) → Grown name before after
-grown name before after is = go (eq-dec (bit name before) 1)
+grown name before after is = ⊎-elim (λ one. inl (is ∙ set-again before name one)) (λ off. inr (added off)) (eq-dec (bit name before) 1)
   where
-    go : (bit name before ≡ 1) ⊎ (bit name before ≡ 1 → ⊥) → Grown name before after
-    go (inl one) =
-        let same : after ≡ before = is ∙ set-again before name one in
-        record { not-less = omega arith; added = inl (omega arith) }
-    go (inr off) =
-        let more : after ≡ before + 2 ^ name = is ∙ or-disjoint before (2 ^ name) (apart before name off) in
-        record { not-less = omega arith; added = inr (omega arith) }
+    added : (bit name before ≡ 1 → ⊥) → (after ≡ before + 2 ^ name) × (ones after ≡ suc (ones before))
+    added off =
+        let none = apart before name off in
+        let more : after ≡ before + 2 ^ name = is ∙ or-disjoint before (2 ^ name) none in
+        (more, ap ones more ∙ ones-more name before none)
 
--- the sets at the two ends of an arc
-pub arc-grown :
-    (n : ℕ) (parents names seen : List ℕ) (v parent : ℕ) → SeenSets n parents names seen → 0 < v → v < n →
-    parent ≡ getD parents v 0 → Grown (getD names v 0) (getD seen parent 0) (getD seen v 0)
-arc-grown n parents names seen v parent sets not-root inside is =
-    grown (getD names v 0) (getD seen parent 0) (getD seen v 0)
-    (sets .arc-seen v not-root inside ∙ ap (λ (p : ℕ). bitOr (getD seen p 0) (2 ^ getD names v 0)) (sym is))
+pub not-less : (name before after : ℕ) → after ≡ bitOr before (2 ^ name) → before ≤ after
+not-less name before after is = ⊎-elim (λ same. omega arith) (λ more. omega (arith, more .0)) (grown name before after is)
 
--- the key by what is added: where nothing is, and where the name is
-key-none-added :
-    (enlarge : Bool) (added name : ℕ) → added ≡ 0 →
-    cond (Bool·beq (eqb added 0) enlarge) name-limit name ≡ cond (Bool·beq true enlarge) name-limit name
-key-none-added enlarge added name e =
-    ap (λ (b : Bool). cond (Bool·beq b enlarge) name-limit name) (eq-eqb added 0 e)
-
-key-name-added :
-    (enlarge : Bool) (added name : ℕ) → added ≡ 2 ^ name →
-    cond (Bool·beq (eqb added 0) enlarge) name-limit name ≡ cond (Bool·beq false enlarge) name-limit name
-key-name-added enlarge added name e =
-    let some : 0 < 2 ^ name = pow-pos name in
-    ap (λ (b : Bool). cond (Bool·beq b enlarge) name-limit name) (ne-eqb added 0 (λ z. omega arith))
-
--- keys of the arcs that enlarge the set: the lowest name added
-pub key-enlarging :
-    (enlarge : Bool) (added name : ℕ) → enlarge ≡ true → name < name-limit → Added name added →
-    trailingZeros 64 added ≡ cond (Bool·beq (eqb added 0) enlarge) name-limit name
-key-enlarging true added name kind below (inl e) =
-    ap (trailingZeros 64) e ∙ trailing-of-zero 64 ∙ sym (key-none-added true added name e)
-key-enlarging true added name kind below (inr e) =
-    ap (trailingZeros 64) (e ∙ sym (one-mul (2 ^ name))) ∙ trailing-shifted 64 1 name refl below
-    ∙ sym (key-name-added true added name e)
-key-enlarging false added name kind below given = absurd (true≢false (sym kind))
-
--- keys of the others: the name where the names added are none
-pub key-kept :
-    (enlarge : Bool) (added name : ℕ) → enlarge ≡ false → Added name added → ones added ≡ 0 →
-    name ≡ cond (Bool·beq (eqb added 0) enlarge) name-limit name
-key-kept false added name kind (inl e) none = sym (key-none-added false added name e)
-key-kept false added name kind (inr e) none =
-    let one : ones added ≡ 1 = ap ones e ∙ ones-one name in
-    absurd (omega arith)
-key-kept true added name kind given none = absurd (true≢false kind)
-
-pub key-grown :
-    (enlarge : Bool) (added name : ℕ) → enlarge ≡ false → Added name added → (ones added ≡ 0 → ⊥) →
-    name-limit ≡ cond (Bool·beq (eqb added 0) enlarge) name-limit name
-unfolding ones
-key-grown false added name kind (inl e) some = absurd (some (ap ones e))
-key-grown false added name kind (inr e) some = sym (key-name-added false added name e)
-key-grown true added name kind given some = absurd (true≢false kind)
-
--- nothing is added where the sets are the same
-same-added : (before after : ℕ) → before ≤ after → eqb (after - before) 0 ≡ eqb after before
-same-added before after not-less = go (eqb after before) refl
+-- the keys of an arc where the set has another number of names after it: the lowest name added, and none
+pub keys-enlarging :
+    (before after name : ℕ) → name < name-limit → after ≡ bitOr before (2 ^ name) → (ones before ≡ ones after → ⊥) →
+    (trailingZeros 64 (after - before) ≡ keyWhere true before after name) × (name-limit ≡ keyWhere false before after name)
+keys-enlarging before after name below is more = go (grown name before after is)
   where
-    go : (b : Bool) → eqb after before ≡ b → eqb (after - before) 0 ≡ b
-    go true e =
-        let same : after ≡ before = eqb-true after before e in
-        eq-eqb (after - before) 0 (omega arith)
-    go false e = ne-eqb (after - before) 0 (λ z. eqb-false after before e (omega arith))
+    go :
+        Grown name before after →
+        (trailingZeros 64 (after - before) ≡ keyWhere true before after name) × (name-limit ≡ keyWhere false before after name)
+    go (inl same) = absurd (more (sym (ap ones same)))
+    go (inr added) =
+        let difference : after - before ≡ 1 * 2 ^ name = omega (arith, added .0) in
+        let other = sym (ne-eqb after before (λ e. omega (arith, added .0, pow-pos name))) in (
+          ap (trailingZeros 64) difference ∙ trailing-shifted 64 1 name refl below
+              ∙ ap (λ (b : Bool). cond (Bool·beq b true) name-limit name) other,
+          ap (λ (b : Bool). cond (Bool·beq b false) name-limit name) other,
+        )
 
--- what an arc adds to the seen set, from the sets at its two ends
-pub added-at :
-    (parents names seen : List ℕ) (v parent : ℕ) → parent ≡ getD parents v 0 →
-    Grown (getD names v 0) (getD seen parent 0) (getD seen v 0) →
-    AddedAt parents names seen v (getD seen v 0 - getD seen parent 0)
-added-at parents names seen v parent is grows =
-    record {
-      name = grows .added;
-      none = same-added (getD seen parent 0) (getD seen v 0) (grows .not-less)
-          ∙ ap (λ (p : ℕ). eqb (getD seen v 0) (getD seen p 0)) is;
-    }
+-- and where it has no more: none, and the name
+pub keys-other :
+    (before after name : ℕ) → after ≡ bitOr before (2 ^ name) → ones after ≤ ones before →
+    (name-limit ≡ keyWhere true before after name) × (name ≡ keyWhere false before after name)
+keys-other before after name is no-more =
+    let same : after ≡ before = ⊎-elim (λ e. e) (λ added. absurd (omega (arith, added .1))) (grown name before after is) in
+    let both = sym (eq-eqb after before same) in (
+      ap (λ (b : Bool). cond (Bool·beq b true) name-limit name) both,
+      ap (λ (b : Bool). cond (Bool·beq b false) name-limit name) both,
+    )
 
--- the key of an arc, by what it adds
+-- the key of an arc, by the sets at its ends
 pub key-arc :
-    (enlarge : Bool) (parents names seen : List ℕ) (v added x : ℕ) → 0 < v → AddedAt parents names seen v added →
-    x ≡ cond (Bool·beq (eqb added 0) enlarge) name-limit (getD names v 0) → KeyAt enlarge parents names seen v x
-key-arc enlarge parents names seen v added x some at e =
+    (enlarge : Bool) (parents names seen : List ℕ) (v parent x : ℕ) → 0 < v → parent ≡ getD parents v 0 →
+    x ≡ keyWhere enlarge (getD seen parent 0) (getD seen v 0) (getD names v 0) → KeyAt enlarge parents names seen v x
+key-arc enlarge parents names seen v parent x some is e =
     record {
       root = λ q. absurd (omega arith);
-      arc = λ h. e ∙ ap (λ (b : Bool). cond (Bool·beq b enlarge) name-limit (getD names v 0)) (at .none);
+      arc = λ h. e ∙ ap (λ (p : ℕ). keyWhere enlarge (getD seen p 0) (getD seen v 0) (getD names v 0)) is;
     }
+
+-- the set after an arc, by the set before it
+pub arc-set :
+    (n : ℕ) (parents names seen : List ℕ) (v parent : ℕ) → SeenSets n parents names seen → 0 < v → v < n →
+    parent ≡ getD parents v 0 → getD seen v 0 ≡ bitOr (getD seen parent 0) (2 ^ getD names v 0)
+arc-set n parents names seen v parent sets not-root inside is =
+    sets .arc-seen v not-root inside ∙ ap (λ (p : ℕ). bitOr (getD seen p 0) (2 ^ getD names v 0)) (sym is)

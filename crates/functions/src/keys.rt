@@ -1,45 +1,55 @@
 // Keys of arcs for passes against them: names by whether the seen set grows.
 use cells::numbers;
 ghost use mathlib.Core.Path.{_≡_};
-ghost use mathlib.Core.Bool.{true, false, cond, Bool·beq};
-ghost use Prim.Native.Nat.{_<_};
-ghost use lib.Dec.{eqb};
+ghost use mathlib.Core.Bool.{true, false};
+ghost use Prim.Native.Nat.{_^_, _<_};
+ghost use lib.Bits.{bitOr};
 ghost use lib.ListN.{length};
 ghost use Rattle.model.specs.Limits.{name-limit};
 ghost use Rattle.indexed.specs.Trees.{Arrays};
 ghost use Rattle.indexed.specs.Passes.{SeenSets, KeysWhere};
-ghost use Rattle.functions.specs.Parts.{Added, AddedAt};
+ghost use Rattle.functions.specs.Parts.{keyWhere, KeyAt};
 
 // A key of this or more is none.
 const NAME_LIMIT: u8 = 64;
 
-// The key of an arc by what it adds to the seen set, its name or nothing. Of the arcs that enlarge the set it is the lowest name
-// added, and 64, no key, where none is; of the others it is the name where none is added.
-fn key_where(enlarge: bool, added: u64, name: u8) -> u8
+// The keys of one arc among the arcs that enlarge the seen set, and among the others; 64, no key, at one of the two.
+pub struct Keys {
+    pub enlarging: u8,
+    pub others: u8,
+}
+
+// The keys of an arc by its name and the seen sets before and after it. It enlarges the set where the set after it has more names
+// than the set before it: its key is then the lowest name added, among the enlarging ones; else it is the name, among the others.
+fn keys_of(before: u64, after: u64, name: u8) -> Keys
     requires name_below { ⌜ name < name-limit ⌝ }
-    requires name_or_none { ⌜ Added name added ⌝ }
-    ensures { λ r. ⌜ r ≡ cond (Bool·beq (eqb added 0) enlarge) name-limit name ⌝ }
+    requires with_name { ⌜ after ≡ bitOr before (2 ^ name) ⌝ }
+    ensures enlarging { λ r. ⌜ r .enlarging ≡ keyWhere true before after name ⌝ }
+    ensures others { λ r. ⌜ r .others ≡ keyWhere false before after name ⌝ }
 {
-    if enlarge {
-        return u64::trailing_zeros(added) as u8;
+    if u64::count_ones(before) < u64::count_ones(after) {
+        return Keys {
+            enlarging: u64::trailing_zeros(after - before) as u8,
+            others: NAME_LIMIT,
+        };
     }
-    if u64::count_ones(added) == 0 {
-        name
-    } else {
-        NAME_LIMIT
+    Keys {
+        enlarging: NAME_LIMIT,
+        others: name,
     }
 }
 
-// What the arc to state v adds to the seen set before it.
-fn added_at(parents: &[u16], names: &[u8], seen: &[u64], v: usize) -> u64
+// The keys of the arc to state v.
+fn keys_at(parents: &[u16], names: &[u8], seen: &[u64], v: usize) -> Keys
     requires arrays { ⌜ Arrays (length (now seen)) (now parents) (now names) ⌝ }
     requires sets { ⌜ SeenSets (length (now seen)) (now parents) (now names) (now seen) ⌝ }
     requires not_root { ⌜ 0 < v ⌝ }
     requires inside { ⌜ v < length (now seen) ⌝ }
-    ensures { λ r. ⌜ AddedAt (now (parents .entry)) (now (names .entry)) (now (seen .entry)) v r ⌝ }
+    ensures enlarging { λ r. ⌜ KeyAt true (now (parents .entry)) (now (names .entry)) (now (seen .entry)) v (r .enlarging) ⌝ }
+    ensures others { λ r. ⌜ KeyAt false (now (parents .entry)) (now (names .entry)) (now (seen .entry)) v (r .others) ⌝ }
 {
     let parent = numbers::wide16(parents[v]);
-    seen[v] - seen[parent]
+    keys_of(seen[parent], seen[v], names[v])
 }
 
 // The names of the arcs that enlarge the seen set, and those of the arcs that do not; no key at the others and at the root.
@@ -64,9 +74,9 @@ pub fn seen_keys(
     others[0] = NAME_LIMIT;
     let mut v = 1;
     while v < enlarging.len() {
-        let added = added_at(parents, names, seen, v);
-        enlarging[v] = key_where(true, added, names[v]);
-        others[v] = key_where(false, added, names[v]);
+        let keys = keys_at(parents, names, seen, v);
+        enlarging[v] = keys.enlarging;
+        others[v] = keys.others;
         v += 1;
     }
 }

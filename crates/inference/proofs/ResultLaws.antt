@@ -8,13 +8,14 @@ use native.Mathlib.Omega.{arith}
 use borrow.Author.Tests.{lt-ltb, le-ltb}
 use lib.Dec.{leb, eqb·suc-zero}
 use lib.ListN.{length, length-append}
-use Rattle.model.specs.Limits.{state-limit, tree-too-large, output-too-short}
+use Rattle.model.specs.Limits.{state-limit, tree-too-large, output-too-short, firstOf}
 use Rattle.model.specs.Fields.{File}
 use Rattle.model.specs.Tables.{nameFields, classField, stateFields, tableBytes}
 use Rattle.model.specs.Joinings.{treeOf}
 use Rattle.model.specs.Quotients.{bookStates, bookTable}
 use Rattle.model.specs.Calls.{outputFault, joinsOf}
 use Rattle.model.proofs.Tests.{same-tests, tells-leb}
+use Rattle.prefix_tree.specs.Growth.{treeFault}
 use Rattle.inference.specs.Books.{frontBytes}
 use Rattle.inference.specs.Results.{inferFault, unless, over, refusal, Gives}
 use Rattle.inference.specs.declared.Inferred.{Inferred}
@@ -48,8 +49,8 @@ module _ (f : File) (out : List ℕ) where
       none x y =
           sym (ap (λ (m : ℕ). unless m x y) e ∙ ap (λ (t : Bool). cond t y x) (eqb·suc-zero n))
 
-  pub gives-too-large : state-limit < length (treeOf (f .items)) → Gives f out out (refusal tree-too-large)
-  gives-too-large over-limit = gives-refusal 9 (rw (lt-ltb state-limit (length (treeOf (f .items))) over-limit))
+  pub gives-too-large : tree-too-large ≡ treeFault (treeOf (f .items)) → Gives f out out (refusal tree-too-large)
+  gives-too-large e = gives-refusal 9 (ap (λ (n : ℕ). firstOf n (outputFault (bookTable f) out)) (sym e))
 
   pub gives-too-short :
       length (treeOf (f .items)) ≤ state-limit → length out < length (bookTable f) → Gives f out out (refusal output-too-short)

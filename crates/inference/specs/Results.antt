@@ -4,19 +4,19 @@ use mathlib.Core.Path.{_≡_}
 use mathlib.Core.Bool.{cond}
 use mathlib.Core.List.{List, _++_}
 use Prim.Native.Nat.{ℕ}
-use lib.Dec.{eqb, ltb}
+use lib.Dec.{eqb}
 use lib.ListN.{length, drop}
-use Rattle.model.specs.Limits.{state-limit, tree-too-large, when, firstOf}
+use Rattle.model.specs.Limits.{firstOf}
 use Rattle.model.specs.Fields.{File}
 use Rattle.model.specs.Joinings.{treeOf}
 use Rattle.model.specs.Quotients.{bookStates, bookTable}
 use Rattle.model.specs.Calls.{outputFault, joinsOf}
+use Rattle.prefix_tree.specs.Growth.{treeFault}
 use Rattle.inference.specs.declared.Inferred.{Inferred}
 
 -- 10, then 13
 abbrev pub inferFault : File → List ℕ → ℕ
-inferFault f out =
-    firstOf (when (ltb state-limit (length (treeOf (f .items)))) tree-too-large) (outputFault (bookTable f) out)
+inferFault f out = firstOf (treeFault (treeOf (f .items))) (outputFault (bookTable f) out)
 
 -- a value where nothing is refused, and otherwise what stands for none
 abbrev pub unless : {A : Type 0} → ℕ → A → A → A

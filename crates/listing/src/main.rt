@@ -1,7 +1,9 @@
-// The listing program (document 01, "Worked days"): reads a book from standard input and prints its listing.
+// The listing program (document 01, "Worked days"): reads a book from standard input and prints its listing,
+// or `refused` and the refusal's number.
 use libc::STDIN_FILENO;
 use libc::STDOUT_FILENO;
 use plans::limits::LISTING_BYTES;
+use plans::printing::print_book;
 
 fn main() {
     // 65,536 bytes show that an input is over 65,535.
@@ -9,6 +11,6 @@ fn main() {
     let size = io::read_full(STDIN_FILENO, &mut book);
     let mut work = io::large_buffer();
     let mut text = [0u8; LISTING_BYTES];
-    let length = plans::list_book(&book[..size], &mut work, &mut text);
+    let length = print_book(&book[..size], &mut work, &mut text);
     io::write_all(STDOUT_FILENO, &text[..length]);
 }

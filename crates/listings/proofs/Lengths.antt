@@ -81,10 +81,14 @@ module _ (names : List (List ℕ)) (short : NamesShort names) where
       simp length-append
       (omega (arith, decimal-length (length states), decimal-length joins, state-lines-length 0 states))
 
+-- a text of so many bytes takes every listing
+abbrev pub listing-bytes : ℕ
+listing-bytes = 32768
+
 -- the listing of an accepted book, of states that can be written
 pub book-listing-length :
     (s : List ℕ) (states : List State) (joins : ℕ) → Accepted s → Writable (length (bookOf s .names)) states →
-    length (listing (bookOf s .names) states joins) ≤ 32768
+    length (listing (bookOf s .names) states joins) ≤ listing-bytes
 book-listing-length s states joins ok w =
     let short = names-short [] (bookOf s .names) (accepted-book s ok .1 .names-ok) in
     omega (arith, listing-length (bookOf s .names) short states joins, w .few-states, w .few-arcs)

@@ -29,11 +29,11 @@ pub data Target (met : List ℕ) (arcs : List Arc) (a : ℕ) : Type 0 where
   to-group : (y : ℕ) → In (arc a y) arcs → targetIn a (renumbered met arcs) ≡ suc (indexIn y met) → Target met arcs a
   no-group : ((y : ℕ) → In (arc a y) arcs → ⊥) → targetIn a (renumbered met arcs) ≡ 0 → Target met arcs a
 
-targetIn-here : (n : ℕ) (b : Arc) (arcs : List Arc) → n ≡ b .name → targetIn n (b ∷ arcs) ≡ suc (b .to)
+pub targetIn-here : (n : ℕ) (b : Arc) (arcs : List Arc) → n ≡ b .name → targetIn n (b ∷ arcs) ≡ suc (b .to)
 unfolding targetIn
 targetIn-here n b arcs e = rw (eq-eqb n (b .name) e, targetIn)
 
-targetIn-there : (n : ℕ) (b : Arc) (arcs : List Arc) → (n ≡ b .name → ⊥) → targetIn n (b ∷ arcs) ≡ targetIn n arcs
+pub targetIn-there : (n : ℕ) (b : Arc) (arcs : List Arc) → (n ≡ b .name → ⊥) → targetIn n (b ∷ arcs) ≡ targetIn n arcs
 unfolding targetIn
 targetIn-there n b arcs other = rw (ne-eqb n (b .name) other, targetIn)
 
@@ -93,12 +93,12 @@ module _ (states : List State) (q n x : ℕ) (xs : List ℕ) where
   onward t = elim (eqb t 0) [ true ↦ walk-at q n | false ↦ walkFrom states (t - 1) (suc n) xs ]
 
   -- no target: the walk stops here
-  walk-stops : targetIn x (getD states q no-state .arcs) ≡ 0 → walkFrom states q n (x ∷ xs) ≡ walk-at q n
+  pub walk-stops : targetIn x (getD states q no-state .arcs) ≡ 0 → walkFrom states q n (x ∷ xs) ≡ walk-at q n
   unfolding walkFrom
   walk-stops e = ap onward e
 
   -- a target: the walk goes on from there, one name further
-  walk-goes :
+  pub walk-goes :
       (k : ℕ) → targetIn x (getD states q no-state .arcs) ≡ suc k →
       walkFrom states q n (x ∷ xs) ≡ walkFrom states k (suc n) xs
   unfolding walkFrom
@@ -121,7 +121,7 @@ module _
     (rows nodes : List Word) (groups : List ℕ) (tree : Tree nodes) (fits : Fits nodes groups)
     (det : Deterministic (transitionsOf nodes groups)) where
   -- each walk from a group met is one of the two
-  walked :
+  pub walked :
       (r : Word) (g n : ℕ) → In g (metGroups nodes groups) →
       Walked (transitionsOf nodes groups) (statesOf rows nodes groups) (metGroups nodes groups) g n r
   unfolding walkFrom

@@ -16,11 +16,13 @@ use Rattle.model.specs.Classes.{Word}
 use Rattle.model.specs.Joinings.{Step, treeOf, apart, isFullJoining, afterSteps, joinedGroups}
 use Rattle.model.specs.Quotients.{statesOf, bookStates, bookTable, tableAfter}
 use Rattle.model.specs.Calls.{bookOf, bookFault, sizesFault, tableOf, tableFault, tableStates}
-use Rattle.model.specs.Claims.{Accepted, allAmong, SameBook, Demand-3, Same-bytes, Reads-back, Demands}
+use Rattle.model.specs.Claims.{Accepted, allAmong, SameBook, DefiningJoining, Demand-3}
+use Rattle.model.specs.Claims.{Same-bytes, Reads-back, Demands}
+use Rattle.model.proofs.Lists.{same-length}
 use Rattle.model.proofs.Tests.{tells-hasRow, tells-all, or-false}
 use Rattle.model.proofs.Notions.{_▸_}
-use Rattle.model.proofs.Trees.{treeOf-tree, node-begins-row}
-use Rattle.model.proofs.Ends.{joined-full, joined-is-full-joining}
+use Rattle.model.proofs.Trees.{treeOf-tree, node-begins-row, same-nodes}
+use Rattle.model.proofs.Ends.{joined-is-full-joining}
 use Rattle.model.proofs.Joined.{Joined, joining-joined, joinedGroups-joined, joined-deterministic, joined-states}
 use Rattle.model.proofs.InTheClass.{admits-row, admits-in-class, admits-smallest}
 use Rattle.model.proofs.Writable.{Writable}
@@ -46,10 +48,24 @@ all-there : (rows others : List Word) → allAmong rows others ≡ true → (r :
 unfolding allAmong
 all-there rows others e = tells-all (λ r. tells-hasRow r others) rows .fact e
 
+-- a book is like itself
+like-itself : (f : File) → SameBook f f
+unfolding allAmong
+like-itself f =
+    let all-in : allAmong (f .items) (f .items) ≡ true = tells-all (λ r. tells-hasRow r (f .items)) (f .items) .test (λ r m. m) in
+    record { names-same = refl; class-same = refl; rows-there = all-in; rows-back = all-in }
+
 -- like books have the same set of rows
 same-rows : (f g : File) → SameBook f g → (r : Word) → In r (f .items) ↔ In r (g .items)
 same-rows f g same r =
     (all-there (f .items) (g .items) (same .rows-there) r, all-there (g .items) (f .items) (same .rows-back) r)
+
+-- and prefix trees of one size
+pub tree-size-same : (f g : File) → SameBook f g → length (treeOf (f .items)) ≡ length (treeOf (g .items))
+tree-size-same f g same =
+    same-length (treeOf (f .items)) (treeOf (g .items)) (treeOf-tree (f .items) .distinct) (treeOf-tree (g .items) .distinct)
+    (same-nodes (f .items) (g .items) (λ r. same-rows f g same r .0))
+    (same-nodes (g .items) (f .items) (λ r. same-rows f g same r .1))
 
 -- ---- demand 3
 
@@ -71,23 +87,23 @@ table-any-order f g steps same full =
     ∙ ap (λ (d : Class). tableBytes (g .names) d (bookStates f)) (sym (same .class-same))
     ∙ ap (λ (ns : List (List ℕ)). tableBytes ns c (bookStates f)) (sym (same .names-same))
 
--- a book's own table is that of one of its full joinings
-table-of-joining :
-    (f : File) →
-    (steps : List Step) × (isFullJoining (f .class-is) (f .items) steps ≡ true) × (tableAfter f steps ≡ bookTable f)
+-- the joining that defines a book's table is one of its full joinings
+defining-joining : (f : File) → DefiningJoining f
+defining-joining f =
+    let j = joined-is-full-joining (f .class-is) (f .items) in
+    record { steps = j .0; full-joining = j .1; groups-are = j .2 }
+
+-- and the table after its steps is the book's
+defining-table : (f : File) (j : DefiningJoining f) → tableAfter f (j .steps) ≡ bookTable f
 unfolding tableAfter bookTable bookStates
-table-of-joining f =
-    let j = joined-is-full-joining (f .class-is) (f .items) in (
-      j .0,
-      j .1,
-      ap (λ (gs : List ℕ). tableBytes (f .names) (f .class-is) (statesOf (f .items) (treeOf (f .items)) gs)) (j .2),
-    )
+defining-table f j =
+    ap (λ (gs : List ℕ). tableBytes (f .names) (f .class-is) (statesOf (f .items) (treeOf (f .items)) gs)) (j .groups-are)
 
 -- like books have one table
 table-same : (f g : File) → SameBook f g → bookTable f ≡ bookTable g
 table-same f g same =
-    let j = table-of-joining g in
-    sym (table-any-order f g (j .0) same (j .1)) ∙ j .2
+    let j = defining-joining g in
+    sym (table-any-order f g (j .steps) same (j .full-joining)) ∙ defining-table g j
 
 -- the book's own joining
 joined : (f : File) → Joined (f .class-is) (f .items) (joinedGroups (f .class-is) (f .items))
@@ -99,8 +115,9 @@ unfolding bookStates
 demand-3 =
     record {
       any-order = λ s t steps ok-s ok-t same full. table-any-order (bookOf s) (bookOf t) steps same full;
+      book-itself = λ s. like-itself (bookOf s);
       same-table = λ s t ok-s ok-t same. table-same (bookOf s) (bookOf t) same;
-      full = λ s ok. joined-full (bookOf s .class-is) (bookOf s .items);
+      some-joining = λ s ok. defining-joining (bookOf s);
       rows-admitted = λ s r ok m.
           let f = bookOf s in
           admits-row (f .class-is) (f .items) (joinedGroups (f .class-is) (f .items)) (joined f) r

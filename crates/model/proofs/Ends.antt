@@ -114,7 +114,3 @@ joined-is-full-joining c rows =
       ap₂ (λ (x y : Bool). x && y) (j .open-steps) (ap (isFull c rows (treeOf rows)) (j .leads) ∙ j .full),
       j .leads,
     )
-
--- and nothing is open in them
-pub joined-full : (c : Class) (rows : List Word) → isFull c rows (treeOf rows) (joinedGroups c rows) ≡ true
-joined-full c rows = joined-joins c rows .full

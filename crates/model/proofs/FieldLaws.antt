@@ -25,7 +25,7 @@ pub when-none : (t : Bool) (n : ℕ) → 1 ≤ n → when t n ≡ 0 → t ≡ fa
 when-none true n some e = let z : ⊥ = omega arith in absurd z
 when-none false n some e = refl
 
-when-not : (t : Bool) (n : ℕ) → 1 ≤ n → when (not t) n ≡ 0 → t ≡ true
+pub when-not : (t : Bool) (n : ℕ) → 1 ≤ n → when (not t) n ≡ 0 → t ≡ true
 when-not true n some e = refl
 when-not false n some e = let z : ⊥ = omega arith in absurd z
 

@@ -212,7 +212,7 @@ module _ (c : Class) (rows nodes : List Word) (l : Word → Type 0) (holds : (r 
       let size : length (p ++ q) ≡ c .first = length-append p q ∙ one .size in
       let high : length p ≤ c .first = omega (arith, one .size) in
       let met : TailsEqual l (one .from-u ++ take (length p) (p ++ q)) (one .from-w ++ take (length p) (p ++ q)) =
-      contextual .equal-tails (one .from-u) (one .from-w) (p ++ q) (one-u .0) (one-w .0) (length p) size (one .low) high
+      contextual .equal-tails (one .from-u) (one .from-w) (p ++ q) (one-u .0) (one-w .0) (length p) size (omega (arith, one .low)) high
       (one-u .1) (one-w .1) in
       let met-p : TailsEqual l (one .from-u ++ p) (one .from-w ++ p) =
       subst (λ (i : Word). TailsEqual l (one .from-u ++ i) (one .from-w ++ i)) (take-append-seam p q) met in

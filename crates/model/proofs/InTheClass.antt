@@ -3,11 +3,8 @@
 use mathlib.Core.Path.{_≡_, refl, sym, ap, _∙_, subst}
 use mathlib.Core.Bool.{Bool, true, false, cond}
 use mathlib.Core.List.{List, [], _∷_, _++_, append-assoc, append-nil, List·Memᴰ as In}
-use Prim.Native.Nat.{ℕ, _-_, _≤_}
-use native.Mathlib.Omega.{arith}
+use Prim.Native.Nat.{ℕ}
 use lib.Dec.{eqb}
-use lib.ListN.{length, take, drop, take-append-drop, length-drop}
-use lib.Seq.{length-take-le}
 use Rattle.model.specs.Fields.{Class}
 use Rattle.model.specs.Classes.{Word, fOf, TailsEqual, Contextual, Distinguishable, InClass}
 use Rattle.model.specs.Joinings.{Transition, transition, transitionsOf, groupAt, groupAccepts, fOfGroup, treeOf}
@@ -24,6 +21,7 @@ use Rattle.model.proofs.Functions.{f-append, tails-closed, ways-tails}
 use Rattle.model.proofs.Trees.{treeOf-tree, row-node, node-begins-row}
 use Rattle.model.proofs.Joined.{Joined, members-agree, joined-deterministic}
 use Rattle.model.proofs.Admits.{tells-admits}
+use Rattle.model.proofs.ContextualTables.{states-contextual, joined-contextual}
 
 -- the joined automaton of the rows' prefix tree, and its start
 abbrev automaton : List Word → List ℕ → List Transition
@@ -90,76 +88,10 @@ module _ (c : Class) (rows : List Word) (groups : List ℕ) (joined : Joined c r
       Walks (automaton rows groups) (start rows groups) w z → TailsEqual (Admits rows groups) u w
   one-group-tails u w z f g = record { tails = λ v. (one-way u w z f g v, one-way w u z g f v) }
 
-  -- where an admitted word stands after u, and after i names more
-  record Place (u a : Word) (i : ℕ) : Type 0 where
-    before-it : ℕ
-    at-it : ℕ
-    after-it : ℕ
-    way-there : Walks (automaton rows groups) (start rows groups) u before-it
-    way-in : Walks (automaton rows groups) before-it (take i a) at-it
-    way-out : Walks (automaton rows groups) at-it (drop i a) after-it
-
-  -- each admitted word that has u and a in front has such places
-  place : (u a w : Word) (i : ℕ) → Admits rows groups (u ++ (a ++ w)) → Place u a i
-  place u a w i e =
-      let h = told (u ++ (a ++ w)) .fact e in
-      let cut = walks-split (automaton rows groups) (start rows groups) (h .0) u (a ++ w) (h .1) in
-      let body = walks-split (automaton rows groups) (cut .0) (h .0) a w (cut .2) in
-      let whole : Walks (automaton rows groups) (cut .0) (take i a ++ drop i a) (body .0) =
-      subst (λ (p : Word). Walks (automaton rows groups) (cut .0) p (body .0)) (sym (take-append-drop i a)) (body .1) in
-      let halves = walks-split (automaton rows groups) (cut .0) (body .0) (take i a) (drop i a) whole in
-      record {
-        before-it = cut .0;
-        at-it = halves .0;
-        after-it = body .0;
-        way-there = cut .1;
-        way-in = halves .1;
-        way-out = halves .2;
-      }
-
-  -- kind 0: paths with a common context meet, since nothing is open
+  -- kind 0: the table's states meet the condition of contexts
   pub admits-contextual : eqb (c .kind) 0 ≡ true → Contextual (c .first) (c .second) (Admits rows groups)
   admits-contextual kind =
-      record {
-        equal-tails = λ u1 u2 a w1 w2 i size low high e1 e2.
-            meet u1 u2 a i size low high (place u1 a w1 i e1) (place u2 a w2 i e2);
-      }
-    where
-      meet :
-          (u1 u2 a : Word) (i : ℕ) → length a ≡ c .first → c .second ≤ i → i ≤ c .first → Place u1 a i → Place u2 a i →
-          TailsEqual (Admits rows groups) (u1 ++ take i a) (u2 ++ take i a)
-      meet u1 u2 a i size low high x y =
-          let ts = automaton rows groups in
-          let x-in : In (x .before-it) groups = walks-in (start rows groups) (x .before-it) u1 start-in (x .way-there) in
-          let y-in : In (y .before-it) groups = walks-in (start rows groups) (y .before-it) u2 start-in (y .way-there) in
-          let fits-in : i ≤ length a = omega arith in
-          let front : length (take i a) ≡ i = length-take-le i a fits-in in
-          let rear : length (drop i a) ≡ length a - i = length-drop i a in
-          let one : x .at-it ≡ y .at-it =
-          full-equal c rows (treeOf rows) groups (joined .full) (x .at-it) (y .at-it)
-          (walks-in (x .before-it) (x .at-it) (take i a) x-in (x .way-in))
-          (walks-in (y .before-it) (y .at-it) (take i a) y-in (y .way-in))
-          (Ruled.by-context kind
-          (record {
-            p = take i a;
-            q = drop i a;
-            low = omega arith;
-            size = omega arith;
-            from-x = x .before-it;
-            from-y = y .before-it;
-            to-x = x .after-it;
-            to-y = y .after-it;
-            from-x-in = x-in;
-            from-y-in = y-in;
-            into-x = x .way-in;
-            into-y = y .way-in;
-            out-of-x = x .way-out;
-            out-of-y = y .way-out;
-          })) in
-          one-group-tails (u1 ++ take i a) (u2 ++ take i a) (y .at-it)
-          (subst (λ (z : ℕ). Walks ts (start rows groups) (u1 ++ take i a) z) one
-          (walks-append ts (start rows groups) (x .before-it) (x .at-it) u1 (take i a) (x .way-there) (x .way-in)))
-          (walks-append ts (start rows groups) (y .before-it) (y .at-it) u2 (take i a) (y .way-there) (y .way-in))
+      states-contextual (c .first) (c .second) (statesOf rows (treeOf rows) groups) (joined-contextual c rows groups joined kind)
 
   -- a group's f is that of every word that leads to it
   f-walked :
@@ -244,6 +176,13 @@ module _ (c : Class) (rows : List Word) (groups : List ℕ) (joined : Joined c r
           cond (eqb (c .kind) 0) (Contextual (c .first) (c .second) (Admits rows groups)) (Distinguishable c (Admits rows groups))
       go true kind = rw kind (admits-contextual kind)
       go false kind = rw kind (admits-distinguishable kind)
+
+  -- without rows nothing is admitted
+  pub admits-none : ((r : Word) → In r rows → ⊥) → (r : Word) → Admits rows groups r → ⊥
+  admits-none none r e =
+      let h = told r .fact e in
+      let end = tells-accepts rows (treeOf rows) groups (h .0) .fact (h .2) in
+      none (end .0) (end .3)
 
   -- every set of words of the class that holds the rows holds what the table admits
   pub admits-smallest :

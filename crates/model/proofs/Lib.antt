@@ -19,15 +19,19 @@ pub mod Functions
 -- the prefix tree, and the end of its joining
 pub mod Trees
 pub mod Ends
--- numbering: arcs in order, their names as a set of bits, groups in first-met order, what a table admits, and the numbering law
+-- numbering: arcs in order, their names as a set of bits, groups in first-met order, what a table admits, walks over any table
+-- and the states that they reach, and the numbering law
 pub mod Arcs
 pub mod NameSets
 pub mod Meeting
 pub mod FirstMet
 pub mod Admits
+pub mod TableWalks
+pub mod Reached
 pub mod Paired
 pub mod Numbering
--- reading: states that can be written, what one field and one turn of reading tell, and tables read back and rewritten
+-- reading: states that can be written, what one field and one turn of reading tell, tables read back and rewritten, and the
+-- states of accepted tables
 pub mod Writable
 pub mod MetOrder
 pub mod ArcCount
@@ -40,9 +44,18 @@ pub mod ReadBack
 pub mod WrittenLengths
 pub mod Rewriting
 pub mod Reading
--- demands: all full joinings have one table, of the smallest set of the class, and all that is claimed
+pub mod TableBodies
+-- demands: all full joinings have one table, contextual sets by their automata, the smallest set of the class, and all that is
+-- claimed
 pub mod Joined
+pub mod ContextualTables
 pub mod InTheClass
 pub mod Demands
--- the worked days of document 01
+-- what the sources say: finite sets of words tested, contextual sets told by finitely many words, and the whole
+pub mod ContextualRows
+pub mod Samples
+pub mod Identified
+pub mod Sources
+-- tables that admit rows of bounded length only, and the worked days of document 01
+pub mod Walkable
 pub mod WorkedDays

@@ -1,11 +1,20 @@
--- The worked days hold: everything that document 01's table of days, its notes and its listing say is computed by the
--- definitions. One theorem, by computation; its line `unfolding` names every definition that computes. Assumes nothing.
-use mathlib.Core.Path.{_≡_, refl}
-use mathlib.Core.Bool.{true}
-use mathlib.Core.List.{flatMap}
+-- The worked days hold: what document 01's table of days, its notes and its listing say is so of the definitions. In order: the
+-- tests that compute, all in one lemma, whose line `unfolding` names every definition that computes; the default class, told by
+-- Q3's states; and the theorem. Assumes nothing.
+use mathlib.Core.Path.{_≡_, refl, sym, ap, ap₂, _∙_, subst}
+use mathlib.Core.Logic.{⊎-elim}
+use mathlib.Core.Bool.{Bool, true, _&&_, not}
+use mathlib.Core.List.{List, [], _∷_, map, flatMap, List·Memᴰ as In, List·Memᴰ·eq-of-singleton, Memᴰ·map}
+use Prim.Native.Nat.{ℕ, suc, _-_, _≤_}
+use native.Mathlib.Omega.{arith}
+use lib.Dec.{eqb, leb}
+use lib.ListN.{length}
+use Rattle.model.specs.Limits.{setting-limit}
 use Rattle.model.specs.Lists.{any, anyTwo, all, filterBy, numbersFrom, isIn, indexIn, same, hasRow, before, lastOr}
+use Rattle.model.specs.Fields.{Class, class-of, default-class, settingsOk, book}
 use Rattle.model.specs.Fields.{nameOk, allBelow, above, nameFault, classFault, rowFault, stateFault, stateOk, arcsOk}
 use Rattle.model.specs.Fields.{fieldFault, withField, readFrom, readWith}
+use Rattle.model.specs.Tables.{State}
 use Rattle.model.specs.Tables.{fieldBytes, nameFields, classField, arcBytes, stateBody, stateFields, tableBytes, arcsIn}
 use Rattle.model.specs.Tables.{stateIn, statesIn, metByArcs, metByStates, isFirstMet, targetIn, walkFrom, walk}
 use Rattle.model.specs.Tables.{reachedState, admits, outcome, longestBeginning, nameSet, nextNames, nextCount}
@@ -17,13 +26,52 @@ use Rattle.model.specs.Joinings.{openSteps, isFull, afterSteps, allOpen,
 use Rattle.model.specs.Quotients.{putArc, arcsOutOf, metWith, metFrom, metGroups, renumbered, stateOf, statesOf, bookStates}
 use Rattle.model.specs.Quotients.{bookTable, tableAfter}
 use Rattle.model.specs.Calls.{bookOf, bookFault, joinsOf, tableOf, tableStates}
+use Rattle.model.specs.Claims.{allAmong}
 use Rattle.model.specs.Listing.{digits, arcText, stateLine, stateLines, listing, refusalText, listingFault, listingOf}
-use Rattle.model.specs.WorkedDays.{sameRows, rowsOfLength, shortRows, acceptingIn, remarkHolds, dayHolds, isExample}
-use Rattle.model.specs.WorkedDays.{exampleHolds, daysHold}
+use Rattle.model.specs.WorkedDays.{sameRows, rowsOfLength, shortRows, acceptingIn, remarkHolds, isFile, dayHolds}
+use Rattle.model.specs.WorkedDays.{exampleHolds, daysHold, Day, Q3, finiteDays, TellsDefault, DaysClaimed}
+use Rattle.model.proofs.Tests.{Tells, decided, tells-itself, tells-eqb, tells-leb, tells-and, tells-or, tells-not}
+use Rattle.model.proofs.Tests.{tells-same, tells-all}
+use Rattle.model.proofs.Lists.{in-flatMap, in-filterBy}
+use Rattle.model.proofs.Places.{in-numbersFrom}
+use Rattle.model.proofs.Walkable.{walkable, walkableTo, onlyThese, admits-only}
 
--- all days, all remarks and the listing
-pub worked-days-hold : daysHold ≡ true
-unfolding flatMap
+-- ---- what computes
+
+-- no row of five names can be walked over the day's states, and those of at most four that they admit are the ones written down
+isExact : Day → Bool
+isExact day = onlyThese (bookStates (bookOf (day .book-bytes))) 4 (day .admitted-rows)
+
+-- the states of Q3's book where this class is the default
+statesBy : Class → List State
+statesBy c = bookStates (readWith c book (Q3 .book-bytes) .file-is)
+
+-- every kind with every two settings of at most 8 of which the second is at most the first
+settings : List Class
+settings =
+    flatMap (λ (kind : ℕ).
+    flatMap (λ (x : ℕ). map (class-of kind x) (numbersFrom (suc x) 0)) (numbersFrom (suc setting-limit) 0)) (numbersFrom 3 0)
+
+-- a class field may hold the class, it is no context of more than three names, and Q3's states by it are those by default
+givesStates : Class → Bool
+givesStates c =
+    (settingsOk (c .kind) (c .first) (c .second) && not (eqb (c .kind) 0 && leb 4 (c .first)))
+    && same (stateFields (statesBy c)) (stateFields (statesBy default-class))
+
+-- what computes
+record Computed : Type 0 where
+  -- all days, all remarks and the listing
+  days : daysHold ≡ true
+  -- the rows admitted on the finite days
+  finite : all isExact finiteDays ≡ true
+  -- the default class alone gives Q3's states, contexts of more than three names left out
+  classes : filterBy givesStates settings ≡ default-class ∷ []
+  default-states : length (statesBy default-class) ≡ 4
+  -- contexts of more than three names join nothing, since Q3's rows have at most three, and leave all six tree states
+  long-contexts : (m h : ℕ) → length (statesBy (class-of 0 (suc (suc (suc (suc m)))) h)) ≡ 6
+
+computed : Computed
+unfolding flatMap walkable walkableTo onlyThese allAmong isExact statesBy settings givesStates
     any anyTwo all filterBy numbersFrom isIn indexIn same hasRow before lastOr
     nameOk allBelow above nameFault classFault rowFault stateFault stateOk arcsOk fieldFault withField readFrom readWith
     fieldBytes nameFields classField arcBytes stateBody stateFields tableBytes arcsIn stateIn statesIn metByArcs
@@ -36,5 +84,79 @@ unfolding flatMap
     putArc arcsOutOf metWith metFrom metGroups renumbered stateOf statesOf bookStates bookTable tableAfter
     bookOf bookFault joinsOf tableOf tableStates
     digits arcText stateLine stateLines listing refusalText listingFault listingOf
-    sameRows rowsOfLength shortRows acceptingIn remarkHolds dayHolds isExample exampleHolds daysHold
-worked-days-hold = refl
+    sameRows rowsOfLength shortRows acceptingIn remarkHolds isFile dayHolds exampleHolds daysHold
+computed = record { days = refl; finite = refl; classes = refl; default-states = refl; long-contexts = λ m h. refl }
+
+-- ---- the default class
+
+-- a class that a class field may hold is among those settings
+in-settings : (c : Class) → settingsOk (c .kind) (c .first) (c .second) ≡ true → In c settings
+unfolding settings
+in-settings c ok = go (c .kind) (c .first) (c .second) ok
+  where
+    among : (kind x y : ℕ) → kind ≤ 2 → x ≤ setting-limit → y ≤ x → In (class-of kind x y) settings
+    among kind x y low short within =
+        in-flatMap (λ (n : ℕ).
+        flatMap (λ (i : ℕ). map (class-of n i) (numbersFrom (suc i) 0)) (numbersFrom (suc setting-limit) 0)) (numbersFrom 3 0)
+        (in-numbersFrom 3 0 kind (omega arith) (omega arith))
+        (in-flatMap (λ (i : ℕ). map (class-of kind i) (numbersFrom (suc i) 0)) (numbersFrom (suc setting-limit) 0)
+        (in-numbersFrom (suc setting-limit) 0 x (omega arith) (omega arith))
+        (Memᴰ·map (class-of kind x) (in-numbersFrom (suc x) 0 y (omega arith) (omega arith))))
+
+    go : (kind x y : ℕ) → settingsOk kind x y ≡ true → In (class-of kind x y) settings
+    go kind x y e =
+        ⊎-elim
+        (λ f. among kind x y (omega (arith, f .0)) (omega (arith, f .1 .0 .1)) (omega (arith, f .1 .1 .1)))
+        (λ more. ⊎-elim
+        (λ f. among kind x y (omega (arith, f .0)) (omega (arith, f .1 .0)) (omega (arith, f .1 .1)))
+        (λ f. among kind x y (omega (arith, f .0)) (omega (arith, f .1 .0)) (omega (arith, f .1 .1)))
+        more)
+        (tells-or
+        (tells-and (tells-eqb kind 0)
+        (tells-and (tells-and (tells-leb 1 x) (tells-leb x setting-limit)) (tells-and (tells-leb 1 y) (tells-leb y x))))
+        (tells-or
+        (tells-and (tells-eqb kind 1) (tells-and (tells-eqb x 0) (tells-eqb y 0)))
+        (tells-and (tells-eqb kind 2) (tells-and (tells-leb x setting-limit) (tells-eqb y 0)))) .fact e)
+
+-- a context of more than three names does not give Q3's states
+no-long-context : (c : Class) → c .kind ≡ 0 → 4 ≤ c .first → statesBy c ≡ statesBy default-class → ⊥
+no-long-context c context long e =
+    let more : suc (suc (suc (suc (c .first - 4)))) ≡ c .first = omega arith in
+    let c-is : class-of 0 (suc (suc (suc (suc (c .first - 4))))) (c .second) ≡ c =
+    ap₂ (λ (kind x : ℕ). class-of kind x (c .second)) (sym context) more in
+    let six : length (statesBy c) ≡ 6 =
+    subst (λ (d : Class). length (statesBy d) ≡ 6) c-is (computed .long-contexts (c .first - 4) (c .second)) in
+    let four : length (statesBy c) ≡ 4 = ap (λ (states : List State). length states) e ∙ computed .default-states in
+    omega arith
+
+-- the default class alone gives them
+default-told : TellsDefault Q3
+unfolding bookOf statesBy givesStates
+default-told c ok e =
+    ⊎-elim (λ long. absurd (no-long-context c (long .0) (long .1) e))
+    (λ short.
+    List·Memᴰ·eq-of-singleton
+    (subst (λ (cs : List Class). In c cs) (computed .classes)
+    (in-filterBy givesStates settings (in-settings c ok)
+    (tells-and
+    (tells-and (tells-itself (settingsOk (c .kind) (c .first) (c .second))) (tells-not long-context))
+    (tells-same (stateFields (statesBy c)) (stateFields (statesBy default-class))) .test
+    ((ok, short), ap (λ (states : List State). stateFields states) e)))))
+    (decided long-context)
+  where
+    long-context : Tells (eqb (c .kind) 0 && leb 4 (c .first)) ((c .kind ≡ 0) × (4 ≤ c .first))
+    long-context = tells-and (tells-eqb (c .kind) 0) (tells-leb 4 (c .first))
+
+-- ---- the theorem
+
+-- document 01's days, and all that is claimed of them
+pub worked-days-hold : DaysClaimed
+unfolding isExact
+worked-days-hold =
+    record {
+      computed = computed .days;
+      any-length = λ day m.
+          admits-only (bookStates (bookOf (day .book-bytes))) 4 (day .admitted-rows)
+          (tells-all (λ d. tells-itself (isExact d)) finiteDays .fact (computed .finite) day m);
+      default-told = default-told;
+    }

@@ -10,7 +10,7 @@ use Rattle.model.specs.Lists.{all, hasRow}
 use Rattle.model.specs.Fields.{File}
 use Rattle.model.specs.Tables.{admits}
 use Rattle.model.specs.Classes.{Word, InClass}
-use Rattle.model.specs.Joinings.{Step, treeOf, isFull, isFullJoining, joinedGroups}
+use Rattle.model.specs.Joinings.{Step, treeOf, apart, isFullJoining, afterSteps, joinedGroups}
 use Rattle.model.specs.Quotients.{bookStates, bookTable, tableAfter}
 use Rattle.model.specs.Calls.{bookFault, bookOf, tableFault, tableStates, rewritten}
 
@@ -29,26 +29,32 @@ pub record SameBook (f g : File) : Type 0 where
   pub rows-there : allAmong (f .items) (g .items) ≡ true
   pub rows-back : allAmong (g .items) (f .items) ≡ true
 
+-- the joining that defines a book's table: a list of steps, each open when it is made, none open after the last, that ends in
+-- the groups that the table is made of; so the table after these steps is the book's
+pub record DefiningJoining (f : File) : Type 0 where
+  pub steps : List Step
+  pub full-joining : isFullJoining (f .class-is) (f .items) steps ≡ true
+  pub groups-are : afterSteps (apart (treeOf (f .items))) steps ≡ joinedGroups (f .class-is) (f .items)
+
 -- the words that a book's table admits
 abbrev pub Admitted : File → Word → Type 0
 Admitted f r = admits (bookStates f) r ≡ true
 
--- demand 3, undivided: its six facts
+-- demand 3, undivided: its seven facts
 pub record Demand-3 : Type 1 where
   -- every full joining of every accepted book with the same names, class and set of rows has the table that build writes
   pub any-order :
       (s t : List ℕ) (steps : List Step) → Accepted s → Accepted t → SameBook (bookOf s) (bookOf t) →
       isFullJoining (bookOf t .class-is) (bookOf t .items) steps ≡ true →
       tableAfter (bookOf t) steps ≡ bookTable (bookOf s)
+  -- a book is such a book itself, so its own full joinings are among these
+  pub book-itself : (s : List ℕ) → SameBook (bookOf s) (bookOf s)
   -- such books have the same table, to the byte
   pub same-table :
       (s t : List ℕ) → Accepted s → Accepted t → SameBook (bookOf s) (bookOf t) →
       bookTable (bookOf s) ≡ bookTable (bookOf t)
-  -- the joining that defines the table is one of those: it leaves no step open
-  pub full :
-      (s : List ℕ) → Accepted s →
-      isFull (bookOf s .class-is) (bookOf s .items) (treeOf (bookOf s .items))
-      (joinedGroups (bookOf s .class-is) (bookOf s .items)) ≡ true
+  -- there is one: the joining that defines the table is a full joining of its book
+  pub some-joining : (s : List ℕ) → Accepted s → DefiningJoining (bookOf s)
   -- the table admits the book's rows
   pub rows-admitted : (s r : List ℕ) → Accepted s → hasRow r (bookOf s .items) ≡ true → Admitted (bookOf s) r
   -- what it admits lies in the class

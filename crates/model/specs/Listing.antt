@@ -1,13 +1,15 @@
--- The listing (document 01, "Worked days"): the text that the listing program prints for a book, as bytes. Assumes nothing.
+-- The listing of a book (document 01, "Worked days") as bytes, and which refusal a call that writes it comes to; then the text that
+-- the listing program prints, a refusal's included. Assumes nothing.
 use mathlib.Core.Bool.{true, false, cond}
 use mathlib.Core.List.{List, [], _∷_, _++_, flatMap}
 use Prim.Native.Nat.{ℕ, zero, suc, _+_, _/_, _%_}
 use lib.Dec.{eqb, ltb}
 use lib.ListN.{length, getD}
 use Rattle.model.specs.Limits.{input-limit, bad-sizes, when, firstOf}
+use Rattle.model.specs.Fields.{File}
 use Rattle.model.specs.Tables.{Arc, State}
 use Rattle.model.specs.Quotients.{bookStates}
-use Rattle.model.specs.Calls.{bookOf, bookFault, joinsOf}
+use Rattle.model.specs.Calls.{sizesFault, outputFault, bookOf, bookFault, joinsOf}
 
 -- the decimal digits of a number (the first argument counts down and is at least the number of digits less one)
 unfoldable pub digits : ℕ → ℕ → List ℕ
@@ -58,11 +60,20 @@ listing names states joins =
     (states-word ++ (decimal (length states) ++ (joins-word ++ (decimal joins ++ newline))))
     ++ stateLines names 0 states
 
+-- the listing of a book: its names, the states of its table, its joins
+abbrev pub bookListing : File → List ℕ
+bookListing f = listing (f .names) (bookStates f) (joinsOf f)
+
+-- a listing: 1, the fields', 10, 13
+unfoldable pub listFault : List ℕ → List ℕ → List ℕ → ℕ
+listFault s work text =
+    firstOf (sizesFault s work) (firstOf (bookFault s) (outputFault (bookListing (bookOf s)) text))
+
 -- `refused N`
 unfoldable pub refusalText : ℕ → List ℕ
 refusalText n = refused-word ++ (decimal n ++ newline)
 
--- the refusal that a listing comes to: 1, the fields', 10
+-- the refusal that the listing program prints, which lends enough: 1, the fields', 10
 unfoldable pub listingFault : List ℕ → ℕ
 listingFault s = firstOf (when (ltb input-limit (length s)) bad-sizes) (bookFault s)
 
@@ -70,6 +81,6 @@ listingFault s = firstOf (when (ltb input-limit (length s)) bad-sizes) (bookFaul
 unfoldable pub listingOf : List ℕ → List ℕ
 listingOf s =
     elim (eqb (listingFault s) 0) [
-      | true ↦ listing (bookOf s .names) (bookStates (bookOf s)) (joinsOf (bookOf s))
+      | true ↦ bookListing (bookOf s)
       | false ↦ refusalText (listingFault s)
     ]

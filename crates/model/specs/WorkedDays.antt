@@ -1,18 +1,20 @@
--- The worked days (document 01): twelve days over four names, and two more, each with what its book comes to, written out; the
--- example book of the listing; and one test that compares everything written here with what the definitions compute. The test's
--- theorem is in proofs/WorkedDays.antt. Byte values of names and text are hexadecimal, sets of names binary (s l d b from the
+-- The worked days (document 01): twelve days over four names, and three more, each with its book's bytes and what they come to,
+-- written out; the example book of the listing; one test that compares everything written here with what the definitions
+-- compute; and what is claimed of the days: that test, rows of any length, and the default class. `worked-days-hold` of
+-- proofs/WorkedDays.antt proves it all. Byte values of names and text are hexadecimal, sets of names binary (s l d b from the
 -- left). Assumes nothing.
+use mathlib.Core.Path.{_≡_}
 use mathlib.Core.Bool.{Bool, true, false, _&&_}
-use mathlib.Core.List.{List, [], _∷_, _++_, map, flatMap}
+use mathlib.Core.List.{List, [], _∷_, _++_, map, flatMap, List·Memᴰ as In}
 use Prim.Native.Nat.{ℕ, zero, suc}
 use lib.Dec.{eqb}
 use lib.ListN.{length, getD}
-use Rattle.model.specs.Lists.{all, filterBy, numbersFrom, same}
-use Rattle.model.specs.Fields.{Class, class-of, File, file, table, readFields}
+use Rattle.model.specs.Lists.{all, filterBy, numbersFrom, same, hasRow}
+use Rattle.model.specs.Fields.{Class, class-of, default-class, settingsOk, File, book, table, readWith, readFields}
 use Rattle.model.specs.Tables.{State, no-state, isFirstMet, walk, admits, outcome, longestBeginning, nextNames, nextCount}
 use Rattle.model.specs.Classes.{Word}
 use Rattle.model.specs.Joinings.{Step, step, treeOf, joinedGroups, isFullJoining}
-use Rattle.model.specs.Quotients.{bookTable, tableAfter}
+use Rattle.model.specs.Quotients.{bookStates, bookTable, tableAfter}
 use Rattle.model.specs.Calls.{bookOf, bookFault, joinsOf, tableStates}
 use Rattle.model.specs.Listing.{listingOf}
 
@@ -46,7 +48,7 @@ l = 2
 abbrev pub s : ℕ
 s = 3
 
--- their fields, with which each of the twelve tables begins
+-- their fields, with which each day's book and table begin
 abbrev pub names-written : List ℕ
 names-written =
     (0x01 ∷ 0x00 ∷ 0x09 ∷ 0x62 ∷ 0x72 ∷ 0x65 ∷ 0x61 ∷ 0x6B ∷ 0x66 ∷ 0x61 ∷ 0x73 ∷ 0x74 ∷ [])
@@ -80,11 +82,12 @@ abbrev pub remark : Word → ℕ → ℕ → Word → ℕ → ℕ → Remark
 remark row ends taken beginning next count =
     record { row = row; ends = ends; taken = taken; beginning = beginning; next-names = next; next-count = count }
 
--- a day: its class and rows; the states of its prefix tree, and for each the group that it ends in, which goes by its first
--- state; the steps of one full joining, here the last open step each time; how many states and joins there are; the table's
--- bytes, a field a line; the accepting states; all rows of at most four names that are admitted, shorter ones first, then by the
--- first different entry; walks worth a remark
+-- a day: its book's bytes, a field a line; the class and the rows that are read there; the states of the prefix tree, and for
+-- each the group that it ends in, which goes by its first state; the steps of one full joining, here the last open step each
+-- time; how many states and joins there are; the table's bytes, a field a line; the accepting states; all rows of at most four
+-- names that are admitted, shorter ones first, then by the first different entry; walks worth a remark
 pub record Day : Type 0 where
+  pub book-bytes : List ℕ
   pub class-is : Class
   pub rows : List Word
   pub tree : List Word
@@ -104,6 +107,10 @@ pub record Day : Type 0 where
 abbrev pub P1 : Day
 P1 =
     record {
+      book-bytes =
+          names-written
+          ++ (2 ∷ 0 ∷ 3 ∷ 0 ∷ 2 ∷ 1 ∷ [])
+          ++ (3 ∷ 0 ∷ 0 ∷ []);
       class-is = class-of 0 2 1;
       rows = [] ∷ [];
       tree = [] ∷ [];
@@ -127,6 +134,10 @@ P1 =
 abbrev pub P2 : Day
 P2 =
     record {
+      book-bytes =
+          names-written
+          ++ (2 ∷ 0 ∷ 3 ∷ 0 ∷ 1 ∷ 1 ∷ [])
+          ++ (3 ∷ 0 ∷ 2 ∷ 3 ∷ 3 ∷ []);
       class-is = class-of 0 1 1;
       rows = (s ∷ s ∷ []) ∷ [];
       tree = [] ∷ (s ∷ []) ∷ (s ∷ s ∷ []) ∷ [];
@@ -152,6 +163,10 @@ P2 =
 abbrev pub P3 : Day
 P3 =
     record {
+      book-bytes =
+          names-written
+          ++ (2 ∷ 0 ∷ 3 ∷ 0 ∷ 2 ∷ 1 ∷ [])
+          ++ (3 ∷ 0 ∷ 2 ∷ 3 ∷ 3 ∷ []);
       class-is = class-of 0 2 1;
       rows = (s ∷ s ∷ []) ∷ [];
       tree = [] ∷ (s ∷ []) ∷ (s ∷ s ∷ []) ∷ [];
@@ -178,6 +193,11 @@ P3 =
 abbrev pub P4 : Day
 P4 =
     record {
+      book-bytes =
+          names-written
+          ++ (2 ∷ 0 ∷ 3 ∷ 0 ∷ 2 ∷ 1 ∷ [])
+          ++ (3 ∷ 0 ∷ 3 ∷ 0 ∷ 2 ∷ 1 ∷ [])
+          ++ (3 ∷ 0 ∷ 4 ∷ 0 ∷ 3 ∷ 2 ∷ 1 ∷ []);
       class-is = class-of 0 2 1;
       rows = (b ∷ l ∷ d ∷ []) ∷ (b ∷ s ∷ l ∷ d ∷ []) ∷ [];
       tree =
@@ -207,6 +227,11 @@ P4 =
 abbrev pub P5 : Day
 P5 =
     record {
+      book-bytes =
+          names-written
+          ++ (2 ∷ 0 ∷ 3 ∷ 0 ∷ 2 ∷ 2 ∷ [])
+          ++ (3 ∷ 0 ∷ 3 ∷ 0 ∷ 2 ∷ 1 ∷ [])
+          ++ (3 ∷ 0 ∷ 4 ∷ 0 ∷ 3 ∷ 2 ∷ 1 ∷ []);
       class-is = class-of 0 2 2;
       rows = (b ∷ l ∷ d ∷ []) ∷ (b ∷ s ∷ l ∷ d ∷ []) ∷ [];
       tree =
@@ -236,6 +261,12 @@ P5 =
 abbrev pub P6 : Day
 P6 =
     record {
+      book-bytes =
+          names-written
+          ++ (2 ∷ 0 ∷ 3 ∷ 0 ∷ 2 ∷ 1 ∷ [])
+          ++ (3 ∷ 0 ∷ 3 ∷ 0 ∷ 3 ∷ 2 ∷ [])
+          ++ (3 ∷ 0 ∷ 3 ∷ 1 ∷ 3 ∷ 2 ∷ [])
+          ++ (3 ∷ 0 ∷ 3 ∷ 0 ∷ 3 ∷ 0 ∷ []);
       class-is = class-of 0 2 1;
       rows = (b ∷ s ∷ l ∷ []) ∷ (d ∷ s ∷ l ∷ []) ∷ (b ∷ s ∷ b ∷ []) ∷ [];
       tree =
@@ -265,6 +296,12 @@ P6 =
 abbrev pub P7 : Day
 P7 =
     record {
+      book-bytes =
+          names-written
+          ++ (2 ∷ 0 ∷ 3 ∷ 0 ∷ 2 ∷ 2 ∷ [])
+          ++ (3 ∷ 0 ∷ 3 ∷ 0 ∷ 3 ∷ 2 ∷ [])
+          ++ (3 ∷ 0 ∷ 3 ∷ 1 ∷ 3 ∷ 2 ∷ [])
+          ++ (3 ∷ 0 ∷ 3 ∷ 0 ∷ 3 ∷ 0 ∷ []);
       class-is = class-of 0 2 2;
       rows = (b ∷ s ∷ l ∷ []) ∷ (d ∷ s ∷ l ∷ []) ∷ (b ∷ s ∷ b ∷ []) ∷ [];
       tree =
@@ -295,6 +332,11 @@ P7 =
 abbrev pub P8 : Day
 P8 =
     record {
+      book-bytes =
+          names-written
+          ++ (2 ∷ 0 ∷ 3 ∷ 1 ∷ 0 ∷ 0 ∷ [])
+          ++ (3 ∷ 0 ∷ 1 ∷ 3 ∷ [])
+          ++ (3 ∷ 0 ∷ 2 ∷ 3 ∷ 3 ∷ []);
       class-is = class-of 1 0 0;
       rows = (s ∷ []) ∷ (s ∷ s ∷ []) ∷ [];
       tree = [] ∷ (s ∷ []) ∷ (s ∷ s ∷ []) ∷ [];
@@ -319,6 +361,11 @@ P8 =
 abbrev pub P9 : Day
 P9 =
     record {
+      book-bytes =
+          names-written
+          ++ (2 ∷ 0 ∷ 3 ∷ 2 ∷ 0 ∷ 0 ∷ [])
+          ++ (3 ∷ 0 ∷ 1 ∷ 3 ∷ [])
+          ++ (3 ∷ 0 ∷ 2 ∷ 3 ∷ 3 ∷ []);
       class-is = class-of 2 0 0;
       rows = (s ∷ []) ∷ (s ∷ s ∷ []) ∷ [];
       tree = [] ∷ (s ∷ []) ∷ (s ∷ s ∷ []) ∷ [];
@@ -342,6 +389,11 @@ P9 =
 abbrev pub P10 : Day
 P10 =
     record {
+      book-bytes =
+          names-written
+          ++ (2 ∷ 0 ∷ 3 ∷ 2 ∷ 1 ∷ 0 ∷ [])
+          ++ (3 ∷ 0 ∷ 1 ∷ 3 ∷ [])
+          ++ (3 ∷ 0 ∷ 2 ∷ 3 ∷ 3 ∷ []);
       class-is = class-of 2 1 0;
       rows = (s ∷ []) ∷ (s ∷ s ∷ []) ∷ [];
       tree = [] ∷ (s ∷ []) ∷ (s ∷ s ∷ []) ∷ [];
@@ -366,6 +418,11 @@ P10 =
 abbrev pub P11 : Day
 P11 =
     record {
+      book-bytes =
+          names-written
+          ++ (2 ∷ 0 ∷ 3 ∷ 1 ∷ 0 ∷ 0 ∷ [])
+          ++ (3 ∷ 0 ∷ 2 ∷ 0 ∷ 3 ∷ [])
+          ++ (3 ∷ 0 ∷ 2 ∷ 3 ∷ 0 ∷ []);
       class-is = class-of 1 0 0;
       rows = (b ∷ s ∷ []) ∷ (s ∷ b ∷ []) ∷ [];
       tree = [] ∷ (b ∷ []) ∷ (b ∷ s ∷ []) ∷ (s ∷ []) ∷ (s ∷ b ∷ []) ∷ [];
@@ -394,6 +451,11 @@ P11 =
 abbrev pub P12 : Day
 P12 =
     record {
+      book-bytes =
+          names-written
+          ++ (2 ∷ 0 ∷ 3 ∷ 0 ∷ 2 ∷ 1 ∷ [])
+          ++ (3 ∷ 0 ∷ 2 ∷ 3 ∷ 3 ∷ [])
+          ++ (3 ∷ 0 ∷ 2 ∷ 3 ∷ 3 ∷ []);
       class-is = class-of 0 2 1;
       rows = (s ∷ s ∷ []) ∷ (s ∷ s ∷ []) ∷ [];
       tree = [] ∷ (s ∷ []) ∷ (s ∷ s ∷ []) ∷ [];
@@ -420,12 +482,17 @@ P12 =
 abbrev pub workedDays : List Day
 workedDays = P1 ∷ P2 ∷ P3 ∷ P4 ∷ P5 ∷ P6 ∷ P7 ∷ P8 ∷ P9 ∷ P10 ∷ P11 ∷ P12 ∷ []
 
--- ---- two days more, for joins that go astray and change none of the twelve
+-- ---- three days more: two for joins that go astray and change none of the twelve, and one for the default class
 
 -- Q1: seen set, bs and sbb: sb and bs have the same seen set, and that alone joins nothing
 abbrev pub Q1 : Day
 Q1 =
     record {
+      book-bytes =
+          names-written
+          ++ (2 ∷ 0 ∷ 3 ∷ 1 ∷ 0 ∷ 0 ∷ [])
+          ++ (3 ∷ 0 ∷ 2 ∷ 0 ∷ 3 ∷ [])
+          ++ (3 ∷ 0 ∷ 3 ∷ 3 ∷ 0 ∷ 0 ∷ []);
       class-is = class-of 1 0 0;
       rows = (b ∷ s ∷ []) ∷ (s ∷ b ∷ b ∷ []) ∷ [];
       tree =
@@ -454,6 +521,13 @@ Q1 =
 abbrev pub Q2 : Day
 Q2 =
     record {
+      book-bytes =
+          names-written
+          ++ (2 ∷ 0 ∷ 3 ∷ 1 ∷ 0 ∷ 0 ∷ [])
+          ++ (3 ∷ 0 ∷ 1 ∷ 3 ∷ [])
+          ++ (3 ∷ 0 ∷ 2 ∷ 3 ∷ 3 ∷ [])
+          ++ (3 ∷ 0 ∷ 3 ∷ 3 ∷ 0 ∷ 1 ∷ [])
+          ++ (3 ∷ 0 ∷ 4 ∷ 3 ∷ 3 ∷ 0 ∷ 2 ∷ []);
       class-is = class-of 1 0 0;
       rows = (s ∷ []) ∷ (s ∷ s ∷ []) ∷ (s ∷ b ∷ d ∷ []) ∷ (s ∷ s ∷ b ∷ l ∷ []) ∷ [];
       tree =
@@ -480,8 +554,38 @@ Q2 =
           remark (s ∷ b ∷ l ∷ []) admitted 3 (s ∷ b ∷ l ∷ []) 0b0000 0 ∷ [];
     }
 
+-- Q3: no class field, bs and sss: the default class, context (2,1), and no other gives these states
+abbrev pub Q3 : Day
+Q3 =
+    record {
+      book-bytes =
+          names-written
+          ++ (3 ∷ 0 ∷ 2 ∷ 0 ∷ 3 ∷ [])
+          ++ (3 ∷ 0 ∷ 3 ∷ 3 ∷ 3 ∷ 3 ∷ []);
+      class-is = class-of 0 2 1;
+      rows = (b ∷ s ∷ []) ∷ (s ∷ s ∷ s ∷ []) ∷ [];
+      tree = [] ∷ (b ∷ []) ∷ (b ∷ s ∷ []) ∷ (s ∷ []) ∷ (s ∷ s ∷ []) ∷ (s ∷ s ∷ s ∷ []) ∷ [];
+      groups = 0 ∷ 1 ∷ 2 ∷ 3 ∷ 3 ∷ 3 ∷ [];
+      joining = step 5 4 ∷ step 4 3 ∷ [];
+      tree-states = 6;
+      table-states = 4;
+      joins = 2;
+      table-bytes =
+          names-written
+          ++ (2 ∷ 0 ∷ 3 ∷ 0 ∷ 2 ∷ 1 ∷ [])
+          ++ (4 ∷ 0 ∷ 7 ∷ 0 ∷ 0 ∷ 0 ∷ 1 ∷ 3 ∷ 0 ∷ 2 ∷ [])
+          ++ (4 ∷ 0 ∷ 4 ∷ 0 ∷ 3 ∷ 0 ∷ 3 ∷ [])
+          ++ (4 ∷ 0 ∷ 4 ∷ 1 ∷ 3 ∷ 0 ∷ 2 ∷ [])
+          ++ (4 ∷ 0 ∷ 1 ∷ 1 ∷ []);
+      accepting = 2 ∷ 3 ∷ [];
+      admitted-rows = (s ∷ []) ∷ (b ∷ s ∷ []) ∷ (s ∷ s ∷ []) ∷ (s ∷ s ∷ s ∷ []) ∷ (s ∷ s ∷ s ∷ s ∷ []) ∷ [];
+      remarks =
+          remark (s ∷ []) admitted 1 (s ∷ []) 0b1000 1 ∷
+          remark (b ∷ s ∷ s ∷ []) stops 2 (b ∷ s ∷ []) 0b0000 0 ∷ [];
+    }
+
 abbrev pub furtherDays : List Day
-furtherDays = Q1 ∷ Q2 ∷ []
+furtherDays = Q1 ∷ Q2 ∷ Q3 ∷ []
 
 -- ---- the example book of the listing
 
@@ -543,42 +647,42 @@ remarkHolds states r =
     && eqb (nextNames states (r .row)) (r .next-names)
     && eqb (nextCount states (r .row)) (r .next-count)
 
--- the day's book, whole: its stage says that its rows have been met
-abbrev pub bookOfDay : Day → File
-bookOfDay day = file 3 meal-names (day .class-is) (day .rows)
+-- the file is all read, and its names, its class and its items are these
+unfoldable pub isFile : File → List (List ℕ) → Class → List (List ℕ) → Bool
+isFile f names class items =
+    eqb (f .stage) 3
+    && sameRows (f .names) names
+    && same (f .class-is .kind ∷ f .class-is .first ∷ f .class-is .second ∷ []) (class .kind ∷ class .first ∷ class .second ∷ [])
+    && sameRows (f .items) items
 
--- everything written down of the day is what the definitions compute; its walks are over the table's bytes, read back
+-- the day's book is accepted and read as written down, and everything else written down of the day is what the definitions
+-- compute of that book; its walks are over the table's bytes, read back
 unfoldable pub dayHolds : Day → Bool
 dayHolds day =
-    let written = bookTable (bookOfDay day) in
+    let f = bookOf (day .book-bytes) in
+    let written = bookTable f in
     let states = tableStates written in
-    sameRows (treeOf (day .rows)) (day .tree)
-    && same (joinedGroups (day .class-is) (day .rows)) (day .groups)
-    && eqb (length (treeOf (day .rows))) (day .tree-states)
+    eqb (bookFault (day .book-bytes)) 0
+    && isFile f meal-names (day .class-is) (day .rows)
+    && sameRows (treeOf (f .items)) (day .tree)
+    && same (joinedGroups (f .class-is) (f .items)) (day .groups)
+    && eqb (length (treeOf (f .items))) (day .tree-states)
     && eqb (length states) (day .table-states)
-    && eqb (joinsOf (bookOfDay day)) (day .joins)
+    && eqb (joinsOf f) (day .joins)
     && same written (day .table-bytes)
     && eqb (readFields table written .number) 0
     && isFirstMet states
     && same (acceptingIn states) (day .accepting)
     && sameRows (filterBy (admits states) shortRows) (day .admitted-rows)
     && all (remarkHolds states) (day .remarks)
-    && isFullJoining (day .class-is) (day .rows) (day .joining)
-    && same (tableAfter (bookOfDay day) (day .joining)) (day .table-bytes)
-
--- the file is the example book: all read, one name, the class, one row
-unfoldable pub isExample : File → Bool
-isExample f =
-    eqb (f .stage) 3
-    && sameRows (f .names) (snack ∷ [])
-    && same (f .class-is .kind ∷ f .class-is .first ∷ f .class-is .second ∷ []) (0 ∷ 1 ∷ 1 ∷ [])
-    && sameRows (f .items) ((0 ∷ 0 ∷ []) ∷ [])
+    && isFullJoining (f .class-is) (f .items) (day .joining)
+    && same (tableAfter f (day .joining)) (day .table-bytes)
 
 -- the example book is accepted and read as it should be; its table and its listing are those printed in document 01
 unfoldable pub exampleHolds : Bool
 exampleHolds =
     eqb (bookFault example-book) 0
-    && isExample (bookOf example-book)
+    && isFile (bookOf example-book) (snack ∷ []) (class-of 0 1 1) ((0 ∷ 0 ∷ []) ∷ [])
     && same (bookTable (bookOf example-book)) example-table
     && same (listingOf example-book) example-listing
     && same (listingOf []) empty-listing
@@ -589,4 +693,29 @@ daysHold =
     exampleHolds
     && all dayHolds furtherDays
     && all dayHolds workedDays
-    && same (bookTable (bookOfDay P12)) (bookTable (bookOfDay P3))
+    && same (bookTable (bookOf (P12 .book-bytes))) (bookTable (bookOf (P3 .book-bytes)))
+
+-- ---- what is claimed
+
+-- the days whose tables have no cycle
+abbrev pub finiteDays : List Day
+finiteDays = P1 ∷ P3 ∷ P4 ∷ P5 ∷ P6 ∷ P7 ∷ P11 ∷ P12 ∷ Q1 ∷ []
+
+-- of all rows, of any length and of any numbers, the states of the day's book admit those written down and no other
+abbrev pub AdmitsOnly : Day → Type 0
+AdmitsOnly day = (r : Word) → admits (bookStates (bookOf (day .book-bytes))) r ≡ hasRow r (day .admitted-rows)
+
+-- the book's states tell the default class: with any other default class that a class field may hold they would be others
+abbrev pub TellsDefault : Day → Type 0
+TellsDefault day =
+    (c : Class) → settingsOk (c .kind) (c .first) (c .second) ≡ true →
+    bookStates (readWith c book (day .book-bytes) .file-is) ≡ bookStates (bookOf (day .book-bytes)) → c ≡ default-class
+
+-- all of it
+pub record DaysClaimed : Type 0 where
+  -- the definitions compute everything that is written down
+  pub computed : daysHold ≡ true
+  -- on a day whose table has no cycle the rows written down are all that are admitted
+  pub any-length : (day : Day) → In day finiteDays → AdmitsOnly day
+  -- the book of Q3, which has no class field, would have other states with any other default class
+  pub default-told : TellsDefault Q3

@@ -7,8 +7,7 @@ use Prim.Native.Nat.{ℕ, _≤_, _<_}
 use native.Mathlib.Omega.{arith}
 use borrow.Author.Tests.{ltb-false, eqb-true}
 use lib.Dec.{eqb, ltb}
-use lib.ListN.{length, take, drop, length-append}
-use lib.Seq.{take-append-seam}
+use lib.ListN.{length}
 use Rattle.model.specs.Limits.{when, firstOf, input-limit, work-bytes, state-limit, bad-sizes, tree-too-large}
 use Rattle.model.specs.Fields.{File, default-class, readFields}
 use Rattle.model.specs.Fields as fields
@@ -31,7 +30,7 @@ use Rattle.inference.specs.declared.Inferred.{Inferred}
 use Rattle.plans.specs.declared.Built.{Built}
 use Rattle.plans.specs.Says.{over, unless, Gives, BuildGives}
 use Rattle.plans.specs.Parts.{NoTable}
-use Rattle.plans.proofs.CallLaws.{SizesBad, sizes-fit, first-refuses, unless-accepted, gives-none}
+use Rattle.plans.proofs.CallLaws.{SizesBad, sizes-fit, first-refuses, FrontOf, front-of, unless-accepted, gives-none}
 
 -- ---- how large the numbers of an accepted book are
 
@@ -188,8 +187,9 @@ module _ (book work out : List ℕ) where
 
 pub record Front (book work out out′ : List ℕ) (r : Built) : Type 0 where
   pub no-refusal : buildFault book work out ≡ 0
-  pub within : r .length ≤ length out′
-  pub bytes-are : take (r .length) out′ ≡ bookTable (bookOf book)
+  pub at-front : FrontOf (bookTable (bookOf book)) out′ (r .length)
+  pub length-is : r .length ≡ length (bookTable (bookOf book))
+  pub states-are : r .states ≡ length (bookStates (bookOf book))
   pub joins-are : r .joins ≡ joinsOf (bookOf book)
 
 pub built-front :
@@ -198,14 +198,13 @@ built-front book work out out′ r gives none =
     let fault : buildFault book work out ≡ 0 = sym (gives .number-is) ∙ none in
     let table = bookTable (bookOf book) in
     let size : r .length ≡ length table = gives .length-is ∙ unless-accepted (buildFault book work out) 0 (length table) fault in
-    let wrote : out′ ≡ over table out =
-    gives .output-is ∙ unless-accepted (buildFault book work out) out (over table out) fault in
     record {
       no-refusal = fault;
-      within = omega (arith, size, ap length wrote, length-append table (drop (length table) out));
-      bytes-are =
-          ap (λ (n : ℕ). take n out′) size
-          ∙ ap (λ (l : List ℕ). take (length table) l) wrote
-          ∙ take-append-seam table (drop (length table) out);
+      at-front =
+          front-of table out out′ (r .length)
+          (gives .output-is ∙ unless-accepted (buildFault book work out) out (over table out) fault)
+          size;
+      length-is = size;
+      states-are = gives .states-are ∙ unless-accepted (buildFault book work out) 0 (length (bookStates (bookOf book))) fault;
       joins-are = gives .joins-are ∙ unless-accepted (buildFault book work out) 0 (joinsOf (bookOf book)) fault;
     }

@@ -1,14 +1,14 @@
--- Which refusal a call comes to, in the order in which they are judged; and what a call gives back that is refused, that copies an
+-- Which refusal a call comes to, in the order in which they are judged; bytes at the front of an output; and what a call gives back that is refused, that copies an
 -- accepted table, or that walked a row over one. Assumes nothing.
 use mathlib.Core.Path.{_≡_, refl, sym, ap, _∙_}
 use mathlib.Core.Bool.{Bool, true, false, not, cond, _||_, and-eq-true-iff}
-use mathlib.Core.List.{List, [], _++_}
+use mathlib.Core.List.{List, []}
 use Prim.Native.Nat.{ℕ, zero, suc, _≤_, _<_}
-use native.Mathlib.Nat.{zero-add}
 use native.Mathlib.Omega.{arith}
 use borrow.Author.Tests.{ltb-false, lt-ltb, le-ltb, leb-true, eq-eqb, ne-eqb, eqb-true}
 use lib.Dec.{eqb, ltb, leb}
-use lib.ListN.{length, take, drop, length-take}
+use lib.ListN.{length, take, drop, length-take, length-append}
+use lib.Seq.{take-append-seam}
 use Rattle.model.specs.Limits.{when, firstOf, input-limit, work-bytes, row-limit, bad-sizes, bad-row, output-too-short}
 use Rattle.model.specs.Fields.{File, allBelow, rowOk}
 use Rattle.model.specs.Tables.{longestBeginning, walk, outcome, nextNames, nextCount}
@@ -19,6 +19,7 @@ use Rattle.model.proofs.Reading.{rewrites-same}
 use Rattle.fields.specs.declared.Place.{Place}
 use Rattle.fields.proofs.Parts.{length-names}
 use Rattle.writing.specs.Writing.{Written}
+use Rattle.writing.proofs.WritingLaws.{written-from-zero}
 use Rattle.tables.specs.Accepting.{readFault, TableRead}
 use Rattle.plans.specs.declared.Built.{Built}
 use Rattle.plans.specs.declared.walking.Ended.{Ended}
@@ -27,7 +28,7 @@ use Rattle.plans.specs.Parts.{NoTable, NoWalk, EndsOver, EndsAs}
 
 -- ---- a value unless a refusal
 
-unless-refused : {A : Type 0} (fault : ℕ) (none value : A) → 0 < fault → unless fault none value ≡ none
+pub unless-refused : {A : Type 0} (fault : ℕ) (none value : A) → 0 < fault → unless fault none value ≡ none
 unless-refused fault none value h = rw (ne-eqb fault 0 (λ (e : fault ≡ 0). omega arith))
 
 pub unless-accepted : {A : Type 0} (fault : ℕ) (none value : A) → fault ≡ 0 → unless fault none value ≡ value
@@ -38,6 +39,30 @@ unless-accepted fault none value e = rw (eq-eqb fault 0 e)
 pub first-refuses : (a b : ℕ) → 0 < a → firstOf a b ≡ a
 first-refuses zero b h = let z : ⊥ = omega arith in absurd z
 first-refuses (suc a) b h = refl
+
+-- 13, or none
+pub output-short : (bytes out : List ℕ) → length out < length bytes → outputFault bytes out ≡ output-too-short
+unfolding outputFault
+output-short bytes out short = rw (lt-ltb (length out) (length bytes) short)
+
+pub output-fits : (bytes out : List ℕ) → length bytes ≤ length out → outputFault bytes out ≡ 0
+unfolding outputFault
+output-fits bytes out room = rw (le-ltb (length out) (length bytes) room)
+
+-- bytes that stand at the front of an output
+pub record FrontOf (bytes out′ : List ℕ) (n : ℕ) : Type 0 where
+  pub within : n ≤ length out′
+  pub bytes-are : take n out′ ≡ bytes
+
+pub front-of : (bytes out out′ : List ℕ) (n : ℕ) → out′ ≡ over bytes out → n ≡ length bytes → FrontOf bytes out′ n
+front-of bytes out out′ n wrote size =
+    record {
+      within = omega (arith, size, ap length wrote, length-append bytes (drop (length bytes) out));
+      bytes-are =
+          ap (λ (k : ℕ). take k out′) size
+          ∙ ap (λ (l : List ℕ). take (length bytes) l) wrote
+          ∙ take-append-seam bytes (drop (length bytes) out);
+    }
 
 -- the lent slices are of sizes that are refused
 abbrev pub SizesBad : List ℕ → List ℕ → Bool
@@ -89,8 +114,7 @@ module _ (table work out : List ℕ) where
   unfolding rewriteFault
   rewrite-refused h = first-refuses (tableFault table work) (outputFault (rewritten table) out) h
 
-  rewrite-accepted :
-      AllBytes table → tableFault table work ≡ 0 → rewriteFault table work out ≡ when (ltb (length out) (length table)) output-too-short
+  rewrite-accepted : AllBytes table → tableFault table work ≡ 0 → rewriteFault table work out ≡ outputFault table out
   unfolding rewriteFault outputFault
   rewrite-accepted bytes e = rw (e, rewrites-same table work bytes e)
 
@@ -117,9 +141,7 @@ module _ (table work out : List ℕ) where
       NoTable output-too-short r → RewriteGives table work out out r
   gives-short r fit is bytes short none =
       let e = rewrite-accepted bytes (table-read table work fit ∙ sym is) in
-      let f : rewriteFault table work out ≡ output-too-short =
-      e ∙ ap (λ (b : Bool). when b output-too-short) (lt-ltb (length out) (length table) short) in
-      no-table output-too-short r none (omega arith) f
+      no-table output-too-short r none (omega arith) (e ∙ output-short table out short)
 
   -- an accepted table copied
   pub gives-copy :
@@ -129,11 +151,8 @@ module _ (table work out : List ℕ) where
   gives-copy out′ r fit is bytes room written number-is length-is states-are joins-are =
       let accepted : tableFault table work ≡ 0 = table-read table work fit ∙ sym is in
       let same = rewrites-same table work bytes accepted in
-      let e = rewrite-accepted bytes accepted in
-      let f : rewriteFault table work out ≡ 0 = e ∙ ap (λ (b : Bool). when b output-too-short) (le-ltb (length out) (length table) room) in
+      let f : rewriteFault table work out ≡ 0 = rewrite-accepted bytes accepted ∙ output-fits table out room in
       let whole : length (rewritten table) ≡ length table = ap length same in
-      let copied : out′ ≡ over table out =
-      written .becomes ∙ ap (λ (n : ℕ). table ++ drop n out) (zero-add (length table)) in
       record {
         number-is = number-is ∙ sym f;
         length-is =
@@ -141,7 +160,7 @@ module _ (table work out : List ℕ) where
         states-are = states-are ∙ sym (unless-accepted (rewriteFault table work out) 0 (length (tableStates table)) f);
         joins-are = joins-are ∙ sym (unless-accepted (rewriteFault table work out) 0 0 f);
         output-is =
-            copied
+            written-from-zero written
             ∙ ap (λ (l : List ℕ). over l out) (sym same)
             ∙ sym (unless-accepted (rewriteFault table work out) out (over (rewritten table) out) f);
       }

@@ -1,8 +1,8 @@
 -- Laws of the public entries' results: which refusal a call comes to, and what it gives back (CallLaws); how a walk over an
--- accepted table ends (EndLaws); what a build gives back (BuildLaws), and a listing (ListLaws); what is
--- handed over with build (Handed). Assumes nothing.
+-- accepted table ends (EndLaws); what a build gives back (BuildLaws), and a listing (ListLaws); what the listing program prints
+-- (PrintLaws). Assumes nothing.
 pub mod CallLaws
 pub mod EndLaws
 pub mod BuildLaws
 pub mod ListLaws
-pub mod Handed
+pub mod PrintLaws

@@ -8,6 +8,7 @@ use Rattle.model.specs.Tables.{State, walk, outcome, nextNames, nextCount}
 use Rattle.model.specs.Calls.{walkFault, tableStates}
 use Rattle.plans.specs.Says.{unless, WalkGives}
 use Rattle.plans.specs.declared.Built.{Built}
+use Rattle.plans.specs.declared.Written.{Written}
 use Rattle.plans.specs.declared.walking.Ended.{Ended}
 
 -- a refused call that writes a table gives its number, and no table
@@ -16,6 +17,11 @@ pub record NoTable (number : ℕ) (r : Built) : Type 0 where
   pub no-length : r .length ≡ 0
   pub no-states : r .states ≡ 0
   pub no-joins : r .joins ≡ 0
+
+-- a refused call that writes a text gives its number, and nothing was written
+pub record NoText (number : ℕ) (r : Written) : Type 0 where
+  pub refusal-is : r .refusal ≡ number
+  pub no-length : r .length ≡ 0
 
 -- a refused walk gives its number, and nothing was walked
 pub record NoWalk (number : ℕ) (r : Ended) : Type 0 where

@@ -1,18 +1,18 @@
 -- What the public entries say (document 01, "What is given back", "Walking a row" and the listing of "Worked days"): the result,
 -- and every lent byte, are equal to what a definition of `model` gives. Assumes nothing.
 use mathlib.Core.Path.{_≡_}
-use mathlib.Core.Bool.{Bool, cond, _||_}
+use mathlib.Core.Bool.{cond}
 use mathlib.Core.List.{List, [], _++_}
 use Prim.Native.Nat.{ℕ}
-use lib.Dec.{eqb, ltb}
+use lib.Dec.{eqb}
 use lib.ListN.{length, drop, replicate}
-use Rattle.model.specs.Limits.{work-bytes}
 use Rattle.model.specs.Tables.{outcome, longestBeginning, nextNames, nextCount}
 use Rattle.model.specs.Quotients.{bookStates, bookTable}
 use Rattle.model.specs.Calls.{bookOf, buildFault, joinsOf, rewriteFault, rewritten, walkFault, tableStates}
-use Rattle.model.specs.Listing.{listingOf}
+use Rattle.model.specs.Listing.{bookListing, listFault, listingOf}
 use Rattle.plans.specs.declared.Built.{Built}
 use Rattle.plans.specs.declared.Walked.{Walked}
+use Rattle.plans.specs.declared.Written.{Written}
 
 -- the bytes at the front of the output, which is untouched beyond them
 abbrev pub over : List ℕ → List ℕ → List ℕ
@@ -89,24 +89,25 @@ pub record WalkedSays (table row work work′ : List ℕ) (r : Walked) : Type 0 
 
 -- ---- a book listed
 
--- a text of so many bytes takes every listing
-abbrev pub listing-bytes : ℕ
-listing-bytes = 32768
+-- what is given back: the refusal, and where there is none the bytes at the front of the text, and their number
+pub record GivesText (fault : ℕ) (bytes text text′ : List ℕ) (r : Written) : Type 0 where
+  pub refusal-is : r .refusal ≡ fault
+  pub length-is : r .length ≡ unless fault 0 (length bytes)
+  pub text-is : text′ ≡ unless fault text (over bytes text)
 
--- a working area and a text of so many bytes are too little for a listing
-abbrev pub tooLittle : ℕ → ℕ → Bool
-tooLittle work text = ltb work work-bytes || ltb text listing-bytes
-
--- the text of a book's listing, a refusal's included; nothing where too little is lent
-unfoldable pub listed : List ℕ → List ℕ → List ℕ → List ℕ
-listed book work text = cond (tooLittle (length work) (length text)) [] (listingOf book)
-
--- the listing at the front of the text, which is untouched beyond it, and its length
-pub record ListGives (book work text text′ : List ℕ) (r : ℕ) : Type 0 where
-  pub text-is : text′ ≡ over (listed book work text) text
-  pub length-is : r ≡ length (listed book work text)
+-- the listing of a book
+abbrev pub ListGives : List ℕ → List ℕ → List ℕ → List ℕ → Written → Type 0
+ListGives book work text text′ r = GivesText (listFault book work text) (bookListing (bookOf book)) text text′ r
 
 -- the same with the working area before and after: what list_book promises
-pub record ListSays (book work work′ text text′ : List ℕ) (r : ℕ) : Type 0 where
+pub record ListSays (book work work′ text text′ : List ℕ) (r : Written) : Type 0 where
   pub gives : ListGives book work text text′ r
+  pub work-zero : work′ ≡ zeroed work
+
+-- ---- what the listing program prints
+
+-- that text at the front of the lent one, which is untouched beyond it, and its length; and the working area before and after
+pub record PrintSays (book work work′ text text′ : List ℕ) (r : ℕ) : Type 0 where
+  pub text-is : text′ ≡ over (listingOf book) text
+  pub length-is : r ≡ length (listingOf book)
   pub work-zero : work′ ≡ zeroed work

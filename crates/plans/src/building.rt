@@ -1,11 +1,11 @@
 // A book's table built, before the working area is cleared.
 use crate::Built;
-use crate::limits::BAD_SIZES;
-use crate::limits::sizes_bad;
 use crate::rewriting::refused;
 use fields::Fields;
 use fields::read_fields;
 use inference::infer;
+use judging::limits::BAD_SIZES;
+use judging::sizes::sizes_bad;
 ghost use Rattle.plans.specs.Says.{BuildGives};
 
 // Refusals 1, the fields', 10, 13; otherwise the table stands at the front of the output.

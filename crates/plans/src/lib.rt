@@ -4,6 +4,7 @@
 mod building;
 pub mod limits;
 mod listing;
+pub mod printing;
 mod rewriting;
 mod walking;
 
@@ -31,8 +32,15 @@ pub struct Walked {
     pub names: u64,
 }
 
+// What a call that writes bytes gives back: a refusal's number or 0, and how many bytes were written.
+#[repr(C)]
+pub struct Written {
+    pub refusal: u8,
+    pub length: u32,
+}
+
 // Builds the table of a book: the prefix tree of its rows, joined by the rules of its class until none applies, numbered
-// first-met. `build-handed-over` of proofs/Handed says what holds of the table that is written: demand 3, whole.
+// first-met. `build-handed-over` of the crate handed_over says what holds of the table that is written: demand 3, whole.
 pub fn build_table(book: &[u8], work: &mut [u8], out: &mut [u8]) -> Built
     ensures { λ r. ⌜ BuildSays (now (book .entry)) (now (work .entry)) (now (work .exit)) (now (out .entry)) (now (out .exit)) r ⌝ }
 {
@@ -74,14 +82,13 @@ pub fn walk_row<'a>(
     &row[..taken]
 }
 
-// Writes the listing of a book at the front of the text and returns its length. A book that is refused has a listing too, `refused`
-// and its number; a result of 0 says that too little was lent: a working area under 65,536 bytes, or a text under 32,768.
-pub fn list_book(book: &[u8], work: &mut [u8], text: &mut [u8]) -> usize
+// Writes the listing of a book: a line with the states and joins, then one for each state.
+pub fn list_book(book: &[u8], work: &mut [u8], text: &mut [u8]) -> Written
     ensures { λ r. ⌜ ListSays (now (book .entry)) (now (work .entry)) (now (work .exit)) (now (text .entry)) (now (text .exit)) r ⌝ }
 {
-    let length = listing::list(book, work, text);
+    let written = listing::list(book, work, text);
     clear(work);
-    length
+    written
 }
 
 // build_table for C.
@@ -125,4 +132,12 @@ pub extern "C" fn plans_walk(table: &[u8], row: &[u8], work: &mut [u8]) -> Walke
         length: beginning.len() as u32,
         names: names,
     }
+}
+
+// list_book for C.
+#[no_mangle]
+pub extern "C" fn plans_list(book: &[u8], work: &mut [u8], text: &mut [u8]) -> Written
+    ensures { λ r. ⌜ ListSays (now (book .entry)) (now (work .entry)) (now (work .exit)) (now (text .entry)) (now (text .exit)) r ⌝ }
+{
+    list_book(book, work, text)
 }

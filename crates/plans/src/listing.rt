@@ -1,27 +1,23 @@
-// A book's listing as text, before the working area is cleared: the table is built, read back, and listed; a refusal is listed
-// by its number.
+// A book's listing as text, before the working area is cleared: the table is built, read back, and listed into the working area,
+// which holds nothing more by then and takes every listing; from there it is copied to the text, where it fits.
+use crate::Written;
 use crate::building;
-use crate::limits::LISTING_BYTES;
+use crate::limits::OUTPUT_TOO_SHORT;
 use crate::limits::TABLE_BYTES;
-use crate::limits::WORK_BYTES;
 use fields::Fields;
 use fields::read_fields;
 use listings::list_table;
-use listings::refusal_text;
+use writing::copy_in;
 ghost use mathlib.Core.Path.{_≡_};
-ghost use Prim.Native.Nat.{_<_};
+ghost use Prim.Native.Nat.{_≤_, _<_};
+ghost use lib.ListN.{length};
+ghost use Rattle.model.specs.Limits.{work-bytes};
 ghost use Rattle.model.specs.Fields as model;
 ghost use Rattle.model.specs.Listing.{listing};
-ghost use Rattle.model.specs.Calls.{tableOf, tableStates};
+ghost use Rattle.model.specs.Calls.{outputFault, tableOf, tableStates};
 ghost use Rattle.listings.specs.Texts.{Fits, Puts};
-ghost use Rattle.plans.specs.Says.{tooLittle, ListGives};
-
-// Whether the working area or the text is too short.
-fn too_little(work: usize, text: usize) -> bool
-    ensures { λ r. ⌜ r ≡ tooLittle work text ⌝ }
-{
-    (work < WORK_BYTES) | (text < LISTING_BYTES)
-}
+ghost use Rattle.plans.specs.Says.{GivesText, ListGives};
+ghost use Rattle.plans.specs.Parts.{NoText};
 
 // The listing of a table that was accepted, at the front of the text; its length.
 fn list_accepted(table: &[u8], joins: usize, text: &mut [u8]) -> usize
@@ -39,18 +35,42 @@ fn list_accepted(table: &[u8], joins: usize, text: &mut [u8]) -> usize
     }
 }
 
-// The book's listing at the front of the text, and its length; nothing, and 0, where too little is lent.
-pub fn list(book: &[u8], work: &mut [u8], text: &mut [u8]) -> usize
+// A refusal: nothing was written.
+fn refused(refusal: u8) -> Written
+    ensures { λ r. ⌜ NoText refusal r ⌝ }
+{
+    Written {
+        refusal: refusal,
+        length: 0,
+    }
+}
+
+// Refusal 13; otherwise the bytes stand at the front of the text.
+fn copy_out(bytes: &[u8], text: &mut [u8]) -> Written
+    requires { ⌜ length (now bytes) ≤ work-bytes ⌝ }
+    ensures { λ r. ⌜ GivesText (outputFault (now (bytes .entry)) (now (text .entry))) (now (bytes .entry))
+        (now (text .entry)) (now (text .exit)) r ⌝ }
+{
+    if text.len() < bytes.len() {
+        return refused(OUTPUT_TOO_SHORT);
+    }
+    copy_in(text, 0, bytes);
+    Written {
+        refusal: 0,
+        length: bytes.len() as u32,
+    }
+}
+
+// Refusals 1, the fields', 10, 13; otherwise the listing stands at the front of the text.
+pub fn list(book: &[u8], work: &mut [u8], text: &mut [u8]) -> Written
     ensures { λ r. ⌜ ListGives (now (book .entry)) (now (work .entry)) (now (text .entry)) (now (text .exit)) r ⌝ }
 {
-    if too_little(work.len(), text.len()) {
-        return 0;
-    }
     let mut table = [0u8; TABLE_BYTES];
     let built = building::build(book, work, &mut table);
     if built.number != 0 {
-        return refusal_text(built.number, text);
+        return refused(built.number);
     }
     let end = built.length as usize;
-    list_accepted(&table[..end], built.joins as usize, text)
+    let length = list_accepted(&table[..end], built.joins as usize, work);
+    copy_out(&work[..length], text)
 }

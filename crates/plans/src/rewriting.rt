@@ -1,8 +1,8 @@
 // A table rewritten, before the working area is cleared: an accepted table is copied, since it is written to the same bytes.
 use crate::Built;
-use crate::limits::BAD_SIZES;
 use crate::limits::OUTPUT_TOO_SHORT;
-use crate::limits::sizes_bad;
+use judging::limits::BAD_SIZES;
+use judging::sizes::sizes_bad;
 use tables::Accepted;
 use tables::accept_table;
 use writing::copy_in;

@@ -1,9 +1,9 @@
 // A row walked over a table, before the working area is cleared: the table is judged wholly, then the row.
-use crate::limits::BAD_SIZES;
-use crate::limits::sizes_bad;
 use cells::cell;
-use fields::limits::BAD_ROW;
-use fields::rows::row_ok;
+use judging::limits::BAD_ROW;
+use judging::limits::BAD_SIZES;
+use judging::rows::row_ok;
+use judging::sizes::sizes_bad;
 use tables::Accepted;
 use tables::accept_table;
 use tables::accepts;

@@ -2,20 +2,22 @@
 -- there is no room. The walk along a row: begun, gone on, out of room, ended. The rows of a book: begun, gone on, out of room.
 -- Assumes nothing.
 use mathlib.Core.Path.{_≡_, refl, sym, ap, _∙_, subst}
+use mathlib.Core.Bool.{Bool}
 use mathlib.Core.List.{List, [], _∷_, _++_, Memᴰ·cast}
 use Prim.Native.Nat.{ℕ, suc, _+_, _<_, _≤_}
 use native.Mathlib.Numerals.{add-one}
 use native.Mathlib.Omega.{arith}
+use borrow.Author.Tests.{lt-ltb, le-ltb}
 use lib.ListN.{length, getD, take, set, length-set}
 use lib.Seq.{take-suc, take-all}
-use Rattle.model.specs.Limits.{name-limit, state-limit}
+use Rattle.model.specs.Limits.{name-limit, state-limit, tree-too-large, when}
 use Rattle.model.specs.Classes.{Word}
 use Rattle.model.specs.Joinings.{beginnings, withStates, withRows, treeOf}
 use Rattle.fields.specs.Offsets.{bodyAt, nextAt, offsetAt, fieldsAt}
 use Rattle.fields.proofs.OffsetLaws.{fields-more, offset-suc, field-within, field-at, length-fields}
 use Rattle.prefix_tree.specs.Growth.{Store, store, Sized, Grown, IsChild, NoChild, appended, longer, withState}
 use Rattle.prefix_tree.specs.Growth.{Stepped, StepTooMany, RowAdded, RowTooMany, RowBelow, RowsBelow}
-use Rattle.prefix_tree.specs.Growth.{TreeBuilt, TreeTooLarge, BuiltOf, TreeOf}
+use Rattle.prefix_tree.specs.Growth.{treeFault, numberOf, countOf, TreeBuilt, TreeOf}
 use Rattle.prefix_tree.specs.declared.Tree.{Tree}
 use Rattle.prefix_tree.proofs.WordLaws.{at-in, snoc-new, snoc-length}
 use Rattle.prefix_tree.proofs.TreeLaws.{withState-there, withState-new, walked, walked-none, walked-more, walked-longer}
@@ -244,13 +246,12 @@ module _ (book : List ℕ) (start items : ℕ) (work₀ : List ℕ) (s : Store) 
       → Adding book start items work₀ s′ m next (i + 1)
   adding-goes s′ m is sizes kept next e = rw (e, add-one i) (adding-next s′ m is sizes kept)
 
-  pub adding-full : RowTooMany (bodyAt book at) n s → TreeTooLarge (fieldsAt book start items)
+  pub adding-full : RowTooMany (bodyAt book at) n s → tree-too-large ≡ treeFault (treeOf (fieldsAt book start items))
   adding-full full =
-      record {
-        over =
-            let over = full .over (treeOf (fieldsAt book start i)) (fieldsAt book start i) (a .grown) in
-            omega (arith, over, ap length tree-next, treeOf-longer book start (suc i) items more);
-      }
+      let over = full .over (treeOf (fieldsAt book start i)) (fieldsAt book start i) (a .grown) in
+      let large : state-limit < length (treeOf (fieldsAt book start items)) =
+      omega (arith, over, ap length tree-next, treeOf-longer book start (suc i) items more) in
+      sym (ap (λ (b : Bool). when b tree-too-large) (lt-ltb _ (length (treeOf (fieldsAt book start items))) (omega arith)))
 
 pub adding-ends : (book : List ℕ) (start items : ℕ) (work₀ : List ℕ) (s : Store) (n at i : ℕ) → Adding book start items work₀ s n at i
     → items ≤ i
@@ -260,16 +261,23 @@ adding-ends book start items work₀ s n at i a done =
     subst (λ (k : ℕ). TreeBuilt (fieldsAt book start k) s n) all
     (grown-built (fieldsAt book start i) n s (a .grown) (a .some) (a .few) (a .sizes))
 
-pub tree-answer : (rows : List Word) (s s′ : Store) (answer : Tree) → BuiltOf rows s′ answer
+pub tree-answer : (rows : List Word) (s s′ : Store) (answer : Tree) → numberOf answer ≡ treeFault (treeOf rows)
+    → (numberOf answer ≡ 0 → TreeBuilt rows s′ (countOf answer))
     → Sized (s .parents) (s .names) (s .accepts) (s .work)
     → Sized (s′ .parents) (s′ .names) (s′ .accepts) (s′ .work)
     → length (s′ .work) ≡ length (s .work)
     → TreeOf rows s s′ answer
-tree-answer rows s s′ answer built sizes sizes′ kept =
+tree-answer rows s s′ answer number built sizes sizes′ kept =
     record {
+      number = number;
       built = built;
       parents-kept = sizes′ .parents-size ∙ sym (sizes .parents-size);
       names-kept = sizes′ .names-size ∙ sym (sizes .names-size);
       accepts-kept = sizes′ .accepts-size ∙ sym (sizes .accepts-size);
       work-kept = kept;
     }
+
+-- a tree that is built is not too large
+pub built-number : (rows : List Word) (s : Store) (n : ℕ) → TreeBuilt rows s n → 0 ≡ treeFault (treeOf rows)
+built-number rows s n built =
+    sym (ap (λ (b : Bool). when b tree-too-large) (le-ltb _ (length (treeOf rows)) (omega (arith, built .size, built .few))))

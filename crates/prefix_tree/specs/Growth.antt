@@ -1,13 +1,15 @@
 -- The prefix tree as it grows in lent arrays. In order: the arrays, the tree that they hold so far, and what each function
--- promises, by the cases of its answer: a child looked up, a state appended, one step, one row, all rows. Assumes nothing.
+-- promises: a child looked up, a state appended, one step, one row, and all rows, with document 01's number for the answer. Assumes
+-- nothing.
 use mathlib.Core.Path.{_≡_}
 use mathlib.Core.Logic.{_↔_}
 use mathlib.Core.Bool.{cond}
 use mathlib.Core.List.{List, [], _∷_, _++_, List·Memᴰ as In}
 use Prim.Native.Nat.{ℕ, _<_, _≤_}
+use lib.Dec.{ltb}
 use lib.ListN.{length, getD, take, set}
 use Rattle.model.specs.Lists.{hasRow}
-use Rattle.model.specs.Limits.{name-limit, state-limit, work-bytes}
+use Rattle.model.specs.Limits.{name-limit, state-limit, work-bytes, tree-too-large, when}
 use Rattle.model.specs.Classes.{Word}
 use Rattle.model.specs.Joinings.{beginnings, withStates, treeOf}
 use Rattle.cells.specs.Cells.{cellAt, withCell}
@@ -146,6 +148,20 @@ pub record RowBelow (row : Word) : Type 0 where
 abbrev pub RowsBelow : List Word → Type 0
 RowsBelow rows = (row : Word) → In row rows → RowBelow row
 
+-- refusal 10 where a tree of these states is too large, 0 for none
+abbrev pub treeFault : List Word → ℕ
+treeFault nodes = when (ltb state-limit (length nodes)) tree-too-large
+
+-- document 01's number for an answer, 0 for none
+abbrev pub numberOf : Tree → ℕ
+numberOf (tree.Built n) = 0
+numberOf tree.TooLarge = tree-too-large
+
+-- how many states an answer says that the tree has, 0 with a refusal
+abbrev pub countOf : Tree → ℕ
+countOf (tree.Built n) = n
+countOf tree.TooLarge = 0
+
 -- the first n places of the arrays are the prefix tree of the rows
 pub record TreeBuilt (rows : List Word) (s : Store) (n : ℕ) : Type 0 where
   pub size : n ≡ length (treeOf rows)
@@ -153,17 +169,11 @@ pub record TreeBuilt (rows : List Word) (s : Store) (n : ℕ) : Type 0 where
   pub arrays : TreeArrays rows (take n (s .parents)) (take n (s .names))
   pub accepts : AcceptsArray rows (take n (s .accepts))
 
--- refusal 10
-pub record TreeTooLarge (rows : List Word) : Type 0 where
-  pub over : state-limit < length (treeOf rows)
-
-abbrev pub BuiltOf : List Word → Store → Tree → Type 0
-BuiltOf rows s (tree.Built n) = TreeBuilt rows s n
-BuiltOf rows s tree.TooLarge = TreeTooLarge rows
-
--- the whole: the answer, and every array is as long as it was
+-- the whole: the answer's number is the refusal of the rows' tree; where that is none, the arrays hold the tree, of as many states as
+-- the answer says; and every array is as long as it was
 pub record TreeOf (rows : List Word) (s s′ : Store) (answer : Tree) : Type 0 where
-  pub built : BuiltOf rows s′ answer
+  pub number : numberOf answer ≡ treeFault (treeOf rows)
+  pub built : numberOf answer ≡ 0 → TreeBuilt rows s′ (countOf answer)
   pub parents-kept : length (s′ .parents) ≡ length (s .parents)
   pub names-kept : length (s′ .names) ≡ length (s .names)
   pub accepts-kept : length (s′ .accepts) ≡ length (s .accepts)

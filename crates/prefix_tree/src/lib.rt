@@ -6,13 +6,13 @@ use cells::numbers::narrow16;
 use cells::numbers::wide8;
 use cells::numbers::wide16;
 use cells::set_cell;
-use fields::limits::NAME_LIMIT;
-use fields::limits::STATE_LIMIT;
 use fields::offsets::body;
 use fields::offsets::next_field;
+use judging::limits::NAME_LIMIT;
+use judging::limits::STATE_LIMIT;
 ghost use mathlib.Core.Path.{_≡_};
 ghost use Prim.Native.Nat.{_+_, _<_, _≤_};
-ghost use lib.ListN.{length};
+ghost use lib.ListN.{length, set};
 ghost use Rattle.model.specs.Limits.{name-limit, state-limit};
 ghost use Rattle.fields.specs.Offsets.{offsetAt, fieldsAt};
 ghost use Rattle.prefix_tree.specs.Growth.{Roomy, store, Sized, ChildOf, appended, StepOf, RowBelow, RowOf, RowsBelow, TreeOf};
@@ -117,6 +117,14 @@ fn step(
     }
 }
 
+// Marks a state as accepting, the root too: an empty row is a row.
+fn mark(accepts: &mut [u8], state: usize)
+    requires { ⌜ state < length (now accepts) ⌝ }
+    ensures { λ _. ⌜ now (accepts .exit) ≡ set (now (accepts .entry)) state 1 ⌝ }
+{
+    accepts[state] = 1;
+}
+
 // Adds a row: walks it from the root, appends what is missing, and marks the last state.
 pub fn add_row(
     row: &[u8],
@@ -148,7 +156,7 @@ pub fn add_row(
         }
         i += 1;
     }
-    accepts[state] = 1;
+    mark(accepts, state);
     Added::With(n)
 }
 

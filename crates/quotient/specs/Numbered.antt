@@ -4,7 +4,6 @@ use mathlib.Core.Path.{_≡_}
 use mathlib.Core.Bool.{cond}
 use mathlib.Core.List.{List, [], _∷_, _++_, List·Memᴰ as In}
 use Prim.Native.Nat.{ℕ, _<_, _≤_}
-use lib.Count.{ones}
 use lib.ListN.{length, getD, take}
 use Rattle.model.specs.Limits.{state-limit}
 use Rattle.model.specs.Lists.{isIn, indexIn}
@@ -39,8 +38,3 @@ pub record Meeting (n : ℕ) (work : List ℕ) (row set : ℕ) (met numbers : Li
   pub at-row : ArcsAt n work row set arcs
   pub comes-to : after ≡ metWith seen arcs
   pub fits : length after ≤ n
-
--- the targets of the arcs in a set are met, and the arcs counted
-pub record MetTargets (n set : ℕ) (met numbers : List ℕ) (count arcs : ℕ) (after : List ℕ) : Type 0 where
-  pub met-as : MetAs n met numbers count after
-  pub counted : arcs ≡ ones set

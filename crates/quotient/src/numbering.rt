@@ -1,5 +1,5 @@
 // First-met numbers of groups: the root's group is 0; groups are taken in ascending number and their arcs in ascending name, and each
-// new target has the next number. As each arc is gone through once, the bytes of the states' fields are counted too.
+// new target has the next number. The bytes of the states' fields are counted on the way.
 use crate::Quotient;
 use crate::sets;
 use cells::cell;
@@ -12,7 +12,7 @@ ghost use lib.ListN.{length, replicate};
 ghost use Rattle.model.specs.Classes.{Word};
 ghost use Rattle.model.specs.Limits.{state-limit, work-bytes};
 ghost use Rattle.quotient.specs.Gathered.{Gathered};
-ghost use Rattle.quotient.specs.Numbered.{MetAs, MeetingOne, Meeting, MetTargets};
+ghost use Rattle.quotient.specs.Numbered.{MetAs, MeetingOne, Meeting};
 ghost use Rattle.quotient.specs.Ready.{NumberedStates};
 
 // The number of a group that is not met yet.
@@ -45,13 +45,7 @@ fn meet_one(met: &mut [u16], numbers: &mut [u16], count: usize, target: usize) -
     count + 1
 }
 
-// How many groups are met, and how many arcs led there.
-pub struct Reached {
-    pub count: usize,
-    pub arcs: usize,
-}
-
-// Meets the targets of a group's arcs, in ascending name, and counts the arcs.
+// Meets the targets of a group's arcs, in ascending name. Returns how many groups are met.
 fn meet(
     work: &[u8],
     row: usize,
@@ -59,26 +53,21 @@ fn meet(
     met: &mut [u16],
     numbers: &mut [u16],
     count: usize,
-) -> Reached
+) -> usize
     requires { ⌜ (work-bytes ≤ length (now work)) × (row < state-limit) ⌝ }
     requires { ⌜ ((n : ℕ) × (after : List ℕ) × Meeting n (now work) row names (now met) (now numbers) count after) ⌝ }
     ensures { λ r. ⌜ ((n : ℕ) → (after : List ℕ) →
         Meeting n (now (work .entry)) row names (now (met .entry)) (now (numbers .entry)) count after →
-        MetTargets n names (now (met .exit)) (now (numbers .exit)) (r .count) (r .arcs) after) ⌝ }
+        MetAs n (now (met .exit)) (now (numbers .exit)) r after) ⌝ }
 {
     let mut left = names;
     let mut reached = count;
-    let mut arcs = 0;
     while 0 < left {
         let name = sets::lowest(left);
         reached = meet_one(met, numbers, reached, cell(work, row, name));
         left -= sets::only(name);
-        arcs += 1;
     }
-    Reached {
-        count: reached,
-        arcs: arcs,
-    }
+    reached
 }
 
 // Meets every group, from the root's on. A state's field takes four bytes, and three for each arc.
@@ -100,9 +89,9 @@ pub fn number(
     let mut i = 0;
     while i < count {
         let g = wide16(met[i]);
-        let reached = meet(work, g, next[g], met, numbers, count);
-        count = reached.count;
-        bytes += 4 + 3 * reached.arcs;
+        let names = next[g];
+        count = meet(work, g, names, met, numbers, count);
+        bytes += 4 + 3 * sets::how_many(names);
         i += 1;
     }
     Quotient {

@@ -15,7 +15,7 @@ const CLASS: [u8; 6] = *b"\x02\x00\x03\x00\x01\x01";
 const GOOD: [u8; 28] =
     *b"\x01\x00\x05snack\x02\x00\x03\x00\x01\x01\x04\x00\x04\x00\x00\x00\x01\x04\x00\x04\x01\x00\x00\x01";
 
-// A state that accepts, without arcs.
+// A state that accepts, without arcs: the last of a table.
 const END: [u8; 4] = *b"\x04\x00\x01\x01";
 
 // Appends a part to what the buffer holds before `at`; a part that does not fit is left out.
@@ -43,16 +43,17 @@ fn put_names(out: &mut [u8; ROOM], count: u8) -> usize
     at
 }
 
-// Appends so many states without arcs.
-fn put_states(out: &mut [u8; ROOM], from: usize, count: usize) -> usize
+// Appends so many states that do not accept, the first of them state 0, each with an arc by name 0 to the next.
+fn put_chain(out: &mut [u8; ROOM], from: usize, count: usize) -> usize
     requires { ⌜ from ≤ 4096 ⌝ }
     ensures { λ r. ⌜ r ≤ 4096 ⌝ }
 {
     let mut at = from;
     let mut i = 0;
     while i < count {
-        at = put(out, at, &END);
         i += 1;
+        let state = [4, 0, 4, 0, 0, (i / 256 % 256) as u8, (i % 256) as u8];
+        at = put(out, at, &state);
     }
     at
 }
@@ -149,19 +150,27 @@ fn numbering() {
     );
 }
 
+// A table of a chain of states and one more, which accepts.
+fn states(tried: &[u8], chain: usize) {
+    let mut out = io::buffer();
+    let name = put(&mut out, 0, &NAME);
+    let class = put(&mut out, name, &CLASS);
+    let last = put_chain(&mut out, class, chain);
+    let end = put(&mut out, last, &END);
+    table_in(tried, &out, end);
+}
+
 // The limits on names and states: 7, and what just passes.
 fn limits() {
     let mut out = io::buffer();
     let names = put_names(&mut out, 64);
     let class = put(&mut out, names, &CLASS);
-    let end = put_states(&mut out, class, 1);
+    let end = put(&mut out, class, &END);
     table_in(b"64 names", &out, end);
     let more = put_names(&mut out, 65);
     table_in(b"65 names", &out, more);
-    let name = put(&mut out, 0, &NAME);
-    let only = put(&mut out, name, &CLASS);
-    let states = put_states(&mut out, only, 513);
-    table_in(b"513 states", &out, states);
+    states(b"512 states", 511);
+    states(b"513 states", 512);
 }
 
 // Rows: 9, and what just passes.

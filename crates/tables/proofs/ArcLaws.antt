@@ -1,18 +1,20 @@
 -- A state's arcs by their offsets in its field: the arcs from an offset on, and what is known there of the test that the field
 -- passed; then that its arcs ascend, and the search for a name among them. Assumes nothing.
 use mathlib.Core.Path.{_≡_, refl, sym, ap, _∙_, subst}
-use mathlib.Core.Bool.{true, _&&_, false≢true, and-eq-true-iff}
+use mathlib.Core.Bool.{false≢true, and-eq-true-iff}
 use mathlib.Core.List.{List, [], _∷_}
 use Prim.Native.Nat.{ℕ, zero, suc, _+_, _*_, _-_, _≤_, _<_}
 use native.Mathlib.Omega.{arith}
-use borrow.Author.Tests.{leb-true, ltb-true, eq-eqb, ne-eqb}
-use lib.Dec.{eqb, leb, ltb}
+use borrow.Author.Tests.{leb-true, eq-eqb, ne-eqb}
+use lib.Dec.{eqb, leb}
 use lib.ListN.{length, getD, drop, drop-of-length-le, length-drop}
 use lib.Seq.{drop-cons, drop-drop, getD-drop}
 use Rattle.model.specs.Fields.{arcsOk, stateOk}
 use Rattle.model.specs.Tables.{Arc, arc, arcsIn, stateIn, targetIn}
 use Rattle.model.proofs.Arcs.{Ascending}
-use Rattle.fields.proofs.StateLaws.{ArcsLeft, arcs-begin, arcs-cut, arcs-unnamed, arcs-unordered, arcs-go}
+use Rattle.model.proofs.TableBodies.{arcs-ascend}
+pub use Rattle.model.proofs.TableBodies.{NamesBelow, state-ascends}
+use Rattle.judging.proofs.StateLaws.{ArcsLeft, arcs-begin, arcs-cut, arcs-unnamed, arcs-unordered, arcs-go}
 use Rattle.tables.specs.Arcs.{StateOk, targetAt}
 
 -- the arcs from offset i on
@@ -101,28 +103,6 @@ arc-here s next i ok h left =
     record { whole = omega arith; named = named; up = up; after = arcs-go 64 s next i h whole named up left }
 
 -- ---- arcs ascend
-
--- all names are below n
-abbrev pub NamesBelow : ℕ → List Arc → Type 0
-NamesBelow n [] = Unit {0}
-NamesBelow n (a ∷ arcs) = (a .name < n) × NamesBelow n arcs
-
-arcs-ascend : (f n next : ℕ) (t : List ℕ) → arcsOk f n next t ≡ true → Ascending next (arcsIn f t) × NamesBelow n (arcsIn f t)
-unfolding arcsOk arcsIn
-arcs-ascend zero n next t ok = (tt, tt)
-arcs-ascend (suc f) n next [] ok = (tt, tt)
-arcs-ascend (suc f) n next (a ∷ t) ok =
-    let p = and-eq-true-iff (leb 2 (length t)) ((ltb a n && leb next a) && arcsOk f n (suc a) (drop 2 t)) .0 ok in
-    let q = and-eq-true-iff (ltb a n && leb next a) (arcsOk f n (suc a) (drop 2 t)) .0 (p .1) in
-    let r = and-eq-true-iff (ltb a n) (leb next a) .0 (q .0) in
-    let more = arcs-ascend f n (suc a) (drop 2 t) (q .1) in
-    ((leb-true next a (r .1), more .0), (ltb-true a n (r .0), more .1))
-
--- a field that passed the test has ascending names, all below 64
-pub state-ascends : (s : List ℕ) → StateOk s → Ascending 0 (stateIn s .arcs) × NamesBelow 64 (stateIn s .arcs)
-unfolding stateOk stateIn
-state-ascends [] ok = (tt, tt)
-state-ascends (b ∷ s) ok = arcs-ascend (length s) 64 0 s (and-eq-true-iff (leb b 1) (arcsOk (length s) 64 0 s) .0 ok .1)
 
 pub left-ascends : (s : List ℕ) (next i : ℕ) → StateOk s → Left s next i → Ascending next (arcsFrom s i)
 unfolding arcsFrom

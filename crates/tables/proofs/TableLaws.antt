@@ -1,22 +1,19 @@
--- Tables as read: every state's field passed the reader's test; where each state's field stands; and the pass over the states,
--- from its begin over its turns to its answers. Assumes nothing.
+-- Tables as read: where each state's field stands, which passed the reader's test; and the pass over the states, from its begin
+-- over its turns to its answers. Assumes nothing.
 use mathlib.Core.Path.{_≡_, refl, sym, ap, _∙_, subst}
-use mathlib.Core.Logic.{⊎-elim}
-use mathlib.Core.Bool.{Bool, true, false, not, _&&_, true≢false, and-eq-true-iff}
-use mathlib.Core.List.{List, [], _∷_, _++_, map, List·Memᴰ as In, List·Memᴰ·head as here, List·Memᴰ·tail as there}
-use mathlib.Core.List.{List·Memᴰ·not-nil, List·Memᴰ·append-cases, List·Memᴰ·eq-of-singleton}
+use mathlib.Core.Bool.{Bool, true, false, not}
+use mathlib.Core.List.{List, [], _∷_, map, List·Memᴰ as In, List·Memᴰ·head as here, List·Memᴰ·tail as there}
 use Prim.Native.Nat.{ℕ, zero, suc, _+_, _≤_, _<_}
 use native.Mathlib.Numerals.{add-one}
 use native.Mathlib.Omega.{arith}
-use borrow.Author.Tests.{ltb-true, ltb-false, lt-ltb, eq-eqb, ne-eqb}
-use lib.Dec.{ltb, leb}
-use lib.ListN.{length, getD, drop, length-map, length-append, List·getD-map}
+use borrow.Author.Tests.{ltb-true, ltb-false, eq-eqb, ne-eqb}
+use lib.Dec.{ltb}
+use lib.ListN.{length, getD, drop, length-map, List·getD-map}
 use Rattle.model.specs.Limits.{when, firstOf, work-bytes}
-use Rattle.model.specs.Fields.{File, Read, unread, default-class, table, withField, arcsOk, stateOk, readFields, readWith}
+use Rattle.model.specs.Fields.{File, Read, default-class, table, readFields}
 use Rattle.model.specs.Tables.{State, no-state, stateIn, statesIn, metByArcs, metByStates, isFirstMet}
 use Rattle.model.specs.Calls.{tableOf, tableStates}
-use Rattle.model.proofs.FieldLaws.{Fitting, a-name, a-class, a-row, a-state, fitting}
-use Rattle.model.proofs.Turns.{read-keeps}
+use Rattle.model.proofs.TableBodies.{bodies-ok}
 use Rattle.fields.specs.Offsets.{bodyAt, nextAt, offsetAt, fieldsAt}
 use Rattle.fields.specs.Places.{ReadAs}
 use Rattle.fields.specs.declared.Place.{Place}
@@ -28,57 +25,6 @@ use Rattle.tables.specs.Arcs.{StateOk}
 use Rattle.tables.specs.Accepting.{readFault, TableRead, StateField, AcceptedAs}
 use Rattle.tables.specs.declared.Accepted.the-variants.{Table, Refused}
 use Rattle.tables.proofs.MetLaws.{states-stop, states-go, states-end, first-met-some}
-
--- ---- every state's field passed the test
-
-arcs-more : (f n m next : ℕ) (t : List ℕ) → n ≤ m → arcsOk f n next t ≡ true → arcsOk f m next t ≡ true
-unfolding arcsOk
-arcs-more zero n m next t h ok = refl
-arcs-more (suc f) n m next [] h ok = refl
-arcs-more (suc f) n m next (a ∷ t) h ok =
-    let p = and-eq-true-iff (leb 2 (length t)) ((ltb a n && leb next a) && arcsOk f n (suc a) (drop 2 t)) .0 ok in
-    let q = and-eq-true-iff (ltb a n && leb next a) (arcsOk f n (suc a) (drop 2 t)) .0 (p .1) in
-    let r = and-eq-true-iff (ltb a n) (leb next a) .0 (q .0) in
-    let low : a < m = omega (arith, ltb-true a n (r .0)) in
-    rw (p .0, lt-ltb a m low, r .1, arcs-more f n m (suc a) (drop 2 t) h (q .1))
-
--- a state over n names is one over more names
-state-more : (n m : ℕ) (s : List ℕ) → n ≤ m → stateOk n s ≡ true → stateOk m s ≡ true
-unfolding stateOk
-state-more n m [] h ok = ok
-state-more n m (b ∷ s) h ok =
-    let p = and-eq-true-iff (leb b 1) (arcsOk (length s) n 0 s) .0 ok in
-    rw (p .0, arcs-more (length s) n m 0 s h (p .1))
-
--- a table as read so far
-record Good (f : File) (rest : List ℕ) : Type 0 where
-  few : length (f .names) ≤ 64
-  bodies : (r : List ℕ) → In r (f .items) → StateOk r
-
-good-grows : (f : File) (mark : ℕ) (body more rest : List ℕ) → Fitting table f mark body → Good f more → Good (withField f mark body) rest
-unfolding withField
-good-grows f mark body more rest (a-name e low fits) g =
-    subst (λ (z : ℕ). Good (withField f z body) rest) (sym e)
-    (record { few = simp length-append (omega (arith, fits .few)); bodies = g .bodies })
-good-grows f mark body more rest (a-class e at fits) g =
-    subst (λ (z : ℕ). Good (withField f z body) rest) (sym e) (record { few = g .few; bodies = g .bodies })
-good-grows f mark body more rest (a-row k e high fits) g = absurd (true≢false k)
-good-grows f mark body more rest (a-state k e high fits) g =
-    subst (λ (z : ℕ). Good (withField f z body) rest) (sym e)
-    (record {
-      few = g .few;
-      bodies = λ r m.
-          ⊎-elim (λ n. g .bodies r n)
-          (λ n. subst StateOk (sym (List·Memᴰ·eq-of-singleton n)) (state-more (length (f .names)) 64 body (g .few) (fits .state-ok)))
-          (List·Memᴰ·append-cases (f .items) m);
-    })
-
-pub bodies-ok : (s : List ℕ) → readFields table s .number ≡ 0 → (r : List ℕ) → In r (tableOf s .items) → StateOk r
-unfolding tableOf readWith
-bodies-ok s ok =
-    read-keeps table Good
-    (λ f mark a b body rest size fit g. good-grows f mark body (mark ∷ (a ∷ (b ∷ (body ++ rest)))) rest (fitting table f mark body fit) g)
-    (suc (length s)) (unread default-class) s (record { few = omega arith; bodies = λ r m. absurd (List·Memᴰ·not-nil m) }) ok .1 .bodies
 
 -- ---- where each state's field stands
 

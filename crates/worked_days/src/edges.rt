@@ -1,6 +1,7 @@
 // Document 01's edges for books, one line each: what was tried, and the first line of the listing that it comes to.
 use libc::STDOUT_FILENO;
 use plans::limits::LISTING_BYTES;
+use plans::printing::print_book;
 use writing::copy_in;
 ghost use Prim.Native.Nat.{_≤_};
 ghost use Rattle.io.specs.Counts.{Counts};
@@ -13,7 +14,7 @@ const NAME: [u8; 8] = *b"\x01\x00\x05snack";
 
 const ROW: [u8; 4] = *b"\x03\x00\x01\x00";
 
-// Document 01's example book, whose table has 28 bytes.
+// Document 01's example book, whose table has 28 bytes and whose listing 41.
 const EXAMPLE: [u8; 19] = *b"\x01\x00\x05snack\x02\x00\x03\x00\x01\x01\x03\x00\x02\x00\x00";
 
 // What was tried, and what came of it.
@@ -37,13 +38,18 @@ fn line_end(text: &[u8]) -> usize
     i
 }
 
+// What was tried, and the first line of the text that came of it.
+fn say_line(tried: &[u8], text: &[u8]) {
+    let end = line_end(text);
+    say(tried, &text[..end]);
+}
+
 // A book listed.
 fn book(tried: &[u8], bytes: &[u8]) {
     let mut work = io::large_buffer();
     let mut text = [0u8; LISTING_BYTES];
-    plans::list_book(bytes, &mut work, &mut text);
-    let end = line_end(&text);
-    say(tried, &text[..end]);
+    let length = print_book(bytes, &mut work, &mut text);
+    say_line(tried, &text[..length]);
 }
 
 // The book that stands before `end`.
@@ -132,13 +138,17 @@ fn build(tried: &[u8], work: &mut [u8], out: &mut [u8]) {
     count(tried, b"refused ", built.number as u64);
 }
 
-// The example listed with what is lent: how many bytes were written.
-fn list(tried: &[u8], work: &mut [u8], text: &mut [u8]) {
-    let length = plans::list_book(&EXAMPLE, work, text);
-    count(tried, b"bytes ", length as u64);
+// A book listed with what is lent: the refusal's number, or how many bytes were written.
+fn list(tried: &[u8], bytes: &[u8], work: &mut [u8], text: &mut [u8]) {
+    let listed = plans::list_book(bytes, work, text);
+    if listed.refusal != 0 {
+        count(tried, b"refused ", listed.refusal as u64);
+    } else {
+        count(tried, b"bytes ", listed.length as u64);
+    }
 }
 
-// What is lent: 1 and 13; and a listing that is not written.
+// What is lent: 1 and 13.
 pub fn lent() {
     let long = io::large_buffer();
     book(b"an input of 65,536 bytes", &long);
@@ -156,14 +166,42 @@ pub fn lent() {
         &mut work,
         &mut few,
     );
+}
+
+// The same of listings; and that a refused one leaves the text as it was.
+pub fn listings() {
+    let mut work = io::large_buffer();
+    let mut short = io::buffer();
     let mut text = [0u8; LISTING_BYTES];
-    list(b"a listing with enough lent", &mut work, &mut text);
+    list(
+        b"a listing with enough lent",
+        &EXAMPLE,
+        &mut work,
+        &mut text,
+    );
     list(
         b"a listing with a working area of 4,096 bytes",
+        &EXAMPLE,
         &mut short,
         &mut text,
     );
-    list(b"a listing with a text of 4,096 bytes", &mut work, &mut out);
+    let mut just = [0u8; 41];
+    list(
+        b"a listing with a text just as long",
+        &EXAMPLE,
+        &mut work,
+        &mut just,
+    );
+    let mut few = [0u8; 40];
+    list(
+        b"a listing with a text one byte shorter",
+        &EXAMPLE,
+        &mut work,
+        &mut few,
+    );
+    let mut kept = *b"as it was\n";
+    list(b"a listing of an empty book", b"", &mut work, &mut kept);
+    say(b"its text afterwards", &kept);
 }
 
 // The refusals of fields that short books show: 2 to 6.

@@ -5,8 +5,9 @@ mod edges;
 
 use libc::STDOUT_FILENO;
 use plans::limits::LISTING_BYTES;
+use plans::printing::print_book;
 
-// Document 01's days and its example, and two days more. One more is a file in data/ and a line here.
+// Document 01's days and its example, and three days more. One more is a file in data/ and a line here.
 fn days() {
     day(b"P1.book");
     day(b"P2.book");
@@ -22,6 +23,7 @@ fn days() {
     day(b"P12.book");
     day(b"Q1.book");
     day(b"Q2.book");
+    day(b"Q3.book");
     day(b"example.book");
 }
 
@@ -55,7 +57,7 @@ fn day(name: &[u8]) {
 fn list(book: &[u8]) {
     let mut work = io::large_buffer();
     let mut text = [0u8; LISTING_BYTES];
-    let length = plans::list_book(book, &mut work, &mut text);
+    let length = print_book(book, &mut work, &mut text);
     io::write_all(STDOUT_FILENO, &text[..length]);
 }
 
@@ -63,6 +65,7 @@ fn main() {
     days();
     sources();
     edges::lent();
+    edges::listings();
     edges::fields();
     edges::names();
     edges::classes();

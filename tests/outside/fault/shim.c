@@ -2,7 +2,7 @@
  * real_plans_... there, and one byte or number made wrong. -DFAULT=... says which. */
 #include "plans.h"
 
-enum { NONE, TABLE_BYTE, LARGE_TABLE, BEYOND_TABLE, WORK_BYTE, REFUSAL, REWRITTEN_BYTE, NEXT_NAMES };
+enum { NONE, TABLE_BYTE, LARGE_TABLE, BEYOND_TABLE, WORK_BYTE, REFUSAL, REWRITTEN_BYTE, NEXT_NAMES, LISTING_BYTE, TEXT_TOUCHED };
 
 plans_built real_plans_build(const uint8_t *book, size_t book_len,
                              uint8_t *work, size_t work_len,
@@ -13,6 +13,9 @@ plans_built real_plans_rewrite(const uint8_t *table, size_t table_len,
 plans_walked real_plans_walk(const uint8_t *table, size_t table_len,
                              const uint8_t *row, size_t row_len,
                              uint8_t *work, size_t work_len);
+plans_written real_plans_list(const uint8_t *book, size_t book_len,
+                              uint8_t *work, size_t work_len,
+                              uint8_t *text, size_t text_len);
 
 plans_built plans_build(const uint8_t *book, size_t book_len,
                         uint8_t *work, size_t work_len,
@@ -53,4 +56,17 @@ plans_walked plans_walk(const uint8_t *table, size_t table_len,
     if (FAULT == NEXT_NAMES)
         walked.names &= ~(UINT64_C(1) << 63);
     return walked;
+}
+
+plans_written plans_list(const uint8_t *book, size_t book_len,
+                         uint8_t *work, size_t work_len,
+                         uint8_t *text, size_t text_len)
+{
+    plans_written written = real_plans_list(book, book_len, work, work_len, text, text_len);
+
+    if (FAULT == LISTING_BYTE && written.refusal == PLANS_OK)
+        text[written.length - 1] ^= 1;
+    if (FAULT == TEXT_TOUCHED && written.refusal == PLANS_OUTPUT_TOO_SHORT && text_len > 0)
+        text[0] ^= 1;
+    return written;
 }

@@ -2,7 +2,8 @@
 
 use crate::buffers::{Buffer, Noise};
 use crate::counts::Counts;
-use crate::library::{plans_build, plans_rewrite, plans_walk, Built, TableCall, Walked};
+use crate::library::{plans_build, plans_list, plans_rewrite, plans_walk, Built, Call, Walked, Written};
+use reference::listing::list;
 use reference::random::Random;
 use reference::refusal::Refusal;
 use reference::walk::walk;
@@ -42,7 +43,7 @@ pub enum Task {
 }
 
 impl Task {
-    fn call(self) -> (&'static str, TableCall) {
+    fn call(self) -> (&'static str, Call<Built>) {
         match self {
             Task::Build => ("plans_build", plans_build),
             Task::Rewrite => ("plans_rewrite", plans_rewrite),
@@ -87,6 +88,36 @@ impl Run {
             Task::Rewrite => reference::rewrite(input, lent),
         };
         let (name, call) = task.call();
+        let bytes = expected.as_ref().map_or(&[][..], |built| &built.bytes);
+        let wrong = self.call_lent(call, &built_of(&expected), bytes, input, lent);
+        self.counts.count_built(&expected);
+        wrong.map_or(Ok(expected.ok()), |wrong| Err(Mismatch::new(name, wrong, &[("input", input)])))
+    }
+
+    /// A listing with buffers that are long enough. Gives back the text that both gave, none where both refused.
+    pub fn compare_list(&mut self, book: &[u8]) -> Result<Option<Vec<u8>>, Mismatch> {
+        self.compare_list_lent(book, Lent { work: WORK_BYTES, output: INPUT_LIMIT })
+    }
+
+    /// The same with buffers of the given lengths.
+    pub fn compare_list_lent(&mut self, book: &[u8], lent: Lent) -> Result<Option<Vec<u8>>, Mismatch> {
+        let expected = list(book, lent, &mut self.random);
+        let text = expected.as_deref().unwrap_or(&[]);
+        let wrong = self.call_lent(plans_list, &written_of(&expected), text, book, lent);
+        self.counts.count_listed(&expected);
+        wrong.map_or(Ok(expected.ok()), |wrong| Err(Mismatch::new("plans_list", wrong, &[("input", book)])))
+    }
+
+    /// A call with buffers of the given lengths: what is wrong with what it returns, with the bytes that it is to write at the
+    /// output's front, or with any other lent byte.
+    fn call_lent<R: PartialEq + Debug>(
+        &mut self,
+        call: Call<R>,
+        expected: &R,
+        written: &[u8],
+        input: &[u8],
+        lent: Lent,
+    ) -> Option<String> {
         let before = self.noise.part(lent.output, &mut self.random);
         self.input.lend(input, &mut self.random);
         self.work.lend(self.noise.part(lent.work, &mut self.random), &mut self.random);
@@ -94,20 +125,12 @@ impl Run {
         let (input_at, work_at, output_at) = (self.input.pointer(), self.work.pointer(), self.output.pointer());
         // SAFETY: three buffers that do not overlap, each of the length passed
         let given = unsafe { call(input_at, self.input.len(), work_at, self.work.len(), output_at, self.output.len()) };
-        let table = expected.as_ref().map_or(&[][..], |built| &built.bytes);
-        let (front, beyond) = self.output.content().split_at(table.len());
-        let wrong = difference(&built_of(&expected), &given)
-            .or_else(|| says(front != table, "the output's front is not the table"))
-            .or_else(|| says(beyond != &before[table.len()..], "the output was altered where it is to stay as it was"))
-            .or_else(|| self.buffers_after(input, &[]));
-        self.counts.count_built(&expected);
-        match wrong {
-            Some(wrong) => {
-                let lengths = format!("{wrong} (working area {} bytes, output {} bytes)", lent.work, lent.output);
-                Err(Mismatch::new(name, lengths, &[("input", input)]))
-            }
-            None => Ok(expected.ok()),
-        }
+        let (front, beyond) = self.output.content().split_at(written.len());
+        difference(expected, &given)
+            .or_else(|| says(front != written, "the output's front is not what is to be written"))
+            .or_else(|| says(beyond != &before[written.len()..], "the output was altered where it is to stay as it was"))
+            .or_else(|| self.buffers_after(input, &[]))
+            .map(|wrong| format!("{wrong} (working area {} bytes, output {} bytes)", lent.work, lent.output))
     }
 
     /// A walk with a working area of the least length. Gives back what the library gave.
@@ -163,6 +186,13 @@ fn built_of(expected: &Result<reference::Built, Refusal>) -> Built {
             Built { number: 0, length: built.bytes.len() as u32, states: built.states as u32, joins: built.joins as u32 }
         }
         Err(refusal) => Built { number: refusal.number(), length: 0, states: 0, joins: 0 },
+    }
+}
+
+fn written_of(expected: &Result<Vec<u8>, Refusal>) -> Written {
+    match expected {
+        Ok(text) => Written { refusal: 0, length: text.len() as u32 },
+        Err(refusal) => Written { refusal: refusal.number(), length: 0 },
     }
 }
 

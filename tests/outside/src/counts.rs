@@ -35,6 +35,11 @@ impl Counts {
         }
     }
 
+    pub fn count_listed(&mut self, listed: &Result<Vec<u8>, Refusal>) {
+        self.inputs += 1;
+        self.refused[listed.as_ref().map_or_else(|refusal| usize::from(refusal.number()), |_| 0)] += 1;
+    }
+
     pub fn count_walked(&mut self, walked: &Result<Walked, Refusal>) {
         self.inputs += 1;
         match walked {

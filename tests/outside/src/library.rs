@@ -19,8 +19,16 @@ pub struct Walked {
     pub names: u64,
 }
 
-/// `plans_build` and `plans_rewrite` have the same arguments: input, working area and output, each by pointer and length.
-pub type TableCall = unsafe extern "C" fn(*const u8, usize, *mut u8, usize, *mut u8, usize) -> Built;
+#[repr(C)]
+#[derive(Clone, Copy, Debug, PartialEq, Eq)]
+pub struct Written {
+    pub refusal: u8,
+    pub length: u32,
+}
+
+/// `plans_build`, `plans_rewrite` and `plans_list` have the same arguments: input, working area and output, each by pointer and
+/// length.
+pub type Call<R> = unsafe extern "C" fn(*const u8, usize, *mut u8, usize, *mut u8, usize) -> R;
 
 extern "C" {
     pub fn plans_build(book: *const u8, book_len: usize, work: *mut u8, work_len: usize, out: *mut u8, out_len: usize) -> Built;
@@ -42,4 +50,6 @@ extern "C" {
         work: *mut u8,
         work_len: usize,
     ) -> Walked;
+
+    pub fn plans_list(book: *const u8, book_len: usize, work: *mut u8, work_len: usize, text: *mut u8, text_len: usize) -> Written;
 }

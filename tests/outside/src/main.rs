@@ -1,4 +1,4 @@
-//! Compares plans_build, plans_rewrite and plans_walk of the static library with the reference, over generated inputs. The same
+//! Compares plans_build, plans_rewrite, plans_walk and plans_list of the static library with the reference, over generated inputs. The same
 //! seed and count give the same inputs; --seconds goes on with fresh seeds. A mismatch names its seed: --seed gives it again. The
 //! last line is `N passed, M failed`, N and M counting kinds of checks.
 

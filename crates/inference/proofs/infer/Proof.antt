@@ -8,8 +8,9 @@ use lib.Seq.{length-take-le}
 use borrow.Author.Needs.{needs}
 use Rattle.model.specs.Limits.{state-limit, work-bytes}
 use Rattle.model.specs.Classes.{Word}
+use Rattle.model.specs.Joinings.{treeOf}
 use Rattle.fields.specs.Places.{fileOf}
-use Rattle.prefix_tree.specs.Growth.{Store, store, TreeBuilt, TreeTooLarge, BuiltOf}
+use Rattle.prefix_tree.specs.Growth.{Store, store, treeFault, numberOf, countOf, TreeBuilt}
 use Rattle.prefix_tree.specs.declared.Tree.{Tree}
 use Rattle.inference.specs.Books.{rowsAt}
 use Rattle.inference.specs.Results.{Gives}
@@ -36,7 +37,9 @@ abbrev rows : tie.Start → List Word
 rows c = rowsAt (c .args .book .now) (c .args .place)
 
 built : (c : tie.After-tree) → TreeBuilt (rows (start (grown c))) (left c) (c .tree .given .0 .0)
-built c = subst (λ (r : Tree). BuiltOf (rows (start (grown c))) (left c) r) (c .tree .given .1) (grown c .add-rows .ensures .built)
+built c =
+    subst (λ (r : Tree). numberOf r ≡ 0 → TreeBuilt (rows (start (grown c))) (left c) (countOf r)) (c .tree .given .1)
+    (grown c .add-rows .ensures .built) refl
 
 parents-room : (c : tie.After-tree) → c .tree .given .0 .0 ≤ length (left c .parents)
 parents-room c =
@@ -121,11 +124,9 @@ returns c =
     let at = start after in
     let book = fileOf (at .args .book .now) (at .args .place) in
     let out = at .args .out .now in
-    let last = after .add-rows .last .1 .1 .1 in
-    let large : TreeTooLarge (rows at) =
-    subst (λ (r : Tree). BuiltOf (rows at) (store (last .0) (last .1 .0) (last .1 .1 .0) (last .1 .1 .1 .0)) r)
-    (c .before .enum-told .given .1) (after .add-rows .ensures .built) in
-    subst (λ (r : Inferred). Gives book out out r) (sym (c .refused .ensures)) (gives-too-large book out (large .over))
+    let large =
+    subst (λ (r : Tree). numberOf r ≡ treeFault (treeOf (rows at))) (c .before .enum-told .given .1) (after .add-rows .ensures .number) in
+    subst (λ (r : Inferred). Gives book out out r) (sym (c .refused .ensures)) (gives-too-large book out large)
 
 same-length-2 : tie.Need-same-length-2
 same-length-2 c = search needs

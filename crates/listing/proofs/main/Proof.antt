@@ -1,7 +1,7 @@
 -- `main` meets its contract: what is printed lies within the text. Assumes nothing.
 use mathlib.Core.Path.{sym}
 use lib.Seq.{length-take-le}
-use Rattle.plans.proofs.ListLaws.{listing-within}
+use Rattle.plans.proofs.PrintLaws.{printed-within}
 use borrow.Author.Needs.{needs}
 use Rattle.listing.proofs.main.Statement.{statement}
 use Rattle.listing.proofs.main.Tie as tie
@@ -21,25 +21,19 @@ large-buffer-requires-2 c κs = search needs
 array-share-prefix-book : tie.Need-array-share-prefix-book
 array-share-prefix-book c = search needs
 
-slice-aggregate-list-book : tie.Need-slice-aggregate-list-book
-slice-aggregate-list-book c = search needs
+slice-aggregate-print-book : tie.Need-slice-aggregate-print-book
+slice-aggregate-print-book c = search needs
 
-slice-aggregate-list-book-2 : tie.Need-slice-aggregate-list-book-2
-slice-aggregate-list-book-2 c = search needs
-
-slice-aggregate-list-book-3 : tie.Need-slice-aggregate-list-book-3
-slice-aggregate-list-book-3 c = search needs
-
-list-book-requires : tie.Need-list-book-requires
-list-book-requires c κs = search needs
+print-book-requires : tie.Need-print-book-requires
+print-book-requires c κs = search needs
 
 array-share-prefix-text : tie.Need-array-share-prefix-text
-array-share-prefix-text c = listing-within (c .before .before .list-book .ensures)
+array-share-prefix-text c = printed-within (c .print-book .ensures)
 
 slice-aggregate-write-all : tie.Need-slice-aggregate-write-all
 slice-aggregate-write-all c =
-    let listed = c .before .before .before .list-book in
-    sym (length-take-le (listed .result) (listed .last .1 .1 .0) (listing-within (listed .ensures)))
+    let listed = c .before .print-book in
+    sym (length-take-le (listed .result) (listed .last .1 .1 .0) (printed-within (listed .ensures)))
 
 write-all-requires : tie.Need-write-all-requires
 write-all-requires c κs = search needs
@@ -56,10 +50,8 @@ main-spec =
     read-full-requires
     large-buffer-requires-2
     array-share-prefix-book
-    slice-aggregate-list-book
-    slice-aggregate-list-book-2
-    slice-aggregate-list-book-3
-    list-book-requires
+    slice-aggregate-print-book
+    print-book-requires
     array-share-prefix-text
     slice-aggregate-write-all
     write-all-requires

@@ -1,10 +1,11 @@
 -- `add_row` meets its contract. The loop's invariant: the first i entries are walked; what is left of the row falls. Assumes nothing.
 use mathlib.Core.Path.{_≡_, sym, _∙_, subst}
+use mathlib.Core.List.{List}
 use Prim.Native.Nat.{ℕ, _-_}
 use native.Mathlib.Omega.{arith}
 use borrow.Author.Needs.{needs}
-use lib.ListN.{length, getD, length-set}
-use Rattle.prefix_tree.specs.Growth.{Store, store, Sized, StepOf}
+use lib.ListN.{length, getD}
+use Rattle.prefix_tree.specs.Growth.{Store, store, Sized, StepOf, RowAdded}
 use Rattle.prefix_tree.specs.declared.Went.{Went}
 use Rattle.prefix_tree.proofs.StepLaws.{Walking, sized-kept, walking-begins, walking-goes, walking-full, walking-ends}
 use Rattle.prefix_tree.proofs.add_row.Statement.{statement}
@@ -18,7 +19,7 @@ abbrev μ-loop : tie.MeasureT-loop
 μ-loop row parents₀ names₀ accepts₀ work₀ count n₀ state₀ i₀ parents names accepts work n state i =
     length row - i
 
--- places on the way: the entry, the loop's turn, and the two ends of the step's call
+-- places on the way: the entry, the loop's turn, the two ends of the step's call, and the loop's end
 abbrev start : tie.At-loop Inv-loop μ-loop → tie.Start Inv-loop μ-loop
 start c = c .before .before .before .before .before .before
 
@@ -30,6 +31,9 @@ stopped c = c .before .before .before .before .before .before .before .before .b
 
 abbrev moved : tie.After-known-told Inv-loop μ-loop → tie.After-step Inv-loop μ-loop
 moved c = c .before .before .before .before .before .before .before .before .before .before .before
+
+abbrev ended : tie.After-slice-known9 Inv-loop μ-loop → tie.At-loop Inv-loop μ-loop
+ended c = c .before .before .before .before .before
 
 -- the arrays as they came, at a turn, and as the step left them
 abbrev lent : tie.At-loop Inv-loop μ-loop → Store
@@ -128,29 +132,32 @@ loop-again c =
     (left-sized after)
     (after .step .kept .1 .1 .1 .0)
 
-slice-write-accepts : tie.Need-slice-write-accepts Inv-loop μ-loop
-slice-write-accepts c =
-    let inv = c .before .loop .inv in
+mark-requires : tie.Need-mark-requires Inv-loop μ-loop
+mark-requires c κs =
+    let inv = c .before .before .loop .inv in
     omega (arith, inv .low, inv .few, inv .sizes .accepts-size)
 
 same-length-5 : tie.Need-same-length-5 Inv-loop μ-loop
-same-length-5 c = c .before .loop .inv .sizes .parents-size ∙ sym (start (c .before) .pre .1 .parents-size)
+same-length-5 c = ended c .loop .inv .sizes .parents-size ∙ sym (start (ended c) .pre .1 .parents-size)
 
 same-length-6 : tie.Need-same-length-6 Inv-loop μ-loop
-same-length-6 c = c .before .loop .inv .sizes .names-size ∙ sym (start (c .before) .pre .1 .names-size)
+same-length-6 c = ended c .loop .inv .sizes .names-size ∙ sym (start (ended c) .pre .1 .names-size)
 
 same-length-7 : tie.Need-same-length-7 Inv-loop μ-loop
-same-length-7 c = simp length-set (c .before .loop .inv .sizes .accepts-size ∙ sym (start (c .before) .pre .1 .accepts-size))
+same-length-7 c =
+    c .before .before .mark .kept .0 ∙ ended c .loop .inv .sizes .accepts-size ∙ sym (start (ended c) .pre .1 .accepts-size)
 
 same-length-8 : tie.Need-same-length-8 Inv-loop μ-loop
-same-length-8 c = c .before .loop .inv .work-kept
+same-length-8 c = ended c .loop .inv .work-kept
 
 returns-2 : tie.Need-returns-2 Inv-loop μ-loop
 returns-2 c =
-    let at = c .before in
-    walking-ends (start at .args .row .now) (start at .args .count) (lent at) (held at) (at .loop .n) (at .loop .state) (at .loop .i)
-    (at .loop .inv)
-    (omega arith)
+    let at = ended c in
+    let row = start at .args .row .now in
+    let count = start at .args .count in
+    subst (λ (a : List ℕ). RowAdded row count (lent at) (store (held at .parents) (held at .names) a (held at .work)) (at .loop .n))
+    (sym (c .before .before .mark .ensures))
+    (walking-ends row count (lent at) (held at) (at .loop .n) (at .loop .state) (at .loop .i) (at .loop .inv) (omega arith))
 
 pub add-row-spec : {M : Type 1} → statement M
 add-row-spec =
@@ -171,7 +178,7 @@ add-row-spec =
     add-i
     loop-less
     loop-again
-    slice-write-accepts
+    mark-requires
     same-length-5
     same-length-6
     same-length-7

@@ -10,7 +10,7 @@ use Rattle.fields.specs.Offsets.{bodyAt, nextAt, fieldsAt}
 use Rattle.prefix_tree.specs.Growth.{Store, store, Sized, RowBelow, RowOf}
 use Rattle.prefix_tree.specs.declared.Added.{Added}
 use Rattle.prefix_tree.proofs.StepLaws.{Adding, sized-kept, adding-begins, adding-fits, adding-below, adding-goes, adding-full}
-use Rattle.prefix_tree.proofs.StepLaws.{adding-ends, tree-answer}
+use Rattle.prefix_tree.proofs.StepLaws.{adding-ends, built-number, tree-answer}
 use Rattle.prefix_tree.proofs.add_rows.Statement.{statement}
 use Rattle.prefix_tree.proofs.add_rows.Tie as tie
 
@@ -148,6 +148,7 @@ returns c =
     (at .loop .inv)
     (omega arith)
     (rowed after _ (c .enum-told .given .1)))
+    (λ none. absurd (omega (arith, none)))
     (start at .pre .1 .1)
     (left-sized after)
     (work-kept after)
@@ -194,10 +195,11 @@ returns-2 : tie.Need-returns-2 Inv-loop μ-loop
 returns-2 c =
     let at = c .before in
     let args = start at .args in
-    tree-answer (rows at) (lent at) (held at) _
-    (adding-ends (args .book .now) (args .start) (args .items) (args .work .now) (held at) (at .loop .n) (at .loop .at) (at .loop .i)
+    let built =
+    adding-ends (args .book .now) (args .start) (args .items) (args .work .now) (held at) (at .loop .n) (at .loop .at) (at .loop .i)
     (at .loop .inv)
-    (omega arith))
+    (omega arith) in
+    tree-answer (rows at) (lent at) (held at) _ (built-number (rows at) (held at) (at .loop .n) built) (λ none. built)
     (start at .pre .1 .1)
     (at .loop .inv .sizes)
     (at .loop .inv .work-kept)

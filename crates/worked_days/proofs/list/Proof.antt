@@ -1,7 +1,7 @@
 -- `list` meets its contract: what is printed lies within the text. Assumes nothing.
 use mathlib.Core.Path.{sym}
 use lib.Seq.{length-take-le}
-use Rattle.plans.proofs.ListLaws.{listing-within}
+use Rattle.plans.proofs.PrintLaws.{printed-within}
 use borrow.Author.Needs.{needs}
 use Rattle.worked_days.proofs.list.Statement.{statement}
 use Rattle.worked_days.proofs.list.Tie as tie
@@ -9,22 +9,16 @@ use Rattle.worked_days.proofs.list.Tie as tie
 large-buffer-requires : tie.Need-large-buffer-requires
 large-buffer-requires c κs = search needs
 
-slice-aggregate-list-book : tie.Need-slice-aggregate-list-book
-slice-aggregate-list-book c = search needs
-
-slice-aggregate-list-book-2 : tie.Need-slice-aggregate-list-book-2
-slice-aggregate-list-book-2 c = search needs
-
-list-book-requires : tie.Need-list-book-requires
-list-book-requires c κs = search needs
+print-book-requires : tie.Need-print-book-requires
+print-book-requires c κs = search needs
 
 array-share-prefix-text : tie.Need-array-share-prefix-text
-array-share-prefix-text c = listing-within (c .before .before .list-book .ensures)
+array-share-prefix-text c = printed-within (c .print-book .ensures)
 
 slice-aggregate-write-all : tie.Need-slice-aggregate-write-all
 slice-aggregate-write-all c =
-    let listed = c .before .before .before .list-book in
-    sym (length-take-le (listed .result) (listed .last .1 .1 .0) (listing-within (listed .ensures)))
+    let listed = c .before .print-book in
+    sym (length-take-le (listed .result) (listed .last .1 .1 .0) (printed-within (listed .ensures)))
 
 write-all-requires : tie.Need-write-all-requires
 write-all-requires c κs = search needs
@@ -37,9 +31,7 @@ list-spec =
     tie.close
     (tie.spec
     large-buffer-requires
-    slice-aggregate-list-book
-    slice-aggregate-list-book-2
-    list-book-requires
+    print-book-requires
     array-share-prefix-text
     slice-aggregate-write-all
     write-all-requires

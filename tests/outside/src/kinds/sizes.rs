@@ -69,6 +69,7 @@ pub fn longest_inputs(run: &mut Run) -> Result<(), Mismatch> {
     }
     for input in inputs {
         run.compare(Task::Build, &input)?;
+        run.compare_list(&input)?;
         run.compare(Task::Rewrite, &input)?;
         run.compare_walk(&input, &[0, 1, 2])?;
     }

@@ -1,7 +1,8 @@
 use super::{built, ENOUGH};
-use crate::listing::listing;
+use crate::listing::{list, listing};
 use crate::random::Random;
-use crate::{rewrite, Built};
+use crate::refusal::Refusal;
+use crate::{rewrite, Built, Lent};
 
 const BOOK: &str = "01 00 05 73 6E 61 63 6B 02 00 03 00 01 01 03 00 02 00 00";
 const TABLE: &str = "01 00 05 73 6E 61 63 6B 02 00 03 00 01 01 04 00 04 00 00 00 01 04 00 04 01 00 00 01";
@@ -24,6 +25,13 @@ fn the_example_table_is_rewritten() {
 fn the_example_book_is_listed() {
     let text = listing(&bytes(BOOK), &mut Random::new(1));
     assert_eq!(text, b"states 2 joins 1\n0 - snack>1\n1 + snack>1\n");
+}
+
+#[test]
+fn a_text_as_long_as_the_listing_passes_and_one_shorter_gives_13() {
+    let list_in = |output| list(&bytes(BOOK), Lent { output, ..ENOUGH }, &mut Random::new(1)).map(|text| text.len());
+    assert_eq!(list_in(41), Ok(41));
+    assert_eq!(list_in(40), Err(Refusal::OutputTooShort));
 }
 
 #[test]

@@ -9,7 +9,6 @@ use Rattle.indexed.specs.Passes.{SeenSets}
 use Rattle.indexed.proofs.Fills.{Filled, filled-more}
 use Rattle.functions.specs.Parts.{KeyAt}
 use Rattle.functions.proofs.FillLaws.{keys-root, keys-all}
-use Rattle.functions.proofs.KeyLaws.{key-arc}
 use Rattle.functions.proofs.keys.seen_keys.Statement.{statement}
 use Rattle.functions.proofs.keys.seen_keys.Tie as tie
 
@@ -54,8 +53,8 @@ loop-holds c =
           (omega (arith, at .pre .1 .1)),
     )
 
-added-at-requires : tie.Need-added-at-requires Inv-loop μ-loop
-added-at-requires c κs =
+keys-at-requires : tie.Need-keys-at-requires Inv-loop μ-loop
+keys-at-requires c κs =
     let here = c .before in
     let at = start here in
     let size = at .pre .1 .0 .size in (
@@ -71,69 +70,39 @@ added-at-requires c κs =
 inside : (c : tie.In-loop Inv-loop μ-loop) → c .before .loop .v < length (start (c .before) .args .enlarging .now)
 inside c = omega (arith, c .before .loop .inv .2 .size, sizes (start (c .before)) .0)
 
-shared-slice-read-key-where : tie.Need-shared-slice-read-key-where Inv-loop μ-loop
-shared-slice-read-key-where c =
-    let turn = c .before .before in
-    omega (arith, inside turn, start (turn .before) .pre .0 .names-size)
-
-key-where-requires : tie.Need-key-where-requires Inv-loop μ-loop
-key-where-requires c κs =
-    let added = c .before in
-    let turn = added .before in
-    let here = turn .before in
-    (start here .pre .0 .name-below (here .loop .v) (here .loop .inv .0) (inside turn), added .added-at .ensures .name)
-
 slice-write-enlarging-2 : tie.Need-slice-write-enlarging-2 Inv-loop μ-loop
 slice-write-enlarging-2 c = omega arith
 
-shared-slice-read-key-where-2 : tie.Need-shared-slice-read-key-where-2 Inv-loop μ-loop
-shared-slice-read-key-where-2 c =
-    let turn = c .before .before .before .before in
-    omega (arith, inside turn, start (turn .before) .pre .0 .names-size)
-
-key-where-requires-2 : tie.Need-key-where-requires-2 Inv-loop μ-loop
-key-where-requires-2 c κs =
-    let added = c .before .before .before in
-    let turn = added .before in
-    let here = turn .before in
-    (start here .pre .0 .name-below (here .loop .v) (here .loop .inv .0) (inside turn), added .added-at .ensures .name)
-
 slice-write-others-2 : tie.Need-slice-write-others-2 Inv-loop μ-loop
 slice-write-others-2 c =
-    let turn = c .before .before .before .before .before in
+    let turn = c .before in
     omega (arith, inside turn, turn .before .loop .inv .3 .size, sizes (start (turn .before)) .1)
 
 add-v : tie.Need-add-v Inv-loop μ-loop
 add-v c =
-    let turn = c .before .before .before .before .before in
+    let turn = c .before in
     omega (arith, inside turn, start (turn .before) .pre .0 .few-states)
 
 loop-less : tie.Need-loop-less Inv-loop μ-loop
 loop-less c =
-    let turn = c .before .before .before .before .before in
+    let turn = c .before in
     omega (arith, inside turn, sizes (start (turn .before)) .0)
 
 loop-again : tie.Need-loop-again Inv-loop μ-loop
 loop-again c =
-    let first = c .before .before in
-    let added = first .before .before in
-    let turn = added .before in
+    let turn = c .before in
     let here = turn .before in
     let at = start here in
     let args = at .args in
     let v = here .loop .v in (
       omega arith,
       omega (arith, inside turn, sizes at .0),
-      filled-more (KeyAt true (args .parents .now) (args .names .now) (args .seen .now)) v (first .key-where .result)
+      filled-more (KeyAt true (args .parents .now) (args .names .now) (args .seen .now)) v (c .keys-at .result .enlarging)
           (set (args .enlarging .now) 0 64) (here .loop .enlarging) (omega (arith, inside turn, sizes at .0))
-          (key-arc true (args .parents .now) (args .names .now) (args .seen .now) v (added .added-at .result)
-          (first .key-where .result) (here .loop .inv .0) (added .added-at .ensures) (first .key-where .ensures))
-          (here .loop .inv .2),
-      filled-more (KeyAt false (args .parents .now) (args .names .now) (args .seen .now)) v (c .key-where2 .result)
+          (c .keys-at .ensures .0) (here .loop .inv .2),
+      filled-more (KeyAt false (args .parents .now) (args .names .now) (args .seen .now)) v (c .keys-at .result .others)
           (set (args .others .now) 0 64) (here .loop .others) (omega (arith, inside turn, sizes at .1))
-          (key-arc false (args .parents .now) (args .names .now) (args .seen .now) v (added .added-at .result)
-          (c .key-where2 .result) (here .loop .inv .0) (added .added-at .ensures) (c .key-where2 .ensures))
-          (here .loop .inv .3),
+          (c .keys-at .ensures .1) (here .loop .inv .3),
     )
 
 same-length : tie.Need-same-length Inv-loop μ-loop
@@ -171,12 +140,8 @@ seen-keys-spec =
     slice-write-enlarging
     slice-write-others
     loop-holds
-    added-at-requires
-    shared-slice-read-key-where
-    key-where-requires
+    keys-at-requires
     slice-write-enlarging-2
-    shared-slice-read-key-where-2
-    key-where-requires-2
     slice-write-others-2
     add-v
     loop-less

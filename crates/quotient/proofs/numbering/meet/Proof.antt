@@ -1,10 +1,9 @@
--- `numbering::meet` meets its contract: what is left of the set is still to be met, and the rest of it is counted. Assumes nothing.
+-- `numbering::meet` meets its contract: what is left of the set is still to be met. Assumes nothing.
 use borrow.Author.Needs.{needs}
 use mathlib.Core.Path.{_≡_, refl, _∙_}
 use mathlib.Core.List.{List}
-use Prim.Native.Nat.{ℕ, suc, _+_, _-_, _^_, _<_, _≤_}
+use Prim.Native.Nat.{ℕ, _^_, _<_, _≤_}
 use native.Mathlib.Omega.{arith}
-use lib.Count.{ones, ones-le}
 use lib.ListN.{length}
 use Rattle.quotient.specs.Numbered.{Meeting}
 use Rattle.quotient.proofs.MetLaws.{meeting-name, meeting-more, meeting-done}
@@ -12,19 +11,19 @@ use Rattle.quotient.proofs.numbering.meet.Statement.{statement}
 use Rattle.quotient.proofs.numbering.meet.Tie as tie
 
 abbrev Inv-loop : tie.InvT-loop
-Inv-loop work row names met₀ numbers₀ count left₀ reached₀ arcs₀ met numbers left reached arcs =
-    (length met ≡ length met₀) × ((length numbers ≡ length numbers₀) × ((arcs + ones left ≡ ones names)
-    × ((n : ℕ) (after : List ℕ) → Meeting n work row names met₀ numbers₀ count after → Meeting n work row left met numbers reached after)))
+Inv-loop work row names met₀ numbers₀ count left₀ reached₀ met numbers left reached =
+    (length met ≡ length met₀) × ((length numbers ≡ length numbers₀)
+    × ((n : ℕ) (after : List ℕ) → Meeting n work row names met₀ numbers₀ count after → Meeting n work row left met numbers reached after))
 
 abbrev μ-loop : tie.MeasureT-loop
-μ-loop work row names met₀ numbers₀ count left₀ reached₀ arcs₀ met numbers left reached arcs = left
+μ-loop work row names met₀ numbers₀ count left₀ reached₀ met numbers left reached = left
 
 -- the function's entry, from the loop's head
 abbrev entry : tie.At-loop Inv-loop μ-loop → tie.Start Inv-loop μ-loop
 entry c = c .before .before .before .before
 
 loop-holds : tie.Need-loop-holds Inv-loop μ-loop
-loop-holds c = (refl, (refl, (omega arith, λ n after m. m)))
+loop-holds c = (refl, (refl, λ n after m. m))
 
 lowest-requires : tie.Need-lowest-requires Inv-loop μ-loop
 lowest-requires c κs = search needs
@@ -35,7 +34,7 @@ cell-requires c κs =
     let turn = after-lowest .before in
     let head = turn .before in
     let at = entry head in
-    let m = head .loop .inv .1 .1 .1 (at .pre .1 .0) (at .pre .1 .1) (at .pre .1 .2) in (
+    let m = head .loop .inv .1 .1 (at .pre .1 .0) (at .pre .1 .1) (at .pre .1 .2) in (
       at .pre .0 .1,
       (meeting-name (after-lowest .lowest .result) m (turn .loop-test .taken) (after-lowest .lowest .ensures), at .pre .0 .0),
     )
@@ -46,7 +45,7 @@ meet-one-requires c κs =
     let turn = after-lowest .before in
     let head = turn .before in
     let at = entry head in
-    let m = head .loop .inv .1 .1 .1 (at .pre .1 .0) (at .pre .1 .1) (at .pre .1 .2) in
+    let m = head .loop .inv .1 .1 (at .pre .1 .0) (at .pre .1 .1) (at .pre .1 .2) in
     let t =
     meeting-more (after-lowest .lowest .result) (c .cell .result) m (turn .loop-test .taken) (after-lowest .lowest .ensures)
     (c .cell .ensures .value) in
@@ -58,37 +57,27 @@ only-requires c κs =
     let turn = after-lowest .before in
     let head = turn .before in
     let at = entry head in
-    let m = head .loop .inv .1 .1 .1 (at .pre .1 .0) (at .pre .1 .1) (at .pre .1 .2) in
+    let m = head .loop .inv .1 .1 (at .pre .1 .0) (at .pre .1 .1) (at .pre .1 .2) in
     meeting-name (after-lowest .lowest .result) m (turn .loop-test .taken) (after-lowest .lowest .ensures)
 
--- the head of the turn in which the lowest name is taken out of the set, and what that name leads to
-abbrev turned : tie.After-only Inv-loop μ-loop → tie.At-loop Inv-loop μ-loop
-turned c = c .before .before .before .before .before .before .before .before .before .before .before
-
+-- the lowest name is in the set, and its bit is some
 taken :
-    (c : tie.After-only Inv-loop μ-loop) → let head = turned c in let at = entry head in
-    (2 ^ (c .before .before .before .before .before .before .before .before .before .lowest .result) ≤ head .loop .left)
-    × (0 < c .only .result) × (ones (head .loop .left) ≡ suc (ones (head .loop .left - c .only .result)))
+    (c : tie.After-only Inv-loop μ-loop) → let after-lowest = c .before .before .before .before .before .before .before .before .before in
+    (2 ^ after-lowest .lowest .result ≤ after-lowest .before .before .loop .left) × (0 < c .only .result)
 taken c =
     let after-cell = c .before .before .before .before .before .before in
     let after-lowest = after-cell .before .before .before in
     let turn = after-lowest .before in
     let head = turn .before in
     let at = entry head in
-    let m = head .loop .inv .1 .1 .1 (at .pre .1 .0) (at .pre .1 .1) (at .pre .1 .2) in
+    let m = head .loop .inv .1 .1 (at .pre .1 .0) (at .pre .1 .1) (at .pre .1 .2) in
     let t =
     meeting-more (after-lowest .lowest .result) (after-cell .cell .result) m (turn .loop-test .taken) (after-lowest .lowest .ensures)
     (after-cell .cell .ensures .value) in
-    (t .in-set, omega (arith, t .some, c .only .ensures), t .fewer (c .only .result) (c .only .ensures))
+    (t .in-set, omega (arith, t .some, c .only .ensures))
 
 sub-left : tie.Need-sub-left Inv-loop μ-loop
 sub-left c = omega (arith, taken c, c .only .ensures)
-
-add-arcs : tie.Need-add-arcs Inv-loop μ-loop
-add-arcs c =
-    let head = turned c in
-    let at = entry head in
-    omega (arith, head .loop .inv .1 .1 .0, ones-le 64 (at .args .names) (at .fits .names .fits))
 
 loop-less : tie.Need-loop-less Inv-loop μ-loop
 loop-less c = omega (arith, taken c, c .only .ensures)
@@ -104,15 +93,12 @@ loop-again c =
       met .kept .0 ∙ head .loop .inv .0,
       (
         met .kept .1 .0 ∙ head .loop .inv .1 .0,
-        (
-          omega (arith, head .loop .inv .1 .1 .0, taken c),
-          λ n after m.
-              let t =
-              meeting-more (after-lowest .lowest .result) (after-cell .cell .result) (head .loop .inv .1 .1 .1 n after m)
-              (turn .loop-test .taken) (after-lowest .lowest .ensures) (after-cell .cell .ensures .value) in
-              t .then (met .last .0) (met .last .1 .0) (met .result) (c .only .result)
-              (met .ensures n (t .one) (t .single)) (c .only .ensures),
-        ),
+        λ n after m.
+            let t =
+            meeting-more (after-lowest .lowest .result) (after-cell .cell .result) (head .loop .inv .1 .1 n after m)
+            (turn .loop-test .taken) (after-lowest .lowest .ensures) (after-cell .cell .ensures .value) in
+            t .then (met .last .0) (met .last .1 .0) (met .result) (c .only .result)
+            (met .ensures n (t .one) (t .single)) (c .only .ensures),
       ),
     )
 
@@ -123,13 +109,7 @@ same-length-2 : tie.Need-same-length-2 Inv-loop μ-loop
 same-length-2 c = c .before .loop .inv .1 .0
 
 returns : tie.Need-returns Inv-loop μ-loop
-returns c =
-    let inv = c .before .loop .inv in
-    let none : c .before .loop .left < 2 ^ 0 = omega (arith, c .loop-test .left) in
-    λ n after m. record {
-      met-as = meeting-done (inv .1 .1 .1 n after m) (c .loop-test .left);
-      counted = omega (arith, inv .1 .1 .0, ones-le 0 (c .before .loop .left) none);
-    }
+returns c = λ n after m. meeting-done (c .before .loop .inv .1 .1 n after m) (c .loop-test .left)
 
 pub meet-spec : {M : Type 1} → statement M
 meet-spec =
@@ -143,7 +123,6 @@ meet-spec =
     meet-one-requires
     only-requires
     sub-left
-    add-arcs
     loop-less
     loop-again
     same-length

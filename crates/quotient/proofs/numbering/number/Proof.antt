@@ -50,7 +50,7 @@ entry c =
 abbrev turn : tie.After-wide162 Inv-loop μ-loop → tie.In-loop Inv-loop μ-loop
 turn c = c .before .before
 
-abbrev met-all : tie.After-struct-known Inv-loop μ-loop → tie.After-meet Inv-loop μ-loop
+abbrev met-all : tie.After-how-many Inv-loop μ-loop → tie.After-meet Inv-loop μ-loop
 met-all c = c .before .before .before .before .before
 
 abbrev read : tie.After-meet Inv-loop μ-loop → tie.After-wide162 Inv-loop μ-loop
@@ -105,19 +105,14 @@ look c rows gathered =
 
 -- no group has more than 64 arcs, and few groups are met
 arcs-few :
-    (c : tie.After-struct-known Inv-loop μ-loop) → let head = turn (read (met-all c)) .before in
-    (met-all c .meet .result .arcs ≤ 64) × (head .loop .bytes ≤ 196 * head .loop .i) × (head .loop .i < 512)
+    (c : tie.After-how-many Inv-loop μ-loop) → let head = turn (read (met-all c)) .before in
+    (c .how-many .result ≤ 64) × (head .loop .bytes ≤ 196 * head .loop .i) × (head .loop .i < 512)
 arcs-few c =
-    let after-meet = met-all c in
-    let group = read after-meet in
+    let group = read (met-all c) in
     let head = turn group .before in
-    let at = entry head in
-    let rows = at .pre .0 .0 in
-    let gathered = at .pre .0 .1 in
-    let meeting = look group rows gathered in
-    let many = after-meet .meet .ensures (length (treeOf rows)) (meeting .after) (meeting .meeting) .counted in
-    let fits = after-meet .before .before .before .shared-slice-known5 .given (group .wide162 .result) .fits in (
-      omega (arith, many, ones-le 64 (getD (at .args .next .now) (group .wide162 .result) 0) fits),
+    let g = group .wide162 .result in
+    let fits = met-all c .before .before .before .shared-slice-known5 .given g .fits in (
+      omega (arith, c .how-many .ensures, ones-le 64 (getD (entry head .args .next .now) g 0) fits),
       head .loop .inv .1 .1 .0,
       omega (arith, room head, turn group .loop-test .taken),
     )
@@ -185,11 +180,11 @@ slice-read-wide16 c = omega (arith, room (c .before .before))
 wide16-requires-2 : tie.Need-wide16-requires-2 Inv-loop μ-loop
 wide16-requires-2 c κs = search needs
 
-mul-meet : tie.Need-mul-meet Inv-loop μ-loop
-mul-meet c = omega (arith, group-low c)
+mul-names : tie.Need-mul-names Inv-loop μ-loop
+mul-names c = omega (arith, group-low c)
 
-shared-slice-read-meet : tie.Need-shared-slice-read-meet Inv-loop μ-loop
-shared-slice-read-meet c =
+shared-slice-read-names : tie.Need-shared-slice-read-names Inv-loop μ-loop
+shared-slice-read-names c =
     omega (arith, group-low (c .before), entry (turn (c .before) .before) .pre .0 .1 .next-size)
 
 meet-requires : tie.Need-meet-requires Inv-loop μ-loop
@@ -200,6 +195,9 @@ meet-requires c κs =
     let gathered = at .pre .0 .1 in
     let meeting = look group rows gathered in
     ((gathered .work-size, omega (arith, group-low group)), (length (treeOf rows), meeting .after, meeting .meeting))
+
+how-many-requires : tie.Need-how-many-requires Inv-loop μ-loop
+how-many-requires c κs = search needs
 
 mul-bytes : tie.Need-mul-bytes Inv-loop μ-loop
 mul-bytes c = omega (arith, arcs-few c)
@@ -236,17 +234,20 @@ loop-again c =
           λ rows gathered.
               let before = head .loop .inv .1 .1 .1 rows gathered in
               let meeting = look group rows gathered in
-              let targets = met .ensures (length (treeOf rows)) (meeting .after) (meeting .meeting) in
               let here =
               numbering-nth rows groups work next gathered (head .loop .met) (head .loop .numbers) (head .loop .i) (head .loop .count) g
               (before .numbering) (turn group .loop-test .taken) (group .wide162 .ensures) in
               let low = met-low (before .numbering .seen) (before .numbering .so-far) (head .loop .i) (turn group .loop-test .taken) in
               record {
                 numbering =
-                    meeting .then (met .last .1 .1 .1 .0) (met .last .1 .1 .1 .1 .0) (met .result .count) (targets .met-as);
+                    meeting .then (met .last .1 .1 .1 .0) (met .last .1 .1 .1 .1 .0) (met .result)
+                    (met .ensures (length (treeOf rows)) (meeting .after) (meeting .meeting));
                 counted =
-                    sized-more rows groups work next gathered (head .loop .i) g (head .loop .bytes) (met .result .arcs) (here .0)
-                    (here .1) (omega (arith, low, group .wide162 .ensures)) (targets .counted) (before .counted);
+                    omega (
+                      arith,
+                      sized-more rows groups work next gathered (head .loop .i) g (head .loop .bytes) (c .how-many .result) (here .0)
+                          (here .1) (omega (arith, low, group .wide162 .ensures)) (c .how-many .ensures) (before .counted),
+                    );
               },
         ),
       ),
@@ -299,9 +300,10 @@ number-spec =
     mul-wide16
     slice-read-wide16
     wide16-requires-2
-    mul-meet
-    shared-slice-read-meet
+    mul-names
+    shared-slice-read-names
     meet-requires
+    how-many-requires
     mul-bytes
     add-bytes
     add-bytes-2

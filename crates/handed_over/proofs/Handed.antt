@@ -1,0 +1,88 @@
+-- What builds write is the table that demand 3 speaks of: `build-handed-over`. First of a book's table, then of a build, then of
+-- two. Assumes nothing.
+use mathlib.Core.Path.{_≡_, sym, ap, ap₂, _∙_, subst}
+use mathlib.Core.Bool.{true}
+use mathlib.Core.List.{List}
+use Prim.Native.Nat.{ℕ, _-_}
+use native.Mathlib.Omega.{arith}
+use lib.ListN.{length}
+use Rattle.model.specs.Tables.{State, admits}
+use Rattle.model.specs.Classes.{Word, InClass}
+use Rattle.model.specs.Joinings.{treeOf}
+use Rattle.model.specs.Quotients.{bookStates, bookTable}
+use Rattle.model.specs.Calls.{sizesFault, outputFault, bookOf, bookFault, buildFault, joinsOf, tableStates}
+use Rattle.model.specs.Claims.{Accepted, SameBook}
+use Rattle.model.proofs.FieldLaws.{first-of}
+use Rattle.model.proofs.Demands.{tree-size-same, demands}
+use Rattle.plans.proofs.BuildLaws.{Front, built-front}
+use Rattle.handed_over.specs.Handed.{HandedOver, AcceptedBuild, written, SameResults, BuildHandedOver}
+
+-- ---- a book's table
+
+-- it is handed over with demand 3
+table-handed-over : (book : List ℕ) → Accepted book → HandedOver book (bookTable (bookOf book))
+table-handed-over book ok =
+    let third = demands .third in
+    let joining = third .some-joining book ok in
+    let same : bookStates (bookOf book) ≡ tableStates (bookTable (bookOf book)) = sym (demands .reads-back .same-states book ok) in
+    record {
+      any-order = λ other steps other-ok like full. third .any-order book other steps ok other-ok like full;
+      book-itself = third .book-itself book;
+      some-joining = joining;
+      its-table = third .any-order book book (joining .steps) ok ok (third .book-itself book) (joining .full-joining);
+      rows-admitted = λ r m. ap (λ (ss : List State). admits ss r) (sym same) ∙ third .rows-admitted book r ok m;
+      in-class =
+          subst (λ (ss : List State). InClass (bookOf book .class-is) (λ (r : Word). admits ss r ≡ true)) same
+          (third .in-class book ok);
+      smallest = λ l l-in-class holds r e.
+          third .smallest book l ok l-in-class holds r (ap (λ (ss : List State). admits ss r) same ∙ e);
+    }
+
+-- ---- one build
+
+-- what it left in the output
+front : (b : AcceptedBuild) → Front (b .book) (b .work) (b .out) (b .out′) (b .result)
+front b = built-front (b .book) (b .work) (b .out) (b .out′) (b .result) (b .says .gives) (b .not-refused)
+
+-- its book is accepted
+book-accepted : (b : AcceptedBuild) → Accepted (b .book)
+unfolding buildFault
+book-accepted b =
+    first-of (bookFault (b .book)) (outputFault (bookTable (bookOf (b .book))) (b .out))
+    (first-of (sizesFault (b .book) (b .work)) _ (front b .no-refusal) .1) .0
+
+handed-over : (b : AcceptedBuild) → HandedOver (b .book) (written b)
+handed-over b =
+    subst (λ (bytes : List ℕ). HandedOver (b .book) bytes) (sym (front b .at-front .bytes-are))
+    (table-handed-over (b .book) (book-accepted b))
+
+-- ---- two builds
+
+module _ (b c : AcceptedBuild) (like : SameBook (bookOf (b .book)) (bookOf (c .book))) where
+  tables-same : bookTable (bookOf (b .book)) ≡ bookTable (bookOf (c .book))
+  tables-same = demands .third .same-table (b .book) (c .book) (book-accepted b) (book-accepted c) like
+
+  book-states-same : bookStates (bookOf (b .book)) ≡ bookStates (bookOf (c .book))
+  book-states-same =
+      sym (demands .reads-back .same-states (b .book) (book-accepted b))
+      ∙ ap tableStates tables-same
+      ∙ demands .reads-back .same-states (c .book) (book-accepted c)
+
+  book-joins-same : joinsOf (bookOf (b .book)) ≡ joinsOf (bookOf (c .book))
+  unfolding joinsOf
+  book-joins-same =
+      ap₂ (λ (m n : ℕ). m - n) (tree-size-same (bookOf (b .book)) (bookOf (c .book)) like) (ap length book-states-same)
+
+  same-results : SameResults b c
+  same-results =
+      record {
+        bytes-same = front b .at-front .bytes-are ∙ tables-same ∙ sym (front c .at-front .bytes-are);
+        lengths-same = omega (arith, front b .length-is, ap length tables-same, front c .length-is);
+        states-same = omega (arith, front b .states-are, ap length book-states-same, front c .states-are);
+        joins-same = omega (arith, front b .joins-are, book-joins-same, front c .joins-are);
+      }
+
+-- ---- all of it
+
+pub build-handed-over : BuildHandedOver
+build-handed-over = record { each-build = handed-over; two-builds = same-results }
