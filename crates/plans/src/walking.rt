@@ -73,7 +73,7 @@ fn walk_over(table: &[u8], row: &[u8], work: &[u8]) -> Walked
 }
 
 // Refusals 1, the table's, 9; otherwise the walk. The working area is not cleared yet.
-fn walk(table: &[u8], row: &[u8], work: &mut [u8]) -> Walked
+pub fn walk(table: &[u8], row: &[u8], work: &mut [u8]) -> Walked
     ensures { λ r. ⌜ Gives (walking (now (table .entry)) (now (row .entry)) (now (work .entry))) [] [] r ⌝ }
 {
     let opened = open_table(table, work);
