@@ -18,7 +18,7 @@ static void print_walk(size_t table_len, const uint8_t *row, size_t row_len)
     static const char *const outcomes[] = {"", "admitted", "on the way", "stops"};
     plans_walked w = plans_walk(table, table_len, row, row_len, work, sizeof work);
 
-    printf("%u snacks: %s\n", (unsigned)row_len, w.number == PLANS_OK ? outcomes[w.outcome] : "refused");
+    printf("%u snacks: %s\n", (unsigned)row_len, w.refusal == PLANS_OK ? outcomes[w.outcome] : "refused");
 }
 
 int main(void)
@@ -26,8 +26,8 @@ int main(void)
     static const uint8_t row[] = {0, 0, 0};
     plans_built built = plans_build(book, sizeof book, work, sizeof work, table, sizeof table);
 
-    if (built.number != PLANS_OK) {
-        printf("refused %u\n", built.number);
+    if (built.refusal != PLANS_OK) {
+        printf("refused %u\n", built.refusal);
         return 0;
     }
     printf("states %u joins %u\n", (unsigned)built.states, (unsigned)built.joins);
@@ -36,6 +36,6 @@ int main(void)
     print_walk(built.length, row, 3);
     print_walk(built.length, row, 0);
     built = plans_build(book, sizeof book - 1, work, sizeof work, table, sizeof table);
-    printf("the book without its last byte: refused %u\n", built.number);
+    printf("the book without its last byte: refused %u\n", built.refusal);
     return 0;
 }

@@ -29,12 +29,12 @@ static void print_walk(const uint8_t *row, size_t row_len)
     plans_walked w = plans_walk(table, sizeof table, row, row_len, work, sizeof work);
 
     print_row(row, row_len);
-    if (w.number != PLANS_OK) {
-        printf(": refused %u\n", w.number);
+    if (w.refusal != PLANS_OK) {
+        printf(": refused %u\n", w.refusal);
         return;
     }
-    printf(": %s, walked %u, next names %u (set %llx)\n", outcomes[w.outcome], (unsigned)w.length, w.count,
-           (unsigned long long)w.names);
+    printf(": %s, walked %u, next names %u (set %llx)\n", outcomes[w.outcome], (unsigned)w.walked, w.next_count,
+           (unsigned long long)w.next_names);
 }
 
 int main(void)
@@ -52,10 +52,10 @@ int main(void)
 
     memset(out, 0xEE, sizeof out);
     b = plans_rewrite(table, sizeof table, work, sizeof work, out, sizeof out);
-    printf("rewritten: refusal %u, %u bytes, %u states, %u joins, %s, the byte after it %s\n", b.number, (unsigned)b.length,
+    printf("rewritten: refusal %u, %u bytes, %u states, %u joins, %s, the byte after it %s\n", b.refusal, (unsigned)b.length,
            (unsigned)b.states, (unsigned)b.joins, memcmp(out, table, sizeof table) == 0 ? "the same bytes" : "OTHER BYTES",
            out[sizeof table] == 0xEE ? "untouched" : "TOUCHED");
     b = plans_rewrite(table, sizeof table, work, sizeof work, out, sizeof table - 1);
-    printf("in an output one byte shorter: refusal %u\n", b.number);
+    printf("in an output one byte shorter: refusal %u\n", b.refusal);
     return 0;
 }

@@ -10,7 +10,8 @@
  * - Any bytes may be passed as book, table and row: what is wrong with them is told by a refusal.
  * - The working area is of PLANS_WORK_BYTES or more. What it holds before the call does not matter. After the call every byte of
  *   it is 0, also where the call is refused, and also where the area was too short.
- * - A call uses no global state: calls on different buffers may run at the same time.
+ * - A call uses no global state: calls on different buffers may run at the same time. It takes less than 40 KiB of stack (measured,
+ *   docs/FIGURES.md).
  */
 #ifndef PLANS_H
 #define PLANS_H
@@ -28,10 +29,13 @@ extern "C" {
 /* The longest table or book, in bytes. */
 #define PLANS_INPUT_LIMIT 65535
 
+/* A built table is never longer, in bytes. */
+#define PLANS_TABLE_BYTES 5830
+
 /* A text of so many bytes is long enough for the listing of every book. */
 #define PLANS_LISTING_BYTES 32768
 
-/* What `number` says, and `refusal` of a plans_written: 0, or the one refusal. */
+/* What `refusal` says: 0, or the one refusal. */
 enum {
     PLANS_OK = 0,
     PLANS_BAD_SIZES = 1,         /* input over 65,535 bytes, or a working area under 65,536 */
@@ -56,9 +60,9 @@ enum {
     PLANS_STOPS = 3       /* some name has no arc */
 };
 
-/* What a call that writes a table gives back. Where it is refused, all but `number` is 0. */
+/* What a call that writes a table gives back. Where it is refused, all but `refusal` is 0. */
 typedef struct {
-    uint8_t number;  /* 0, or the refusal */
+    uint8_t refusal; /* 0, or the refusal */
     uint32_t length; /* the table's length in bytes */
     uint32_t states; /* how many states it has */
     uint32_t joins;  /* states of the prefix tree less states of the table; 0 for a rewritten table */
@@ -70,21 +74,21 @@ typedef struct {
     uint32_t length; /* how many bytes were written; 0 where the call is refused */
 } plans_written;
 
-/* What a walk gives back. Where it is refused, all but `number` is 0. */
+/* What a walk gives back. Where it is refused, all but `refusal` is 0. */
 typedef struct {
-    uint8_t number;  /* 0, or the refusal */
-    uint8_t outcome; /* PLANS_ADMITTED, PLANS_ON_THE_WAY or PLANS_STOPS */
-    uint8_t count;   /* how many names may come next */
-    uint32_t length; /* how many of the row's names can be walked: the longest beginning is row[0] to row[length - 1] */
-    uint64_t names;  /* the names that may come next, from the state reached: bit n for name n */
+    uint8_t refusal;     /* 0, or the refusal */
+    uint8_t outcome;     /* PLANS_ADMITTED, PLANS_ON_THE_WAY or PLANS_STOPS */
+    uint8_t next_count;  /* how many names may come next */
+    uint32_t walked;     /* how many of the row's names can be walked: the longest beginning is row[0] to row[walked - 1] */
+    uint64_t next_names; /* the names that may come next, from the state reached: bit n for name n */
 } plans_walked;
 
 /*
  * Builds the table of a book, to the front of `out`: the prefix tree of its rows, joined by the rules of its class until none
  * applies, its states numbered first-met. Every book with the same names, class and set of rows gives the same bytes.
  * Reads `book`; writes `work` (zeros) and `out`. Bytes of `out` beyond the table are left as they were, and where the call is
- * refused all of `out` is. Refusals, the first that applies: 1; those of the fields, in the book's order; 10; 13. A table is
- * never longer than PLANS_INPUT_LIMIT, so an output of that length is always enough.
+ * refused all of `out` is. Refusals, the first that applies: 1; those of the fields, in the book's order; 10; 13. An output of
+ * PLANS_TABLE_BYTES is always enough.
  */
 plans_built plans_build(const uint8_t *book, size_t book_len,
                         uint8_t *work, size_t work_len,

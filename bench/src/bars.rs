@@ -9,16 +9,18 @@ pub enum Bar {
     Walk,
     Ratio,
     Stack,
+    ListingStack,
 }
 
-const BARS: [(Bar, &str, f64); 7] = [
+const BARS: [(Bar, &str, f64); 8] = [
     (Bar::TypicalDefault, "typical (2,1), memsets", 8.0),
     (Bar::Typical, "typical, any class, memsets", 30.0),
     (Bar::Large, "512-state books, memsets", 200.0),
     (Bar::Worst, "worst books found, memsets", 4000.0),
     (Bar::Walk, "walk of 64 names over 512 states, memsets", 12.0),
     (Bar::Ratio, "library to maps, ratio", 1.2),
-    (Bar::Stack, "stack of a call, KiB", 32.0),
+    (Bar::Stack, "stack of a build, a rewriting or a walk, KiB", 32.0),
+    (Bar::ListingStack, "stack of a listing, KiB", 40.0),
 ];
 
 /// The worst figure for each bar, and of what it is.

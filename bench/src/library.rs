@@ -1,12 +1,10 @@
 //! The library's calls as functions over slices. They are declared once, in tests/outside.
 
-// listings are not timed here
-#[allow(dead_code)]
 #[path = "../../tests/outside/src/library.rs"]
 mod calls;
 
 use calls::Call;
-pub use calls::{Built, Walked};
+pub use calls::{Built, Walked, Written};
 
 pub const WORK_BYTES: usize = 65_536;
 pub const INPUT_LIMIT: usize = 65_535;
@@ -19,12 +17,16 @@ pub fn rewrite(table: &[u8], work: &mut [u8], out: &mut [u8]) -> Built {
     call(calls::plans_rewrite, table, work, out)
 }
 
+pub fn list(book: &[u8], work: &mut [u8], text: &mut [u8]) -> Written {
+    call(calls::plans_list, book, work, text)
+}
+
 pub fn walk(table: &[u8], row: &[u8], work: &mut [u8]) -> Walked {
     // SAFETY: as in call
     unsafe { calls::plans_walk(table.as_ptr(), table.len(), row.as_ptr(), row.len(), work.as_mut_ptr(), work.len()) }
 }
 
-fn call(call: Call<Built>, input: &[u8], work: &mut [u8], out: &mut [u8]) -> Built {
+fn call<R>(call: Call<R>, input: &[u8], work: &mut [u8], out: &mut [u8]) -> R {
     // SAFETY: each pointer comes with the length of the slice it was taken from, and the slices do not overlap
     unsafe { call(input.as_ptr(), input.len(), work.as_mut_ptr(), work.len(), out.as_mut_ptr(), out.len()) }
 }

@@ -147,8 +147,8 @@ fn show_growth(growth: &[Case]) {
 
 fn show_stack(bars: &mut Bars) {
     println!("\nstack of a call in bytes, without that of an empty thread\n");
-    for (call, bytes) in stack::calls() {
+    for (bar, call, bytes) in stack::calls() {
         println!("{call:36}{bytes:8}");
-        bars.take(Bar::Stack, bytes as f64 / 1024.0, &call);
+        bars.take(bar, bytes as f64 / 1024.0, &call);
     }
 }

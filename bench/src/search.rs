@@ -123,7 +123,7 @@ impl Search {
 
     /// The book with rows cut until it is accepted. Stops the search where the implementations differ.
     fn fitted(&mut self, mut book: Book) -> Result<Book, String> {
-        while self.sides.build(&book.bytes())?.0.number != 0 {
+        while self.sides.build(&book.bytes())?.0.refusal != 0 {
             let at = self.random.below(book.rows.len());
             if book.rows[at].pop().is_none() {
                 book.rows.remove(at);

@@ -1,5 +1,6 @@
 //! How many bytes of stack a call of the library uses: it runs in a thread whose stack is painted first.
 
+use crate::bars::Bar;
 use crate::book::CLASSES;
 use crate::cases;
 use crate::library::{self, INPUT_LIMIT, WORK_BYTES};
@@ -27,8 +28,8 @@ extern "C" {
     fn pthread_join(thread: usize, result: *mut *mut c_void) -> i32;
 }
 
-/// Each call with the bytes of stack that it uses, without those of an empty thread.
-pub fn calls() -> Vec<(String, usize)> {
+/// Each call with its bar and the bytes of stack that it uses, without those of an empty thread.
+pub fn calls() -> Vec<(Bar, String, usize)> {
     let (mut work, mut out) = (vec![0; WORK_BYTES], vec![0; INPUT_LIMIT]);
     let empty = used(&mut || ());
     let table = cases::chain_table();
@@ -38,16 +39,20 @@ pub fn calls() -> Vec<(String, usize)> {
         let bytes = used(&mut || {
             black_box(library::build(&book, &mut work, &mut out));
         });
-        calls.push((format!("build {}, 512 states", class.label()), bytes - empty));
+        calls.push((Bar::Stack, format!("build {}, 512 states", class.label()), bytes - empty));
+        let listing = used(&mut || {
+            black_box(library::list(&book, &mut work, &mut out));
+        });
+        calls.push((Bar::ListingStack, format!("list {}, 512 states", class.label()), listing - empty));
     }
     let rewriting = used(&mut || {
         black_box(library::rewrite(&table, &mut work, &mut out));
     });
-    calls.push(("rewrite, 512 states".to_string(), rewriting - empty));
+    calls.push((Bar::Stack, "rewrite, 512 states".to_string(), rewriting - empty));
     let walking = used(&mut || {
         black_box(library::walk(&table, &[0; 64], &mut work));
     });
-    calls.push(("walk of 64, 512 states".to_string(), walking - empty));
+    calls.push((Bar::Stack, "walk of 64, 512 states".to_string(), walking - empty));
     calls
 }
 

@@ -54,7 +54,7 @@ class Drawings(unittest.TestCase):
     def test_images_are_of_the_examples(self):
         images = {path.stem for path in (ROOT / "docs" / "images").glob("*")}
         texts = sorted((ROOT / "examples" / "classes").glob("*.txt"))
-        self.assertEqual(images, {path.stem for path in texts} | {"days"})
+        self.assertEqual(images, {path.stem for path in texts} | {"crates", "days"})
         for text in texts:
             image = ROOT / "docs" / "images" / (text.stem + ".svg")
             self.assertEqual(svg_parts(image), dot_parts(drawn(text, True)), text)

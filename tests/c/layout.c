@@ -4,17 +4,17 @@
 #include "plans.h"
 
 _Static_assert(sizeof(plans_built) == 16, "size of plans_built");
-_Static_assert(offsetof(plans_built, number) == 0, "plans_built.number");
+_Static_assert(offsetof(plans_built, refusal) == 0, "plans_built.refusal");
 _Static_assert(offsetof(plans_built, length) == 4, "plans_built.length");
 _Static_assert(offsetof(plans_built, states) == 8, "plans_built.states");
 _Static_assert(offsetof(plans_built, joins) == 12, "plans_built.joins");
 
 _Static_assert(sizeof(plans_walked) == 16, "size of plans_walked");
-_Static_assert(offsetof(plans_walked, number) == 0, "plans_walked.number");
+_Static_assert(offsetof(plans_walked, refusal) == 0, "plans_walked.refusal");
 _Static_assert(offsetof(plans_walked, outcome) == 1, "plans_walked.outcome");
-_Static_assert(offsetof(plans_walked, count) == 2, "plans_walked.count");
-_Static_assert(offsetof(plans_walked, length) == 4, "plans_walked.length");
-_Static_assert(offsetof(plans_walked, names) == 8, "plans_walked.names");
+_Static_assert(offsetof(plans_walked, next_count) == 2, "plans_walked.next_count");
+_Static_assert(offsetof(plans_walked, walked) == 4, "plans_walked.walked");
+_Static_assert(offsetof(plans_walked, next_names) == 8, "plans_walked.next_names");
 
 _Static_assert(sizeof(plans_written) == 8, "size of plans_written");
 _Static_assert(offsetof(plans_written, refusal) == 0, "plans_written.refusal");

@@ -101,7 +101,7 @@ static plans_built call_lent(table_call *call, const writing *from, size_t work_
     lent all = lend_all(from, work_len, out_len);
     plans_built built = call(all.input, from->length, all.work, work_len, all.out, out_len);
 
-    if (built.number != PLANS_OK)
+    if (built.refusal != PLANS_OK)
         check("a refusal gives zeros else", built.length == 0 && built.states == 0 && built.joins == 0);
     take_back(all, from, built.length, table);
     return built;
@@ -137,8 +137,8 @@ plans_walked walk(const writing *table, const uint8_t *row, size_t row_len, size
     check("the working area is zero after the walk", all_are(0, work, 0, work_len));
     check("the table is as it was", same(input, table->bytes, table->length));
     check("the row is as it was", same(names, row, row_len));
-    if (walked.number != PLANS_OK)
-        check("a refused walk gives zeros else", !walked.outcome && !walked.count && !walked.length && !walked.names);
+    if (walked.refusal != PLANS_OK)
+        check("a refused walk gives zeros else", !walked.outcome && !walked.next_count && !walked.walked && !walked.next_names);
     free(input);
     free(names);
     free(work);

@@ -69,12 +69,12 @@ static void worked_days(void)
         for (size_t i = 0; i < 3; i++)
             put_day(days[i]);
         built = build_all();
-        check("the book is accepted", built.number == PLANS_OK);
+        check("the book is accepted", built.refusal == PLANS_OK);
         check("states and joins", built.states == (h == 1 ? 6u : 7u) && built.joins == (h == 1 ? 2u : 1u));
         for (size_t i = 0; i < 3; i++)
             check("a row of the book is admitted", walk_day(days[i]).outcome == PLANS_ADMITTED);
         walked = walk_day("dsb");
-        check("dsb", h == 1 ? walked.outcome == PLANS_ADMITTED : walked.outcome == PLANS_STOPS && walked.length == 2);
+        check("dsb", h == 1 ? walked.outcome == PLANS_ADMITTED : walked.outcome == PLANS_STOPS && walked.walked == 2);
     }
 }
 
@@ -94,14 +94,14 @@ static void tap_a_day(void)
         char offered[NAMES + 1] = "";
 
         for (size_t name = 0; name < NAMES; name++)
-            if (walked.names >> name & 1)
+            if (walked.next_names >> name & 1)
                 strncat(offered, &letters[name], 1);
         check("the names offered", strcmp(offered, offers[taps]) == 0);
-        check("how many they are", walked.count == strlen(offers[taps]));
-        check("all taps are walked", walked.length == taps);
+        check("how many they are", walked.next_count == strlen(offers[taps]));
+        check("all taps are walked", walked.walked == taps);
         check("the outcome", walked.outcome == (taps == 3 ? PLANS_ADMITTED : PLANS_ON_THE_WAY));
-        if (walked.count > 0)
-            strncat(day, offered + walked.count - 1, 1);
+        if (walked.next_count > 0)
+            strncat(day, offered + walked.next_count - 1, 1);
     }
     check("the day tapped", strcmp(day, "dsl") == 0);
 }
@@ -111,7 +111,7 @@ static void rewrite_it(void)
     plans_built built = build_all();
     plans_built rewritten = rewrite(&table, PLANS_WORK_BYTES, built.length, &again);
 
-    check("a table is rewritten", rewritten.number == PLANS_OK && rewritten.states == built.states && rewritten.joins == 0);
+    check("a table is rewritten", rewritten.refusal == PLANS_OK && rewritten.states == built.states && rewritten.joins == 0);
     check("to the same bytes", again.length == table.length && memcmp(again.bytes, table.bytes, table.length) == 0);
 }
 
@@ -136,7 +136,7 @@ static void list_it(void)
 
 static void refused_build(const char *what, uint8_t number)
 {
-    check(what, build_all().number == number);
+    check(what, build_all().refusal == number);
     check(what, list(&book, PLANS_WORK_BYTES, PLANS_LISTING_BYTES, &again).refusal == number);
 }
 
@@ -146,14 +146,14 @@ static void refused_lengths(void)
     static const uint8_t row[] = {0};
     plans_built built = build_all();
 
-    check("1: a short working area", build(&book, PLANS_WORK_BYTES - 1, 0, &again).number == PLANS_BAD_SIZES);
-    check("1: no working area", build(&book, 0, 0, &again).number == PLANS_BAD_SIZES);
-    check("1: no working area to rewrite", rewrite(&table, 0, 0, &again).number == PLANS_BAD_SIZES);
-    check("1: no working area to walk", walk(&table, row, 1, 0).number == PLANS_BAD_SIZES);
-    check("an output just long enough", build(&book, PLANS_WORK_BYTES, built.length, &again).number == PLANS_OK);
+    check("1: a short working area", build(&book, PLANS_WORK_BYTES - 1, 0, &again).refusal == PLANS_BAD_SIZES);
+    check("1: no working area", build(&book, 0, 0, &again).refusal == PLANS_BAD_SIZES);
+    check("1: no working area to rewrite", rewrite(&table, 0, 0, &again).refusal == PLANS_BAD_SIZES);
+    check("1: no working area to walk", walk(&table, row, 1, 0).refusal == PLANS_BAD_SIZES);
+    check("an output just long enough", build(&book, PLANS_WORK_BYTES, built.length, &again).refusal == PLANS_OK);
     built = build(&book, PLANS_WORK_BYTES, built.length - 1, &again);
-    check("13: an output one byte short", built.number == PLANS_OUTPUT_TOO_SHORT);
-    check("13: no output", rewrite(&table, PLANS_WORK_BYTES, 0, &again).number == PLANS_OUTPUT_TOO_SHORT);
+    check("13: an output one byte short", built.refusal == PLANS_OUTPUT_TOO_SHORT);
+    check("13: no output", rewrite(&table, PLANS_WORK_BYTES, 0, &again).refusal == PLANS_OUTPUT_TOO_SHORT);
     memset(book.bytes, 0, sizeof book.bytes);
     book.length = sizeof book.bytes;
     refused_build("1: a book of 65,536 bytes", PLANS_BAD_SIZES);
@@ -217,8 +217,8 @@ static void refused_counts(void)
 
 static void refused_table(const char *what, uint8_t number)
 {
-    check(what, rewrite(&table, PLANS_WORK_BYTES, PLANS_INPUT_LIMIT, &again).number == number);
-    check(what, walk(&table, NULL, 0, PLANS_WORK_BYTES).number == number);
+    check(what, rewrite(&table, PLANS_WORK_BYTES, PLANS_INPUT_LIMIT, &again).refusal == number);
+    check(what, walk(&table, NULL, 0, PLANS_WORK_BYTES).refusal == number);
 }
 
 /* Refusals 7, 9, 11 and 12 of a table or a walk. */
@@ -242,8 +242,8 @@ static void refused_states(void)
     refused_table("7: a 513th state", PLANS_TOO_MANY);
     put_day("bsl");
     build_all();
-    check("9: a walk of 65", walk(&table, row, sizeof row, PLANS_WORK_BYTES).number == PLANS_BAD_ROW);
-    check("a walk of 64", walk(&table, row, sizeof row - 1, PLANS_WORK_BYTES).number == PLANS_OK);
+    check("9: a walk of 65", walk(&table, row, sizeof row, PLANS_WORK_BYTES).refusal == PLANS_BAD_ROW);
+    check("a walk of 64", walk(&table, row, sizeof row - 1, PLANS_WORK_BYTES).refusal == PLANS_OK);
     check("a walk of none", walk(&table, NULL, 0, PLANS_WORK_BYTES).outcome == PLANS_ON_THE_WAY);
 }
 

@@ -62,14 +62,14 @@ impl<C: Containers> Fast<C> {
     pub fn build(&mut self, book: &[u8], work: &mut [u8], out: &mut [u8]) -> Built {
         let built = self.try_build(book, work.len(), out);
         work.fill(0);
-        built.unwrap_or_else(|refusal| Built { number: refusal as u8, length: 0, states: 0, joins: 0 })
+        built.unwrap_or_else(|refusal| Built { refusal: refusal as u8, length: 0, states: 0, joins: 0 })
     }
 
     /// As plans_walk.
     pub fn walk(&mut self, table: &[u8], row: &[u8], work: &mut [u8]) -> Walked {
         let walked = self.try_walk(table, row, work.len());
         work.fill(0);
-        walked.unwrap_or_else(|refusal| Walked { number: refusal as u8, outcome: 0, count: 0, length: 0, names: 0 })
+        walked.unwrap_or_else(|refusal| Walked { refusal: refusal as u8, outcome: 0, next_count: 0, walked: 0, next_names: 0 })
     }
 
     fn try_build(&mut self, book: &[u8], work_length: usize, out: &mut [u8]) -> Result<Built, Refusal> {

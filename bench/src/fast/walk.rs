@@ -88,7 +88,7 @@ impl<C: Containers> Table<C> {
             (true, _) => ON_THE_WAY,
         };
         let names = arcs(body).fold(0u64, |set, (name, _)| set | 1 << name);
-        Ok(Walked { number: 0, outcome, count: names.count_ones() as u8, length: steps as u32, names })
+        Ok(Walked { refusal: 0, outcome, next_count: names.count_ones() as u8, walked: steps as u32, next_names: names })
     }
 }
 

@@ -1,13 +1,13 @@
 -- Laws of cells: writing a cell keeps the area's length; the cell just written reads as the value; a cell in another row or
--- another column reads as before; in an area of zeros every cell is 0. Assumes nothing.
-use mathlib.Core.Path.{_≡_, refl, ap₂, _∙_}
+-- another column reads as before. Assumes nothing.
+use mathlib.Core.Path.{_≡_, ap₂, _∙_}
 use mathlib.Core.List.{List}
-use Prim.Native.Nat.{ℕ, zero, suc, _+_, _*_, _/_, _%_, _<_, _≤_}
+use Prim.Native.Nat.{ℕ, _+_, _*_, _/_, _%_, _<_, _≤_}
 use native.Mathlib.Nat.{div-add-mod}
 use native.Mathlib.Omega.{arith}
 use lib.ListN.{length, getD, set, length-set}
 use lib.Seq.{getD-set-same, getD-set-other, lt-length-set}
-use Rattle.cells.specs.Cells.{row-count, column-count, work-bytes, cellAt, withCell, zeros}
+use Rattle.cells.specs.Cells.{row-count, column-count, work-bytes, cellAt, withCell}
 
 pub length-withCell : (work : List ℕ) (row column value : ℕ) → length (withCell work row column value) ≡ length work
 unfolding withCell
@@ -67,9 +67,3 @@ pub cell-other-row : (work : List ℕ) (row column value row' column' : ℕ) →
     → (row' ≡ row → ⊥)
     → cellAt (withCell work row column value) row' column' ≡ cellAt work row' column'
 cell-other-row work row column value row' column' c c' h = cell-other work row column value row' column' c c' (λ e _. h e)
-
--- a byte of an area of zeros, and past its end, is 0
-byte-zeros : (n k : ℕ) → getD (zeros n) k 0 ≡ 0
-byte-zeros zero k = refl
-byte-zeros (suc n) zero = refl
-byte-zeros (suc n) (suc k) = byte-zeros n k

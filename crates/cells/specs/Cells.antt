@@ -1,10 +1,10 @@
 -- The lent working area, read as 512 rows of 64 cells. A cell is two bytes, the high one first; the high byte of the cell in
 -- a row and a column stands at offset 128 * row + 2 * column. In order: the numbers of the layout, a cell's value, the area
--- with one cell written, an area of zeros, and what reading a cell promises. Assumes nothing.
+-- with one cell written, and what reading a cell promises. Assumes nothing.
 use mathlib.Core.Path.{_≡_}
 use mathlib.Core.List.{List}
 use Prim.Native.Nat.{ℕ, _+_, _*_, _/_, _%_, _<_}
-use lib.ListN.{getD, set, replicate}
+use lib.ListN.{getD, set}
 
 -- how many rows there are, how many cells a row has, the bytes of them all, and the number that no cell reaches
 abbrev pub row-count : ℕ
@@ -26,10 +26,6 @@ cellAt work row column = 256 * getD work (128 * row + 2 * column) 0 + getD work 
 -- the area after a value is written into the cell in a row and a column: area, row, column, value
 unfoldable pub withCell : List ℕ → ℕ → ℕ → ℕ → List ℕ
 withCell work row column value = set (set work (128 * row + 2 * column) (value / 256)) (128 * row + 2 * column + 1) (value % 256)
-
--- an area of n bytes, each 0
-abbrev pub zeros : ℕ → List ℕ
-zeros n = replicate n 0
 
 -- what reading a cell promises of its answer
 pub record IsCell (work : List ℕ) (row column answer : ℕ) : Type 0 where

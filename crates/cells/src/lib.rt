@@ -4,7 +4,8 @@ pub mod numbers;
 
 ghost use mathlib.Core.Path.{_≡_};
 ghost use Prim.Native.Nat.{_<_, _≤_};
-ghost use Rattle.cells.specs.Cells.{row-count, column-count, work-bytes, cell-limit, withCell, zeros, IsCell};
+ghost use lib.ListN.{length, replicate};
+ghost use Rattle.cells.specs.Cells.{row-count, column-count, work-bytes, cell-limit, withCell, IsCell};
 
 // The value of the cell in a row and a column.
 pub fn cell(work: &[u8], row: usize, column: usize) -> usize
@@ -34,9 +35,7 @@ pub fn set_cell(work: &mut [u8], row: usize, column: usize, value: usize)
 
 // Sets every byte of the area to 0, so that every cell is 0.
 pub fn clear(work: &mut [u8])
-    ensures { λ _. do
-      n ← ⟦work.len()⟧ .entry
-      ⌜ now (work .exit) ≡ zeros n ⌝ }
+    ensures { λ _. ⌜ now (work .exit) ≡ replicate (length (now (work .exit))) 0 ⌝ }
 {
     let mut i = 0;
     while i < work.len() {

@@ -8,12 +8,13 @@ use native.Mathlib.Omega.{arith}
 use lib.ListN.{length}
 use Rattle.model.specs.Tables.{State, admits}
 use Rattle.model.specs.Classes.{Word, InClass}
-use Rattle.model.specs.Joinings.{treeOf}
 use Rattle.model.specs.Quotients.{bookStates, bookTable}
-use Rattle.model.specs.Calls.{sizesFault, outputFault, bookOf, bookFault, buildFault, joinsOf, tableStates}
+use Rattle.model.specs.Calls.{sizesFault, bookOf, bookFault, buildFault, joinsOf, tableStates}
 use Rattle.model.specs.Claims.{Accepted, SameBook}
 use Rattle.model.proofs.FieldLaws.{first-of}
 use Rattle.model.proofs.Demands.{tree-size-same, demands}
+use Rattle.plans.specs.declared.Built.{Built}
+use Rattle.plans.specs.Says.{building}
 use Rattle.plans.proofs.BuildLaws.{Front, built-front}
 use Rattle.handed_over.specs.Handed.{HandedOver, AcceptedBuild, written, SameResults, BuildHandedOver}
 
@@ -42,14 +43,26 @@ table-handed-over book ok =
 
 -- what it left in the output
 front : (b : AcceptedBuild) → Front (b .book) (b .work) (b .out) (b .out′) (b .result)
-front b = built-front (b .book) (b .work) (b .out) (b .out′) (b .result) (b .says .gives) (b .not-refused)
+front b =
+    built-front (b .book) (b .work) (b .out) (b .out′) (b .result) (b .says .gives) (b .not-refused)
 
 -- its book is accepted
 book-accepted : (b : AcceptedBuild) → Accepted (b .book)
 unfolding buildFault
-book-accepted b =
-    first-of (bookFault (b .book)) (outputFault (bookTable (bookOf (b .book))) (b .out))
-    (first-of (sizesFault (b .book) (b .work)) _ (front b .no-refusal) .1) .0
+book-accepted b = first-of (sizesFault (b .book) (b .work)) (bookFault (b .book)) (front b .not-refused) .1
+
+-- its numbers
+length-is : (b : AcceptedBuild) → b .result .length ≡ length (bookTable (bookOf (b .book)))
+unfolding building
+length-is b = ap (λ (r : Built). r .length) (front b .answer-is)
+
+states-are : (b : AcceptedBuild) → b .result .states ≡ length (bookStates (bookOf (b .book)))
+unfolding building
+states-are b = ap (λ (r : Built). r .states) (front b .answer-is)
+
+joins-are : (b : AcceptedBuild) → b .result .joins ≡ joinsOf (bookOf (b .book))
+unfolding building
+joins-are b = ap (λ (r : Built). r .joins) (front b .answer-is)
 
 handed-over : (b : AcceptedBuild) → HandedOver (b .book) (written b)
 handed-over b =
@@ -77,9 +90,9 @@ module _ (b c : AcceptedBuild) (like : SameBook (bookOf (b .book)) (bookOf (c .b
   same-results =
       record {
         bytes-same = front b .at-front .bytes-are ∙ tables-same ∙ sym (front c .at-front .bytes-are);
-        lengths-same = omega (arith, front b .length-is, ap length tables-same, front c .length-is);
-        states-same = omega (arith, front b .states-are, ap length book-states-same, front c .states-are);
-        joins-same = omega (arith, front b .joins-are, book-joins-same, front c .joins-are);
+        lengths-same = omega (arith, length-is b, ap length tables-same, length-is c);
+        states-same = omega (arith, states-are b, ap length book-states-same, states-are c);
+        joins-same = omega (arith, joins-are b, book-joins-same, joins-are c);
       }
 
 -- ---- all of it

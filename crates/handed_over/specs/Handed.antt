@@ -50,7 +50,7 @@ pub record AcceptedBuild : Type 0 where
   pub out′ : List ℕ
   pub result : Built
   pub says : BuildSays book work work′ out out′ result
-  pub not-refused : result .number ≡ 0
+  pub not-refused : result .refusal ≡ 0
 
 -- the bytes that it wrote
 abbrev pub written : AcceptedBuild → List ℕ

@@ -1,6 +1,6 @@
 -- From a joined partition to the table: what the joining and the automaton are handed, how many states there are, and the table refused or
 -- written. Assumes nothing.
-use mathlib.Core.Path.{_≡_, refl, sym, ap, _∙_, subst}
+use mathlib.Core.Path.{_≡_, sym, ap, _∙_, subst}
 use mathlib.Core.Bool.{true, false}
 use mathlib.Core.List.{List, _++_}
 use Prim.Native.Nat.{ℕ, _+_, _-_, _<_, _≤_}
@@ -14,7 +14,8 @@ use Rattle.model.specs.Tables.{State, stateFields}
 use Rattle.model.specs.Classes.{Word}
 use Rattle.model.specs.Joinings.{treeOf}
 use Rattle.model.specs.Quotients.{statesOf, bookStates, bookTable}
-use Rattle.model.specs.Calls.{joinsOf}
+use Rattle.model.specs.Limits.{output-too-short}
+use Rattle.model.specs.Calls.{over, joinsOf}
 use Rattle.model.proofs.Notions.{Fits}
 use Rattle.model.proofs.Trees.{treeOf-tree}
 use Rattle.model.proofs.FirstMet.{met-few, states-length}
@@ -27,7 +28,7 @@ use Rattle.quotient.specs.Gathered.{Joined}
 use Rattle.writing.specs.Writing.{Put}
 use Rattle.writing.proofs.WritingLaws.{put-append, written-from-zero}
 use Rattle.inference.specs.Books.{BookAt, rowsAt, classAt, namesEnd, frontBytes, TreeIn, JoinedBy}
-use Rattle.inference.specs.Results.{over, refusal, Gives}
+use Rattle.inference.specs.Results.{refused-with, Infers}
 use Rattle.inference.proofs.FrontLaws.{front-length}
 use Rattle.inference.proofs.ResultLaws.{table-parts, table-length, gives-too-short, gives-table}
 
@@ -91,7 +92,7 @@ module _ (s : List ℕ) (p : Place) (parents names accepts groups : List ℕ) (a
 
   pub table-too-short :
       (out : List ℕ) (size : ℕ) → size ≡ length (stateFields made) → leb ((namesEnd p + 6) + size) (length out) ≡ false →
-      Gives (fileOf s p) out out (refusal 13)
+      Infers (fileOf s p) out out (refused-with output-too-short)
   table-too-short out size e over-room =
       gives-too-short (fileOf s p) out (tree .few)
       (omega (arith, leb-false ((namesEnd p + 6) + size) (length out) over-room, total size e))
@@ -100,17 +101,16 @@ module _ (s : List ℕ) (p : Place) (parents names accepts groups : List ℕ) (a
       (out mid out′ : List ℕ) (next end states size : ℕ) → leb ((namesEnd p + 6) + size) (length out) ≡ true →
       states ≡ length made → size ≡ length (stateFields made) → Put out mid 0 (frontBytes (fileOf s p)) (namesEnd p + 6) next →
       Put mid out′ next (stateFields made) (length (stateFields made)) end →
-      Gives (fileOf s p) out out′ (record { number = 0; length = end; states = states; joins = length groups - states })
+      Infers (fileOf s p) out out′ (record { refusal = 0; length = end; states = states; joins = length groups - states })
   unfolding joinsOf
   table-written out mid out′ next end states size fits counted e front back =
       let whole = put-append front back (omega arith) in
       let all : frontBytes (fileOf s p) ++ stateFields made ≡ bookTable (fileOf s p) =
       ap (λ (z : List State). frontBytes (fileOf s p) ++ stateFields z) states-same ∙ sym (table-parts (fileOf s p)) in
       let as-many : states ≡ length (bookStates (fileOf s p)) = counted ∙ ap length states-same in
-      gives-table (fileOf s p) out out′ (record { number = 0; length = end; states = states; joins = length groups - states })
-      (tree .few) (omega (arith, leb-true ((namesEnd p + 6) + size) (length out) fits, total size e))
+      gives-table (fileOf s p) out out′ end states (length groups - states) (tree .few)
+      (omega (arith, leb-true ((namesEnd p + 6) + size) (length out) fits, total size e))
       (subst (λ (z : List ℕ). out′ ≡ over z out) all (written-from-zero (whole .written)))
-      refl
       (omega (arith, whole .ends, total size e))
       as-many
       (omega (arith, joined .labels .size, as-many))

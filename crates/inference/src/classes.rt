@@ -16,7 +16,7 @@ const CONTEXT: u8 = 0;
 
 const SEEN_SET: u8 = 1;
 
-// Joins by the class's rule until none applies. What the groups hold at first is all the same.
+// Joins by the class's rule until none applies. The groups may hold anything at first.
 pub fn join_by_class(
     kind: u8,
     first: u8,

@@ -17,7 +17,7 @@ ghost use Rattle.model.specs.Limits.{input-limit, work-bytes};
 ghost use Rattle.fields.specs.Places.{fileOf};
 ghost use Rattle.writing.specs.Writing.{Put};
 ghost use Rattle.inference.specs.Books.{BookAt, rowsAt, classAt, namesEnd, frontBytes, TreeIn, JoinedBy};
-ghost use Rattle.inference.specs.Results.{Gives, refusal};
+ghost use Rattle.inference.specs.Results.{Infers, refused-with};
 
 // The refusals of an accepted book.
 pub const TREE_TOO_LARGE: u8 = 10;
@@ -29,18 +29,18 @@ const CLASS_BYTES: usize = 6;
 
 // What is given back: the refusal, or 0 with the table's length, its states, and the joins.
 pub struct Inferred {
-    pub number: u8,
+    pub refusal: u8,
     pub length: usize,
     pub states: usize,
     pub joins: usize,
 }
 
 // What is given back with a refusal.
-fn refused(number: u8) -> Inferred
-    ensures { λ r. ⌜ r ≡ refusal number ⌝ }
+fn refused(refusal: u8) -> Inferred
+    ensures { λ r. ⌜ r ≡ refused-with refusal ⌝ }
 {
     Inferred {
-        number: number,
+        refusal: refusal,
         length: 0,
         states: 0,
         joins: 0,
@@ -82,7 +82,7 @@ fn write_joined(
     requires { ⌜ BookAt (now book) place × (length (now book) ≤ input-limit) × (work-bytes ≤ length (now work)) ⌝ }
     requires { ⌜ TreeIn (rowsAt (now book) place) (now parents) (now names) (now accepts) ⌝ }
     requires { ⌜ JoinedBy (classAt place) (rowsAt (now book) place) (now parents) (now names) (now groups) ⌝ }
-    ensures { λ r. ⌜ Gives (fileOf (now (book .entry)) place) (now (out .entry)) (now (out .exit)) r ⌝ }
+    ensures { λ r. ⌜ Infers (fileOf (now (book .entry)) place) (now (out .entry)) (now (out .exit)) r ⌝ }
 {
     let mut next = [0u64; 512];
     let mut accepting = [0u8; 512];
@@ -108,7 +108,7 @@ fn write_joined(
     let end = write_states(work, &next, &accepting, &met, &numbers, states, out, at);
     let joins = groups.len() - states;
     Inferred {
-        number: 0,
+        refusal: 0,
         length: end,
         states: states,
         joins: joins,
@@ -127,7 +127,7 @@ fn join_and_write(
 ) -> Inferred
     requires { ⌜ BookAt (now book) place × (length (now book) ≤ input-limit) × (work-bytes ≤ length (now work)) ⌝ }
     requires { ⌜ TreeIn (rowsAt (now book) place) (now parents) (now names) (now accepts) ⌝ }
-    ensures { λ r. ⌜ Gives (fileOf (now (book .entry)) place) (now (out .entry)) (now (out .exit)) r ⌝ }
+    ensures { λ r. ⌜ Infers (fileOf (now (book .entry)) place) (now (out .entry)) (now (out .exit)) r ⌝ }
 {
     let n = parents.len();
     let mut groups = [0u16; 512];
@@ -153,10 +153,10 @@ fn join_and_write(
 }
 
 // The table of an accepted book at the front of the output, which is untouched beyond it: its length, its states and the joins; or
-// refusal 10 or 13, and the output is as it was. What the lent area holds at first is all the same.
+// refusal 10 or 13, and the output is as it was. The lent area may hold anything at first.
 pub fn infer(book: &[u8], place: Place, work: &mut [u8], out: &mut [u8]) -> Inferred
     requires { ⌜ BookAt (now book) place × (length (now book) ≤ input-limit) × (work-bytes ≤ length (now work)) ⌝ }
-    ensures { λ r. ⌜ Gives (fileOf (now (book .entry)) place) (now (out .entry)) (now (out .exit)) r ⌝ }
+    ensures { λ r. ⌜ Infers (fileOf (now (book .entry)) place) (now (out .entry)) (now (out .exit)) r ⌝ }
 {
     let mut parents = [0u16; 512];
     let mut names = [0u8; 512];

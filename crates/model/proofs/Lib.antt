@@ -37,6 +37,7 @@ pub mod MetOrder
 pub mod ArcCount
 pub mod WritableStates
 pub mod FieldLaws
+pub mod CallLaws
 pub mod Turns
 pub mod StateBodies
 pub mod Books

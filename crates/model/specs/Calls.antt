@@ -1,25 +1,78 @@
--- What is given back (document 01): which refusal a build, a rewriting and a walk come to, in the order in which they are
--- judged, and what is written where there is none. What the public entries say of their results and of each lent byte is
--- built on these in the crate `plans`. Assumes nothing.
-use mathlib.Core.Bool.{_||_, not}
-use mathlib.Core.List.{List}
-use Prim.Native.Nat.{ℕ, _-_}
-use lib.Dec.{ltb}
-use lib.ListN.{length}
+-- What is given back (document 01): what every call says of its answer and of each lent byte; then which refusal a build, a
+-- rewriting and a walk come to, in the order in which they are judged, and what is written where there is none. The crate `plans`
+-- puts the two together, one definition for each public entry. Assumes nothing.
+use mathlib.Core.Path.{_≡_}
+use mathlib.Core.Bool.{Bool, true, false, _||_, not, cond}
+use mathlib.Core.List.{List, [], _∷_, _++_}
+use Prim.Native.Nat.{ℕ, _-_, _<_}
+use lib.Dec.{eqb, ltb}
+use lib.ListN.{length, drop, replicate}
 use Rattle.model.specs.Limits.{state-limit, input-limit, work-bytes, when, firstOf}
 use Rattle.model.specs.Limits.{bad-sizes, bad-row, tree-too-large, bad-numbering, output-too-short}
 use Rattle.model.specs.Fields.{File, book, table, readFields, rowOk}
 use Rattle.model.specs.Tables.{State, statesIn, tableBytes, isFirstMet}
 use Rattle.model.specs.Joinings.{treeOf}
-use Rattle.model.specs.Quotients.{bookStates, bookTable}
+use Rattle.model.specs.Quotients.{bookStates}
+
+-- ---- every call
+
+-- what a call comes to, for an answer of type A: its refusal, all but 13; the answer of a refused call, by the refusal's number; the
+-- answer where nothing is refused; and what is to stand at the front of each output
+pub record Call (A : Type 0) : Type 0 where
+  pub refusal : ℕ
+  pub none : ℕ → A
+  pub answer : A
+  pub writes : List (List ℕ)
+
+-- the same call with its answer seen as another
+abbrev pub seenAs : {A B : Type 0} → (A → B) → Call A → Call B
+seenAs f c = record { refusal = c .refusal; none = λ k. f (c .none k); answer = f (c .answer); writes = c .writes }
+
+-- an output is shorter than what is to stand at its front
+unfoldable pub tooShort : List (List ℕ) → List (List ℕ) → Bool
+tooShort [] outs = false
+tooShort (w ∷ ws) [] = true
+tooShort (w ∷ ws) (out ∷ outs) = ltb (length out) (length w) || tooShort ws outs
+
+-- the bytes at the front of an output, which is untouched beyond them
+abbrev pub over : List ℕ → List ℕ → List ℕ
+over bytes out = bytes ++ drop (length bytes) out
+
+-- the outputs with what is written at their fronts
+unfoldable pub fronts : List (List ℕ) → List (List ℕ) → List (List ℕ)
+fronts [] outs = outs
+fronts (w ∷ ws) [] = []
+fronts (w ∷ ws) (out ∷ outs) = over w out ∷ fronts ws outs
+
+-- the refusal of a call with these outputs: 13 comes last
+abbrev pub faultWith : {A : Type 0} → Call A → List (List ℕ) → ℕ
+faultWith c outs = firstOf (c .refusal) (when (tooShort (c .writes) outs) output-too-short)
+
+-- a value where nothing is refused, and otherwise what stands for none
+abbrev pub unless : {A : Type 0} → ℕ → A → A → A
+unless fault none value = cond (eqb fault 0) value none
+
+-- the answer, and the outputs before and after: a refused call leaves each output as it was
+pub record Gives {A : Type 0} (c : Call A) (outs outs′ : List (List ℕ)) (r : A) : Type 0 where
+  pub answer-is : r ≡ unless (faultWith c outs) (c .none (faultWith c outs)) (c .answer)
+  pub outputs-are : outs′ ≡ unless (faultWith c outs) outs (fronts (c .writes) outs)
+
+-- what a public entry says: its answer and its outputs; and every byte of the working area is zero afterwards, refused or not
+pub record Says {A : Type 0} (c : Call A) (work work′ : List ℕ) (outs outs′ : List (List ℕ)) (r : A) : Type 0 where
+  pub gives : Gives c outs outs′ r
+  pub same-length : length work′ ≡ length work
+  pub work-zero : work′ ≡ replicate (length work′) 0
+
+-- a fault that is this refusal, which is one
+pub record Refuses (fault number : ℕ) : Type 0 where
+  pub is : fault ≡ number
+  pub some : 0 < number
+
+-- ---- what is refused, and what is written
 
 -- 1: input over 65,535 bytes, or a working area under 65,536
 unfoldable pub sizesFault : List ℕ → List ℕ → ℕ
 sizesFault input work = when (ltb input-limit (length input) || ltb (length work) work-bytes) bad-sizes
-
--- 13: the output is shorter than what is to be written
-unfoldable pub outputFault : List ℕ → List ℕ → ℕ
-outputFault written out = when (ltb (length out) (length written)) output-too-short
 
 -- the book that the bytes hold
 unfoldable pub bookOf : List ℕ → File
@@ -31,16 +84,15 @@ bookFault s =
     firstOf (readFields book s .number)
     (when (ltb state-limit (length (treeOf (bookOf s .items)))) tree-too-large)
 
--- a build: 1, the fields', 10, 13
-unfoldable pub buildFault : List ℕ → List ℕ → List ℕ → ℕ
-buildFault s work out =
-    firstOf (sizesFault s work) (firstOf (bookFault s) (outputFault (bookTable (bookOf s)) out))
+-- a build: 1, the fields', 10
+unfoldable pub buildFault : List ℕ → List ℕ → ℕ
+buildFault s work = firstOf (sizesFault s work) (bookFault s)
 
 -- joins: tree states less table states
 unfoldable pub joinsOf : File → ℕ
 joinsOf f = length (treeOf (f .items)) - length (bookStates f)
 
--- the table that the bytes hold, and its states
+-- the table that the bytes hold
 unfoldable pub tableOf : List ℕ → File
 tableOf s = readFields table s .file-is
 
@@ -58,10 +110,6 @@ tableFault s work =
 -- a table read and written again
 unfoldable pub rewritten : List ℕ → List ℕ
 rewritten s = tableBytes (tableOf s .names) (tableOf s .class-is) (tableStates s)
-
--- a rewriting: the table's, then 13
-unfoldable pub rewriteFault : List ℕ → List ℕ → List ℕ → ℕ
-rewriteFault s work out = firstOf (tableFault s work) (outputFault (rewritten s) out)
 
 -- a walk: the table wholly, then its row by 9
 unfoldable pub walkFault : List ℕ → List ℕ → List ℕ → ℕ

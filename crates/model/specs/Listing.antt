@@ -1,5 +1,5 @@
--- The listing of a book (document 01, "Worked days") as bytes, and which refusal a call that writes it comes to; then the text that
--- the listing program prints, a refusal's included. Assumes nothing.
+-- The listing of a book (document 01, "Worked days") as bytes; then the text that the listing program prints, a refusal's included.
+-- Assumes nothing.
 use mathlib.Core.Bool.{true, false, cond}
 use mathlib.Core.List.{List, [], _∷_, _++_, flatMap}
 use Prim.Native.Nat.{ℕ, zero, suc, _+_, _/_, _%_}
@@ -9,7 +9,7 @@ use Rattle.model.specs.Limits.{input-limit, bad-sizes, when, firstOf}
 use Rattle.model.specs.Fields.{File}
 use Rattle.model.specs.Tables.{Arc, State}
 use Rattle.model.specs.Quotients.{bookStates}
-use Rattle.model.specs.Calls.{sizesFault, outputFault, bookOf, bookFault, joinsOf}
+use Rattle.model.specs.Calls.{bookOf, bookFault, joinsOf}
 
 -- the decimal digits of a number (the first argument counts down and is at least the number of digits less one)
 unfoldable pub digits : ℕ → ℕ → List ℕ
@@ -63,11 +63,6 @@ listing names states joins =
 -- the listing of a book: its names, the states of its table, its joins
 abbrev pub bookListing : File → List ℕ
 bookListing f = listing (f .names) (bookStates f) (joinsOf f)
-
--- a listing: 1, the fields', 10, 13
-unfoldable pub listFault : List ℕ → List ℕ → List ℕ → ℕ
-listFault s work text =
-    firstOf (sizesFault s work) (firstOf (bookFault s) (outputFault (bookListing (bookOf s)) text))
 
 -- `refused N`
 unfoldable pub refusalText : ℕ → List ℕ

@@ -8,8 +8,10 @@ use native.Mathlib.Omega.{arith}
 use lib.Dec.{ltb}
 use lib.Count.{ones}
 use lib.ListN.{length, getD}
+use lib.Seq.{length-take-le}
 use Rattle.model.specs.Tables as model
-use Rattle.model.specs.Tables.{Arc, State, no-state, stateIn, nameSet, walk, reachedState, outcome, nextNames, nextCount}
+use Rattle.model.specs.Tables.{Arc, State, no-state, stateIn, nameSet, walk, reachedState, outcome}
+use Rattle.model.specs.Tables.{longestBeginning, nextNames, nextCount}
 use Rattle.model.specs.Calls.{tableStates}
 use Rattle.model.proofs.Arcs.{Ascending}
 use Rattle.fields.specs.Offsets.{bodyAt}
@@ -19,8 +21,7 @@ use Rattle.tables.specs.Walking.{WalkedAs}
 use Rattle.tables.specs.declared.Walk.{Walk}
 use Rattle.tables.proofs.ArcLaws.{NamesBelow, state-ascends}
 use Rattle.model.proofs.NameSets.{ones-nameSet}
-use Rattle.plans.specs.declared.walking.Ended.{Ended}
-use Rattle.plans.specs.Parts.{EndsOver}
+use Rattle.plans.specs.Says.{walked-as, walked-over}
 
 -- ascending names below n are at most n
 few-names : (next n : ℕ) (arcs : List Arc) → next ≤ n → Ascending next arcs → NamesBelow n arcs → next + length arcs ≤ n
@@ -56,30 +57,21 @@ module _ (s work row : List ℕ) (w : Walk) (ready : Ready s work) (walked : Wal
       )
 
   pub ends-over :
-      (at names result count : ℕ) (accepting : Bool) (r : Ended) → at ≡ cellAt work (w .state) 0 →
+      (at names result count taken : ℕ) (accepting : Bool) → at ≡ cellAt work (w .state) 0 →
       names ≡ nameSet (stateIn (bodyAt s at) .arcs) → accepting ≡ stateIn (bodyAt s at) .accepts →
-      result ≡ cond (ltb (w .taken) (length row)) 3 (cond accepting 1 2) → count ≡ ones names →
-      r .number ≡ 0 → r .outcome ≡ result → r .names ≡ names → r .count ≡ count → r .taken ≡ w .taken →
-      EndsOver (tableStates s) row r
-  unfolding outcome nextNames nextCount
-  ends-over at names result count accepting r e names-are accepts-is result-is count-is r-number r-outcome r-names r-count r-taken =
+      result ≡ cond (ltb (w .taken) (length row)) 3 (cond accepting 1 2) → count ≡ ones names → taken ≡ w .taken →
+      walked-as 0 result taken names count ≡ walked-over (tableStates s) row
+  unfolding outcome nextNames nextCount longestBeginning
+  ends-over at names result count taken accepting e names-are accepts-is result-is count-is taken-is =
       let reached = state-reached at e in
-      let taken-is : w .taken ≡ walk (tableStates s) row .taken = ap (λ (v : model.Walk). v .taken) (walked .is) in
-      record {
-        number-is = r-number;
-        outcome-is =
-            r-outcome
-            ∙ result-is
-            ∙ ap (λ (b : Bool). cond (ltb (w .taken) (length row)) 3 (cond b 1 2))
-            (accepts-is ∙ ap (λ (q : State). q .accepts) reached)
-            ∙ ap (λ (n : ℕ). cond (ltb n (length row)) 3 (cond (reachedState (tableStates s) row .accepts) 1 2)) taken-is;
-        names-are = r-names ∙ names-are ∙ ap (λ (q : State). nameSet (q .arcs)) reached;
-        count-is =
-            r-count
-            ∙ count-is
-            ∙ ap ones names-are
-            ∙ bits-are at (field-reached at e)
-            ∙ ap (λ (q : State). length (q .arcs)) reached;
-        taken-is = r-taken ∙ taken-is;
-        within = omega (arith, r-taken, walked .within);
-      }
+      let steps : w .taken ≡ walk (tableStates s) row .taken = ap (λ (v : model.Walk). v .taken) (walked .is) in
+      let ends : result ≡ outcome (tableStates s) row =
+      result-is
+      ∙ ap (λ (b : Bool). cond (ltb (w .taken) (length row)) 3 (cond b 1 2)) (accepts-is ∙ ap (λ (q : State). q .accepts) reached)
+      ∙ ap (λ (n : ℕ). cond (ltb n (length row)) 3 (cond (reachedState (tableStates s) row .accepts) 1 2)) steps in
+      let next : names ≡ nextNames (tableStates s) row = names-are ∙ ap (λ (q : State). nameSet (q .arcs)) reached in
+      let many : count ≡ nextCount (tableStates s) row =
+      count-is ∙ ap ones names-are ∙ bits-are at (field-reached at e) ∙ ap (λ (q : State). length (q .arcs)) reached in
+      let long : taken ≡ length (longestBeginning (tableStates s) row) =
+      taken-is ∙ steps ∙ sym (length-take-le (walk (tableStates s) row .taken) row (omega (arith, steps, walked .within))) in
+      λ i. walked-as 0 (ends i) (long i) (next i) (many i)

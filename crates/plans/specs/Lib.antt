@@ -1,4 +1,3 @@
--- What the public entries promise of their result and of each lent byte (Says), and what the functions behind them promise
--- (Parts). The definitions that they cite are those of the crate `model`. Assumes nothing.
+-- What the public entries promise of their result and of each lent byte. The definitions that this cites are those of the crate
+-- `model`. Assumes nothing.
 pub mod Says
-pub mod Parts

@@ -1,108 +1,112 @@
--- What the public entries say (document 01, "What is given back", "Walking a row" and the listing of "Worked days"): the result,
--- and every lent byte, are equal to what a definition of `model` gives. Assumes nothing.
+-- What the public entries say (document 01, "What is given back", "Walking a row" and the listing of "Worked days"): each entry is one
+-- call in the shape of model's Calls, so that its result and every lent byte are equal to what a definition of `model` gives.
+-- Assumes nothing.
 use mathlib.Core.Path.{_≡_}
-use mathlib.Core.Bool.{cond}
-use mathlib.Core.List.{List, [], _++_}
+use mathlib.Core.List.{List, [], _∷_}
 use Prim.Native.Nat.{ℕ}
-use lib.Dec.{eqb}
-use lib.ListN.{length, drop, replicate}
-use Rattle.model.specs.Tables.{outcome, longestBeginning, nextNames, nextCount}
+use lib.ListN.{length, replicate}
+use Rattle.model.specs.Tables.{State, outcome, longestBeginning, nextNames, nextCount}
 use Rattle.model.specs.Quotients.{bookStates, bookTable}
-use Rattle.model.specs.Calls.{bookOf, buildFault, joinsOf, rewriteFault, rewritten, walkFault, tableStates}
-use Rattle.model.specs.Listing.{bookListing, listFault, listingOf}
+use Rattle.model.specs.Calls.{Call, Says, over, unless}
+use Rattle.model.specs.Calls.{bookOf, buildFault, joinsOf, tableFault, rewritten, walkFault, tableStates}
+use Rattle.model.specs.Listing.{bookListing, listingOf}
 use Rattle.plans.specs.declared.Built.{Built}
 use Rattle.plans.specs.declared.Walked.{Walked}
 use Rattle.plans.specs.declared.Written.{Written}
 
--- the bytes at the front of the output, which is untouched beyond them
-abbrev pub over : List ℕ → List ℕ → List ℕ
-over bytes out = bytes ++ drop (length bytes) out
-
--- every byte of the lent working area is zero
-abbrev pub zeroed : List ℕ → List ℕ
-zeroed work = replicate (length work) 0
-
--- a value where nothing is refused, and otherwise what stands for none
-abbrev pub unless : {A : Type 0} → ℕ → A → A → A
-unless fault none value = cond (eqb fault 0) value none
-
 -- ---- calls that write a table
 
--- what is given back: the refusal, and where there is none the table's bytes in the output, their number, the states and the joins
-pub record Gives (fault : ℕ) (bytes : List ℕ) (states joins : ℕ) (out out′ : List ℕ) (r : Built) : Type 0 where
-  pub number-is : r .number ≡ fault
-  pub length-is : r .length ≡ unless fault 0 (length bytes)
-  pub states-are : r .states ≡ unless fault 0 states
-  pub joins-are : r .joins ≡ unless fault 0 joins
-  pub output-is : out′ ≡ unless fault out (over bytes out)
+-- a result by its parts
+abbrev pub built : ℕ → ℕ → ℕ → ℕ → Built
+built refusal length states joins = record { refusal = refusal; length = length; states = states; joins = joins }
 
--- the same with the working area before and after
-pub record Wrote (fault : ℕ) (bytes : List ℕ) (states joins : ℕ) (work work′ out out′ : List ℕ) (r : Built) : Type 0 where
-  pub gives : Gives fault bytes states joins out out′ r
-  pub work-zero : work′ ≡ zeroed work
+-- a refused call gives its number, and no table
+abbrev pub not-built : ℕ → Built
+not-built refusal = built refusal 0 0 0
 
--- a table read and written again: the lent slices before and after, and the result
-abbrev pub RewriteGives : List ℕ → List ℕ → List ℕ → List ℕ → Built → Type 0
-RewriteGives table work out out′ r =
-    Gives (rewriteFault table work out) (rewritten table) (length (tableStates table)) 0 out out′ r
+-- the table of a book built: its length, its states, and the joins
+unfoldable pub building : List ℕ → List ℕ → Call Built
+building book work =
+    let f = bookOf book in
+    record {
+      refusal = buildFault book work;
+      none = not-built;
+      answer = built 0 (length (bookTable f)) (length (bookStates f)) (joinsOf f);
+      writes = bookTable f ∷ [];
+    }
 
--- the same with the working area before and after: what rewrite_table promises
-abbrev pub RewriteSays : List ℕ → List ℕ → List ℕ → List ℕ → List ℕ → Built → Type 0
-RewriteSays table work work′ out out′ r =
-    Wrote (rewriteFault table work out) (rewritten table) (length (tableStates table)) 0 work work′ out out′ r
+-- a table read and written again: no joins
+unfoldable pub rewriting : List ℕ → List ℕ → Call Built
+rewriting table work =
+    record {
+      refusal = tableFault table work;
+      none = not-built;
+      answer = built 0 (length (rewritten table)) (length (tableStates table)) 0;
+      writes = rewritten table ∷ [];
+    }
 
--- the table of a book built
-abbrev pub BuildGives : List ℕ → List ℕ → List ℕ → List ℕ → Built → Type 0
-BuildGives book work out out′ r =
-    Gives (buildFault book work out) (bookTable (bookOf book)) (length (bookStates (bookOf book))) (joinsOf (bookOf book)) out out′ r
-
--- the same with the working area before and after: what build_table promises
+-- what build_table promises: the lent slices before and after, and the result
 abbrev pub BuildSays : List ℕ → List ℕ → List ℕ → List ℕ → List ℕ → Built → Type 0
-BuildSays book work work′ out out′ r =
-    Wrote (buildFault book work out) (bookTable (bookOf book)) (length (bookStates (bookOf book))) (joinsOf (bookOf book))
-    work work′ out out′ r
+BuildSays book work work′ out out′ r = Says (building book work) work work′ (out ∷ []) (out′ ∷ []) r
+
+-- what rewrite_table promises
+abbrev pub RewriteSays : List ℕ → List ℕ → List ℕ → List ℕ → List ℕ → Built → Type 0
+RewriteSays table work work′ out out′ r = Says (rewriting table work) work work′ (out ∷ []) (out′ ∷ []) r
 
 -- ---- a row walked
 
--- the beginning that can be walked
-abbrev pub walkedPart : List ℕ → List ℕ → List ℕ → List ℕ
-walkedPart table row work = unless (walkFault table row work) [] (longestBeginning (tableStates table) row)
+-- a result by its parts
+abbrev pub walked-as : ℕ → ℕ → ℕ → ℕ → ℕ → Walked
+walked-as refusal result walked names count =
+    record { refusal = refusal; outcome = result; «next_count» = count; walked = walked; «next_names» = names }
 
--- the refusal and the walk's outcome, the next names and how many they are
-pub record WalkGives (table row work : List ℕ) (number result names count : ℕ) : Type 0 where
-  pub number-is : number ≡ walkFault table row work
-  pub outcome-is : result ≡ unless (walkFault table row work) 0 (outcome (tableStates table) row)
-  pub names-are : names ≡ unless (walkFault table row work) 0 (nextNames (tableStates table) row)
-  pub count-is : count ≡ unless (walkFault table row work) 0 (nextCount (tableStates table) row)
+-- the walk of a row: how it ends, how long the longest beginning is that can be walked, the next names and how many they are
+abbrev pub walked-over : List State → List ℕ → Walked
+walked-over states row =
+    walked-as 0 (outcome states row) (length (longestBeginning states row)) (nextNames states row) (nextCount states row)
 
--- the same with the beginning, and the working area before and after
-pub record WalkSays (table row work work′ beginning : List ℕ) (number result names count : ℕ) : Type 0 where
-  pub gives : WalkGives table row work number result names count
-  pub beginning-is : beginning ≡ walkedPart table row work
-  pub work-zero : work′ ≡ zeroed work
+-- a row walked over a table; a refused walk gives its number, an empty beginning, no names and a count of 0
+unfoldable pub walking : List ℕ → List ℕ → List ℕ → Call Walked
+walking table row work =
+    record {
+      refusal = walkFault table row work;
+      none = λ k. walked-as k 0 0 0 0;
+      answer = walked-over (tableStates table) row;
+      writes = [];
+    }
 
--- the same for C, where the beginning is told by its length
-pub record WalkedSays (table row work work′ : List ℕ) (r : Walked) : Type 0 where
-  pub gives : WalkGives table row work (r .number) (r .outcome) (r .names) (r .count)
-  pub length-is : r .length ≡ length (walkedPart table row work)
-  pub work-zero : work′ ≡ zeroed work
+-- what plans_walk promises
+abbrev pub WalkedSays : List ℕ → List ℕ → List ℕ → List ℕ → Walked → Type 0
+WalkedSays table row work work′ r = Says (walking table row work) work work′ [] [] r
+
+-- what walk_row promises: the same of the numbers that it sets, and the beginning itself, which is a part of the row
+pub record WalkSays (table row work work′ beginning : List ℕ) (refusal result names count : ℕ) : Type 0 where
+  pub says : WalkedSays table row work work′ (walked-as refusal result (length beginning) names count)
+  pub beginning-is : beginning ≡ unless (walkFault table row work) [] (longestBeginning (tableStates table) row)
 
 -- ---- a book listed
 
--- what is given back: the refusal, and where there is none the bytes at the front of the text, and their number
-pub record GivesText (fault : ℕ) (bytes text text′ : List ℕ) (r : Written) : Type 0 where
-  pub refusal-is : r .refusal ≡ fault
-  pub length-is : r .length ≡ unless fault 0 (length bytes)
-  pub text-is : text′ ≡ unless fault text (over bytes text)
+-- a result by its parts
+abbrev pub written : ℕ → ℕ → Written
+written refusal length = record { refusal = refusal; length = length }
+
+-- a refused call gives its number, and nothing is written
+abbrev pub not-written : ℕ → Written
+not-written refusal = written refusal 0
+
+-- bytes written to the front of an output: refused where that is too short, and for nothing else
+unfoldable pub copying : List ℕ → Call Written
+copying bytes = record { refusal = 0; none = not-written; answer = written 0 (length bytes); writes = bytes ∷ [] }
 
 -- the listing of a book
-abbrev pub ListGives : List ℕ → List ℕ → List ℕ → List ℕ → Written → Type 0
-ListGives book work text text′ r = GivesText (listFault book work text) (bookListing (bookOf book)) text text′ r
+unfoldable pub listingBook : List ℕ → List ℕ → Call Written
+listingBook book work =
+    let text = bookListing (bookOf book) in
+    record { refusal = buildFault book work; none = not-written; answer = written 0 (length text); writes = text ∷ [] }
 
--- the same with the working area before and after: what list_book promises
-pub record ListSays (book work work′ text text′ : List ℕ) (r : Written) : Type 0 where
-  pub gives : ListGives book work text text′ r
-  pub work-zero : work′ ≡ zeroed work
+-- what list_book promises
+abbrev pub ListSays : List ℕ → List ℕ → List ℕ → List ℕ → List ℕ → Written → Type 0
+ListSays book work work′ text text′ r = Says (listingBook book work) work work′ (text ∷ []) (text′ ∷ []) r
 
 -- ---- what the listing program prints
 
@@ -110,4 +114,5 @@ pub record ListSays (book work work′ text text′ : List ℕ) (r : Written) : 
 pub record PrintSays (book work work′ text text′ : List ℕ) (r : ℕ) : Type 0 where
   pub text-is : text′ ≡ over (listingOf book) text
   pub length-is : r ≡ length (listingOf book)
-  pub work-zero : work′ ≡ zeroed work
+  pub same-length : length work′ ≡ length work
+  pub work-zero : work′ ≡ replicate (length work′) 0

@@ -6,11 +6,13 @@ use fields::read_fields;
 use inference::infer;
 use judging::limits::BAD_SIZES;
 use judging::sizes::sizes_bad;
-ghost use Rattle.plans.specs.Says.{BuildGives};
+ghost use mathlib.Core.List.{[], _∷_};
+ghost use Rattle.model.specs.Calls.{Gives};
+ghost use Rattle.plans.specs.Says.{building};
 
 // Refusals 1, the fields', 10, 13; otherwise the table stands at the front of the output.
 pub fn build(book: &[u8], work: &mut [u8], out: &mut [u8]) -> Built
-    ensures { λ r. ⌜ BuildGives (now (book .entry)) (now (work .entry)) (now (out .entry)) (now (out .exit)) r ⌝ }
+    ensures { λ r. ⌜ Gives (building (now (book .entry)) (now (work .entry))) (now (out .entry) ∷ []) (now (out .exit) ∷ []) r ⌝ }
 {
     if sizes_bad(book.len(), work.len()) {
         return refused(BAD_SIZES);
@@ -20,7 +22,7 @@ pub fn build(book: &[u8], work: &mut [u8], out: &mut [u8]) -> Built
         Fields::Accepted(p) => {
             let inferred = infer(book, p, work, out);
             Built {
-                number: inferred.number,
+                refusal: inferred.refusal,
                 length: inferred.length as u32,
                 states: inferred.states as u32,
                 joins: inferred.joins as u32,

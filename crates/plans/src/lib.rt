@@ -11,25 +11,25 @@ mod walking;
 use cells::clear;
 ghost use Rattle.plans.specs.Says.{BuildSays, RewriteSays, WalkSays, WalkedSays, ListSays};
 
-// What a call that writes a table gives back: a refusal's number or 0, then the table's length in bytes, its states, and the
-// joins: tree states less table states.
+// What a call that writes a table gives back: its refusal or 0, then the table's length in bytes, its states, and the joins: tree
+// states less table states.
 #[repr(C)]
 pub struct Built {
-    pub number: u8,
+    pub refusal: u8,
     pub length: u32,
     pub states: u32,
     pub joins: u32,
 }
 
-// What a walk gives back to C: a refusal's number or 0; 1 admitted, 2 on the way, 3 stops; how many next names; how many names of
-// the row can be walked; the next names, bit n for name n.
+// What a walk gives back: its refusal or 0; 1 admitted, 2 on the way, 3 stops; how many names may come next; how many names of the row
+// can be walked; the names that may come next, bit n for name n.
 #[repr(C)]
 pub struct Walked {
-    pub number: u8,
+    pub refusal: u8,
     pub outcome: u8,
-    pub count: u8,
-    pub length: u32,
-    pub names: u64,
+    pub next_count: u8,
+    pub walked: u32,
+    pub next_names: u64,
 }
 
 // What a call that writes bytes gives back: a refusal's number or 0, and how many bytes were written.
@@ -64,22 +64,21 @@ pub fn walk_row<'a>(
     table: &[u8],
     row: &'a [u8],
     work: &mut [u8],
-    number: &mut u8,
+    refusal: &mut u8,
     outcome: &mut u8,
-    names: &mut u64,
-    count: &mut u8,
+    next_names: &mut u64,
+    next_count: &mut u8,
 ) -> &'a [u8]
     ensures { λ r. ⌜ WalkSays (now (table .entry)) (now (row .entry)) (now (work .entry)) (now (work .exit)) (now r)
-        (now (number .exit)) (now (outcome .exit)) (now (names .exit)) (now (count .exit)) ⌝ }
+        (now (refusal .exit)) (now (outcome .exit)) (now («next_names» .exit)) (now («next_count» .exit)) ⌝ }
 {
-    let ended = walking::walk(table, row, work);
-    clear(work);
-    *number = ended.number;
+    let ended = walking::walk_and_clear(table, row, work);
+    *refusal = ended.refusal;
     *outcome = ended.outcome;
-    *names = ended.names;
-    *count = ended.count;
-    let taken = ended.taken;
-    &row[..taken]
+    *next_names = ended.next_names;
+    *next_count = ended.next_count;
+    let walked = ended.walked as usize;
+    &row[..walked]
 }
 
 // Writes the listing of a book: a line with the states and joins, then one for each state.
@@ -112,26 +111,7 @@ pub extern "C" fn plans_rewrite(table: &[u8], work: &mut [u8], out: &mut [u8]) -
 pub extern "C" fn plans_walk(table: &[u8], row: &[u8], work: &mut [u8]) -> Walked
     ensures { λ r. ⌜ WalkedSays (now (table .entry)) (now (row .entry)) (now (work .entry)) (now (work .exit)) r ⌝ }
 {
-    let mut number: u8 = 0;
-    let mut outcome: u8 = 0;
-    let mut names: u64 = 0;
-    let mut count: u8 = 0;
-    let beginning = walk_row(
-        table,
-        row,
-        work,
-        &mut number,
-        &mut outcome,
-        &mut names,
-        &mut count,
-    );
-    Walked {
-        number: number,
-        outcome: outcome,
-        count: count,
-        length: beginning.len() as u32,
-        names: names,
-    }
+    walking::walk_and_clear(table, row, work)
 }
 
 // list_book for C.

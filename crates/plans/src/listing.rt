@@ -9,15 +9,15 @@ use fields::read_fields;
 use listings::list_table;
 use writing::copy_in;
 ghost use mathlib.Core.Path.{_≡_};
+ghost use mathlib.Core.List.{[], _∷_};
 ghost use Prim.Native.Nat.{_≤_, _<_};
 ghost use lib.ListN.{length};
 ghost use Rattle.model.specs.Limits.{work-bytes};
 ghost use Rattle.model.specs.Fields as model;
 ghost use Rattle.model.specs.Listing.{listing};
-ghost use Rattle.model.specs.Calls.{outputFault, tableOf, tableStates};
+ghost use Rattle.model.specs.Calls.{Gives, tableOf, tableStates};
 ghost use Rattle.listings.specs.Texts.{Fits, Puts};
-ghost use Rattle.plans.specs.Says.{GivesText, ListGives};
-ghost use Rattle.plans.specs.Parts.{NoText};
+ghost use Rattle.plans.specs.Says.{not-written, copying, listingBook};
 
 // The listing of a table that was accepted, at the front of the text; its length.
 fn list_accepted(table: &[u8], joins: usize, text: &mut [u8]) -> usize
@@ -37,7 +37,7 @@ fn list_accepted(table: &[u8], joins: usize, text: &mut [u8]) -> usize
 
 // A refusal: nothing was written.
 fn refused(refusal: u8) -> Written
-    ensures { λ r. ⌜ NoText refusal r ⌝ }
+    ensures { λ r. ⌜ r ≡ not-written refusal ⌝ }
 {
     Written {
         refusal: refusal,
@@ -48,8 +48,7 @@ fn refused(refusal: u8) -> Written
 // Refusal 13; otherwise the bytes stand at the front of the text.
 fn copy_out(bytes: &[u8], text: &mut [u8]) -> Written
     requires { ⌜ length (now bytes) ≤ work-bytes ⌝ }
-    ensures { λ r. ⌜ GivesText (outputFault (now (bytes .entry)) (now (text .entry))) (now (bytes .entry))
-        (now (text .entry)) (now (text .exit)) r ⌝ }
+    ensures { λ r. ⌜ Gives (copying (now (bytes .entry))) (now (text .entry) ∷ []) (now (text .exit) ∷ []) r ⌝ }
 {
     if text.len() < bytes.len() {
         return refused(OUTPUT_TOO_SHORT);
@@ -63,12 +62,12 @@ fn copy_out(bytes: &[u8], text: &mut [u8]) -> Written
 
 // Refusals 1, the fields', 10, 13; otherwise the listing stands at the front of the text.
 pub fn list(book: &[u8], work: &mut [u8], text: &mut [u8]) -> Written
-    ensures { λ r. ⌜ ListGives (now (book .entry)) (now (work .entry)) (now (text .entry)) (now (text .exit)) r ⌝ }
+    ensures { λ r. ⌜ Gives (listingBook (now (book .entry)) (now (work .entry))) (now (text .entry) ∷ []) (now (text .exit) ∷ []) r ⌝ }
 {
     let mut table = [0u8; TABLE_BYTES];
     let built = building::build(book, work, &mut table);
-    if built.number != 0 {
-        return refused(built.number);
+    if built.refusal != 0 {
+        return refused(built.refusal);
     }
     let end = built.length as usize;
     let length = list_accepted(&table[..end], built.joins as usize, work);

@@ -42,7 +42,7 @@ pub record Sized (parents names accepts work : List ℕ) : Type 0 where
   pub accepts-size : length accepts ≡ state-limit
   pub work-size : work-bytes ≤ length work
 
--- what a look for a child needs of them
+-- what finding a child needs of them
 pub record Roomy (count : ℕ) (parents names work : List ℕ) : Type 0 where
   pub parents-size : count ≤ length parents
   pub names-size : count ≤ length names

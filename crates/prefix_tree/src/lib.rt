@@ -1,6 +1,6 @@
 // The prefix tree of a book's rows, in arrays that the caller lends: for each state, in the order met, its parent, its name and
-// whether it accepts. A child is found in one look: the cell [state][name] of the working area is believed only where the state
-// that it names has that parent and that name, so the area may hold anything at the start.
+// whether it accepts. A child is found by its cell [state][name] of the working area, which counts only where the state that it
+// names has that parent and that name; so the area may hold anything at the start.
 use cells::cell;
 use cells::numbers::narrow16;
 use cells::numbers::wide8;
@@ -41,7 +41,7 @@ pub enum Tree {
     TooLarge,
 }
 
-// The child of a state by a name, in one look.
+// The child of a state by a name, from its cell.
 pub fn child(
     parents: &[u16],
     names: &[u8],

@@ -9,10 +9,11 @@ use native.Mathlib.Omega.{arith}
 use borrow.Author.Tests.{ltb-true, ltb-false, eq-eqb, ne-eqb}
 use lib.Dec.{ltb}
 use lib.ListN.{length, getD, drop, length-map, List·getD-map}
-use Rattle.model.specs.Limits.{when, firstOf, work-bytes}
+use Rattle.model.specs.Limits.{when, firstOf, work-bytes, bad-sizes}
 use Rattle.model.specs.Fields.{File, Read, default-class, table, readFields}
 use Rattle.model.specs.Tables.{State, no-state, stateIn, statesIn, metByArcs, metByStates, isFirstMet}
-use Rattle.model.specs.Calls.{tableOf, tableStates}
+use Rattle.model.specs.Calls.{Refuses, tableOf, tableStates, tableFault}
+use Rattle.model.proofs.CallLaws.{SizesBad, refuses-first, sizes-refuse, sizes-pass}
 use Rattle.model.proofs.TableBodies.{bodies-ok}
 use Rattle.fields.specs.Offsets.{bodyAt, nextAt, offsetAt, fieldsAt}
 use Rattle.fields.specs.Places.{ReadAs}
@@ -22,7 +23,8 @@ use Rattle.fields.proofs.OffsetLaws.{offset-suc, field-within, length-fields, f
 use Rattle.cells.specs.Cells.{cellAt, withCell}
 use Rattle.cells.proofs.CellLaws.{length-withCell, cell-same, cell-other-row}
 use Rattle.tables.specs.Arcs.{StateOk}
-use Rattle.tables.specs.Accepting.{readFault, TableRead, StateField, AcceptedAs}
+use Rattle.tables.specs.Accepting.{readFault, TableRead, StateField, AcceptedAs, OpenedAs}
+use Rattle.tables.specs.declared.Accepted.{Accepted}
 use Rattle.tables.specs.declared.Accepted.the-variants.{Table, Refused}
 use Rattle.tables.proofs.MetLaws.{states-stop, states-go, states-end, first-met-some}
 
@@ -215,3 +217,34 @@ table-refused s lent k r =
       kept = r .kept;
       same-length = refl;
     }
+
+-- ---- the sizes judged first
+
+pub opened-bad : (s lent : List ℕ) → SizesBad s lent ≡ true → OpenedAs s lent lent (Refused bad-sizes)
+unfolding tableFault
+opened-bad s lent bad =
+    record {
+      number = sym (refuses-first _ (sizes-refuse s lent bad) .is);
+      kept = omega arith;
+      same-length = refl;
+    }
+
+pub opened-judged :
+    (s before after : List ℕ) (answer : Accepted) → SizesBad s before ≡ false → AcceptedAs s before after answer →
+    OpenedAs s before after answer
+unfolding tableFault readFault
+opened-judged s before after answer fit judged =
+    record {
+      number = judged .number ∙ ap (λ (n : ℕ). firstOf n (readFault s)) (sym (sizes-pass s before fit));
+      kept = judged .kept;
+      same-length = judged .same-length;
+    }
+
+-- ---- what an opened table is
+
+pub opened-none : (s before after : List ℕ) (p : Place) → OpenedAs s before after (Table p) → tableFault s before ≡ 0
+opened-none s before after p opened = sym (opened .number)
+
+pub opened-refuses :
+    (s before after : List ℕ) (k : ℕ) → OpenedAs s before after (Refused k) → Refuses (tableFault s before) k
+opened-refuses s before after k opened = record { is = sym (opened .number); some = opened .kept }

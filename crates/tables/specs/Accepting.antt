@@ -8,7 +8,7 @@ use lib.ListN.{length, getD}
 use Rattle.model.specs.Limits.{when, firstOf, bad-numbering, state-limit, work-bytes}
 use Rattle.model.specs.Fields.{table, readFields}
 use Rattle.model.specs.Tables.{stateIn, isFirstMet, no-state}
-use Rattle.model.specs.Calls.{tableOf, tableStates}
+use Rattle.model.specs.Calls.{tableOf, tableStates, tableFault}
 use Rattle.fields.specs.Offsets.{bodyAt, nextAt, offsetAt}
 use Rattle.fields.specs.Places.{fileOf, Sound}
 use Rattle.fields.specs.declared.Place.{Place}
@@ -62,5 +62,11 @@ Kept s work (answer.Refused k) = 0 < k
 -- a table judged: the number is what the definitions give, and the lent area keeps its length
 pub record AcceptedAs (s before after : List ℕ) (answer : Accepted) : Type 0 where
   pub number : numberOf answer ≡ readFault s
+  pub kept : Kept s after answer
+  pub same-length : length after ≡ length before
+
+-- a table opened: the same with 1, whatever the sizes are
+pub record OpenedAs (s before after : List ℕ) (answer : Accepted) : Type 0 where
+  pub number : numberOf answer ≡ tableFault s before
   pub kept : Kept s after answer
   pub same-length : length after ≡ length before

@@ -8,6 +8,8 @@ use fields::Fields;
 use fields::Place;
 use fields::offsets::body;
 use fields::offsets::next_field;
+use judging::limits::BAD_SIZES;
+use judging::sizes::sizes_bad;
 ghost use mathlib.Core.Path.{_≡_};
 ghost use Prim.Native.Nat.{_≤_, _<_};
 ghost use lib.ListN.{length};
@@ -15,7 +17,7 @@ ghost use Rattle.model.specs.Limits.{input-limit, work-bytes, row-limit};
 ghost use Rattle.model.specs.Tables.{stateIn, nameSet};
 ghost use Rattle.model.specs.Calls.{tableStates};
 ghost use Rattle.fields.specs.Offsets.{bodyAt};
-ghost use Rattle.tables.specs.Accepting.{TableRead, AcceptedAs, StateField, Ready};
+ghost use Rattle.tables.specs.Accepting.{TableRead, AcceptedAs, OpenedAs, StateField, Ready};
 ghost use Rattle.tables.specs.Walking.{SteppedAs, WalkedAs};
 
 // The refusal of a table whose states are not numbered first-met.
@@ -67,9 +69,8 @@ fn number_states(s: &[u8], p: Place, work: &mut [u8]) -> Accepted
     }
 }
 
-// A whole table, judged by its fields' refusals and then by 12: where its parts stand, or its first refusal. Of an accepted table
-// the lent area keeps where each state's field stands.
-pub fn accept_table(s: &[u8], work: &mut [u8]) -> Accepted
+// A table of sizes that are not refused, judged by its fields' refusals and then by 12.
+fn accept_table(s: &[u8], work: &mut [u8]) -> Accepted
     requires { ⌜ length (now s) ≤ input-limit ⌝ }
     requires { ⌜ work-bytes ≤ length (now work) ⌝ }
     ensures { λ r. ⌜ AcceptedAs (now (s .entry)) (now (work .entry)) (now (work .exit)) r ⌝ }
@@ -79,6 +80,17 @@ pub fn accept_table(s: &[u8], work: &mut [u8]) -> Accepted
         Fields::Accepted(p) => number_states(s, p, work),
         Fields::Refused(k) => Accepted::Refused(k),
     }
+}
+
+// A whole table, judged by 1, its fields' refusals and 12: where its parts stand, or its first refusal. Every entry over a table begins
+// with it. Of an accepted table the lent area keeps where each state's field stands.
+pub fn open_table(s: &[u8], work: &mut [u8]) -> Accepted
+    ensures { λ r. ⌜ OpenedAs (now (s .entry)) (now (work .entry)) (now (work .exit)) r ⌝ }
+{
+    if sizes_bad(s.len(), work.len()) {
+        return Accepted::Refused(BAD_SIZES);
+    }
+    accept_table(s, work)
 }
 
 impl Walk {

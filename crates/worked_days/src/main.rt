@@ -1,7 +1,9 @@
-// The worked days and the sources' examples, as files, each with its listing; then document 01's edges for books, each with the
-// first line that it comes to. The file `stdout` has what document 01 gives, and for the sources' examples the listings of
+// The worked days and the sources' examples, as files, each with its listing; then document 01's edges, of books each with the first
+// line that it comes to, of tables and walks each with the refusal's number or 0. The file `stdout` has what document 01 gives, and for the sources' examples the listings of
 // examples/sources.
-mod edges;
+mod books;
+mod parts;
+mod tables;
 
 use libc::STDOUT_FILENO;
 use plans::limits::LISTING_BYTES;
@@ -64,11 +66,12 @@ fn list(book: &[u8]) {
 fn main() {
     days();
     sources();
-    edges::lent();
-    edges::listings();
-    edges::fields();
-    edges::names();
-    edges::classes();
-    edges::rows();
-    edges::trees();
+    books::lent();
+    books::listings();
+    books::fields();
+    books::names();
+    books::classes();
+    books::rows();
+    books::trees();
+    tables::all();
 }

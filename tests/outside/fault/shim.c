@@ -23,16 +23,16 @@ plans_built plans_build(const uint8_t *book, size_t book_len,
 {
     plans_built built = real_plans_build(book, book_len, work, work_len, out, out_len);
 
-    if (FAULT == TABLE_BYTE && built.number == PLANS_OK)
+    if (FAULT == TABLE_BYTE && built.refusal == PLANS_OK)
         out[built.length - 1] ^= 1;
     if (FAULT == LARGE_TABLE && built.states > 100)
         out[built.length - 1] ^= 1;
-    if (FAULT == BEYOND_TABLE && built.number == PLANS_OK && built.length < out_len)
+    if (FAULT == BEYOND_TABLE && built.refusal == PLANS_OK && built.length < out_len)
         out[built.length] ^= 1;
-    if (FAULT == WORK_BYTE && built.number != PLANS_OK && work_len > 0)
+    if (FAULT == WORK_BYTE && built.refusal != PLANS_OK && work_len > 0)
         work[work_len - 1] = 1;
-    if (FAULT == REFUSAL && built.number == PLANS_NAME_ORDER)
-        built.number = PLANS_BAD_NAME;
+    if (FAULT == REFUSAL && built.refusal == PLANS_NAME_ORDER)
+        built.refusal = PLANS_BAD_NAME;
     return built;
 }
 
@@ -42,7 +42,7 @@ plans_built plans_rewrite(const uint8_t *table, size_t table_len,
 {
     plans_built built = real_plans_rewrite(table, table_len, work, work_len, out, out_len);
 
-    if (FAULT == REWRITTEN_BYTE && built.number == PLANS_OK)
+    if (FAULT == REWRITTEN_BYTE && built.refusal == PLANS_OK)
         out[built.length - 1] ^= 1;
     return built;
 }
@@ -54,7 +54,7 @@ plans_walked plans_walk(const uint8_t *table, size_t table_len,
     plans_walked walked = real_plans_walk(table, table_len, row, row_len, work, work_len);
 
     if (FAULT == NEXT_NAMES)
-        walked.names &= ~(UINT64_C(1) << 63);
+        walked.next_names &= ~(UINT64_C(1) << 63);
     return walked;
 }
 

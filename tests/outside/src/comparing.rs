@@ -183,9 +183,9 @@ fn difference<T: PartialEq + Debug>(expected: &T, given: &T) -> Option<String> {
 fn built_of(expected: &Result<reference::Built, Refusal>) -> Built {
     match expected {
         Ok(built) => {
-            Built { number: 0, length: built.bytes.len() as u32, states: built.states as u32, joins: built.joins as u32 }
+            Built { refusal: 0, length: built.bytes.len() as u32, states: built.states as u32, joins: built.joins as u32 }
         }
-        Err(refusal) => Built { number: refusal.number(), length: 0, states: 0, joins: 0 },
+        Err(refusal) => Built { refusal: refusal.number(), length: 0, states: 0, joins: 0 },
     }
 }
 
@@ -199,12 +199,12 @@ fn written_of(expected: &Result<Vec<u8>, Refusal>) -> Written {
 fn walked_of(expected: &Result<reference::walk::Walked, Refusal>) -> Walked {
     match expected {
         Ok(walked) => Walked {
-            number: 0,
+            refusal: 0,
             outcome: walked.outcome as u8,
-            count: walked.count as u8,
-            length: walked.beginning.len() as u32,
-            names: walked.next_names,
+            next_count: walked.count as u8,
+            walked: walked.beginning.len() as u32,
+            next_names: walked.next_names,
         },
-        Err(refusal) => Walked { number: refusal.number(), outcome: 0, count: 0, length: 0, names: 0 },
+        Err(refusal) => Walked { refusal: refusal.number(), outcome: 0, next_count: 0, walked: 0, next_names: 0 },
     }
 }

@@ -3,7 +3,7 @@
 #[repr(C)]
 #[derive(Clone, Copy, Debug, PartialEq, Eq)]
 pub struct Built {
-    pub number: u8,
+    pub refusal: u8,
     pub length: u32,
     pub states: u32,
     pub joins: u32,
@@ -12,11 +12,11 @@ pub struct Built {
 #[repr(C)]
 #[derive(Clone, Copy, Debug, PartialEq, Eq)]
 pub struct Walked {
-    pub number: u8,
+    pub refusal: u8,
     pub outcome: u8,
-    pub count: u8,
-    pub length: u32,
-    pub names: u64,
+    pub next_count: u8,
+    pub walked: u32,
+    pub next_names: u64,
 }
 
 #[repr(C)]

@@ -1,6 +1,6 @@
 -- `cells::clear` meets its contract. The invariant of its loop: the first i bytes are 0, and the rest is as it came; the length
 -- is as it was. The measure is what is left of the length. Assumes nothing.
-use mathlib.Core.Path.{_≡_, refl, ap, _∙_}
+use mathlib.Core.Path.{_≡_, refl, sym, ap, _∙_}
 use mathlib.Core.List.{List, _++_, append-nil}
 use Prim.Native.Nat.{ℕ, _-_, _≤_}
 use native.Mathlib.Nat.{le-refl}
@@ -50,7 +50,9 @@ filled n work e = rw (e, drop-of-length-le work (le-refl (length work)), append-
 returns : tie.Need-returns Inv-loop μ-loop
 returns c =
     let work₀ = c .before .before .args .work .now in
-    c .before .loop .inv .1 .1 ∙ filled (c .before .loop .i) work₀ (omega arith)
+    c .before .loop .inv .1 .1
+    ∙ filled (c .before .loop .i) work₀ (omega arith)
+    ∙ ap (λ (n : ℕ). replicate n 0) (sym (c .before .loop .inv .1 .0))
 
 pub clear-spec : {M : Type 1} → statement M
 clear-spec = tie.close (tie.spec Inv-loop μ-loop loop-holds slice-write-work add-i loop-less loop-again same-length returns)

@@ -13,7 +13,7 @@ use Rattle.fields.specs.Places.{fileOf}
 use Rattle.prefix_tree.specs.Growth.{Store, store, treeFault, numberOf, countOf, TreeBuilt}
 use Rattle.prefix_tree.specs.declared.Tree.{Tree}
 use Rattle.inference.specs.Books.{rowsAt}
-use Rattle.inference.specs.Results.{Gives}
+use Rattle.inference.specs.Results.{Infers}
 use Rattle.inference.specs.declared.Inferred.{Inferred}
 use Rattle.inference.proofs.BookLaws.{rows-within, rows-entries}
 use Rattle.inference.proofs.ResultLaws.{gives-too-large}
@@ -126,7 +126,7 @@ returns c =
     let out = at .args .out .now in
     let large =
     subst (λ (r : Tree). numberOf r ≡ treeFault (treeOf (rows at))) (c .before .enum-told .given .1) (after .add-rows .ensures .number) in
-    subst (λ (r : Inferred). Gives book out out r) (sym (c .refused .ensures)) (gives-too-large book out large)
+    subst (λ (r : Inferred). Infers book out out r) (sym (c .refused .ensures)) (gives-too-large book out large)
 
 same-length-2 : tie.Need-same-length-2
 same-length-2 c = search needs

@@ -15,7 +15,7 @@ use Rattle.fields.specs.Places.{fileOf}
 use Rattle.quotient.specs.Gathered.{Joined}
 use Rattle.quotient.specs.Ready.{Prepared}
 use Rattle.inference.specs.Books.{rowsAt, classAt, namesEnd}
-use Rattle.inference.specs.Results.{Gives}
+use Rattle.inference.specs.Results.{Infers}
 use Rattle.inference.specs.declared.Inferred.{Inferred}
 use Rattle.inference.proofs.BookLaws.{names-fit}
 use Rattle.inference.proofs.TableLaws.{joined-tree, states-few, table-too-short, table-written}
@@ -112,7 +112,7 @@ returns c =
     let ready = made (c .before .before) in
     let at = start ready in
     let args = at .args in
-    subst (λ (r : Inferred). Gives (table at) (args .out .now) (args .out .now) r) (sym (c .refused .ensures))
+    subst (λ (r : Inferred). Infers (table at) (args .out .now) (args .out .now) r) (sym (c .refused .ensures))
     (table-too-short (args .book .now) (args .place) (args .parents .now) (args .names .now) (args .accepts .now) (args .groups .now)
     (at .pre .0 .0) (bytes (known ready)) (at .pre .1 .0) (at .pre .1 .1) (args .out .now) (ready .prepare .result .bytes)
     (prepared ready .sized) (too-long (c .before .before) (c .before .if1 .taken)))

@@ -1,17 +1,75 @@
 -- `build` meets its contract: one law of BuildLaws for each answer. Assumes nothing.
-use mathlib.Core.Path.{refl, sym, _∙_, subst}
+use mathlib.Core.Path.{_≡_, refl, sym, _∙_, subst}
+use mathlib.Core.Bool.{false}
+use mathlib.Core.List.{List, [], _∷_}
+use Prim.Native.Nat.{ℕ}
 use native.Mathlib.Omega.{arith}
 use Rattle.model.specs.Fields.{File, default-class}
 use Rattle.model.specs.Fields as model
+use Rattle.model.specs.Calls.{Gives, bookOf}
+use Rattle.model.proofs.CallLaws.{SizesBad, SizesFit, sizes-pass, sizes-fit}
 use Rattle.fields.specs.Places.{ReadAs}
 use Rattle.fields.specs.declared.Fields.{Fields}
+use Rattle.fields.specs.declared.Fields.the-variants as answer
 use Rattle.fields.proofs.Parts.{refused-number}
-use Rattle.inference.specs.Results as inferred
-use Rattle.plans.proofs.CallLaws.{sizes-fit}
-use Rattle.plans.proofs.BuildLaws.{book-read-as, build-gives-sizes, build-gives-refusal, build-gives-inferred, inferred-small}
+use Rattle.inference.specs.Results.{Infers}
+use Rattle.plans.specs.declared.Built.{Built}
+use Rattle.plans.specs.Says.{building}
+use Rattle.plans.proofs.BuildLaws.{BookRead, book-read-as, Small, inferred-small}
+use Rattle.plans.proofs.BuildLaws.{build-sizes-refused, build-fields-refused, build-inferred}
 use borrow.Author.Needs.{needs}
 use Rattle.plans.proofs.building.build.Statement.{statement}
 use Rattle.plans.proofs.building.build.Tie as tie
+
+-- from each place an earlier one: the book read, its sizes passed, and the start
+abbrev called : tie.After-read → tie.After-read-fields
+called c = c .before .before
+
+abbrev passed : tie.After-read-fields → tie.Else1
+passed c = c .before
+
+abbrev start : tie.Else1 → tie.Start
+start c = c .before .before .before .before .before
+
+abbrev book : tie.Else1 → List ℕ
+book c = start c .args .book .now
+
+abbrev work : tie.Else1 → List ℕ
+work c = start c .args .work .now
+
+abbrev out : tie.Else1 → List ℕ
+out c = start c .args .out .now
+
+fit : (c : tie.Else1) → SizesBad (book c) (work c) ≡ false
+fit c = sym (c .before .sizes-bad .ensures) ∙ c .if1 .left
+
+sizes : (c : tie.Else1) → SizesFit (book c) (work c)
+sizes c = sizes-fit (book c) (work c) (sizes-pass (book c) (work c) (fit c))
+
+-- the book as read, and what inference gives for it
+read-as : (c : tie.After-read) → ReadAs default-class model.book (book (passed (called c))) (answer.Accepted (c .read .given .0 .0))
+read-as c =
+    subst (λ (r : Fields). ReadAs default-class model.book (book (passed (called c))) r) (c .read .given .1)
+    (called c .read-fields .ensures)
+
+read : (c : tie.After-read) → BookRead (book (passed (called c))) (c .read .given .0 .0)
+read c = book-read-as (book (passed (called c))) (c .read .given .0 .0) (read-as c)
+
+abbrev answered : tie.After-infer → tie.After-read
+answered c = c .before .before .before .before
+
+abbrev at : tie.After-infer → tie.Else1
+at c = passed (called (answered c))
+
+inferred : (c : tie.After-infer) → Infers (bookOf (book (at c))) (out (at c)) (c .infer .last .1 .1 .1 .0) (c .infer .result)
+inferred c =
+    subst (λ (f : File). Infers f (out (at c)) (c .infer .last .1 .1 .1 .0) (c .infer .result)) (read (answered c) .file-is)
+    (c .infer .ensures)
+
+small : (c : tie.After-infer) → Small (book (at c)) (work (at c)) (out (at c)) (c .infer .result)
+small c =
+    inferred-small (book (at c)) (work (at c)) (out (at c)) (c .infer .last .1 .1 .1 .0) (c .infer .result) (sizes (at c) .work-fits)
+    (read (answered c) .no-refusal) (inferred c)
 
 sizes-bad-requires : tie.Need-sizes-bad-requires
 sizes-bad-requires c κs = search needs
@@ -21,9 +79,11 @@ refused-requires c κs = search needs
 
 returns : tie.Need-returns
 returns c =
-    let at = c .before .before .before .before .before .before .args in
-    build-gives-sizes (at .book .now) (at .work .now) (at .out .now) (c .refused .result)
-    (sym (c .before .before .sizes-bad .ensures) ∙ c .before .if1 .taken) (c .refused .ensures)
+    let args = c .before .before .before .before .before .before .args in
+    subst (λ (r : Built). Gives (building (args .book .now) (args .work .now)) (args .out .now ∷ []) (args .out .now ∷ []) r)
+    (sym (c .refused .ensures))
+    (build-sizes-refused (args .book .now) (args .work .now) (args .out .now)
+    (sym (c .before .before .sizes-bad .ensures) ∙ c .before .if1 .taken))
 
 read-fields-requires : tie.Need-read-fields-requires
 read-fields-requires c κs = search needs
@@ -33,75 +93,23 @@ enum-known-read c = search needs
 
 infer-requires : tie.Need-infer-requires
 infer-requires c κs =
-    let answered = c .before .before .before in
-    let called = answered .before .before in
-    let passed = called .before in
-    let at = passed .before .before .before .before .before .args in
-    let fit = sizes-fit (at .book .now) (at .work .now) (sym (passed .before .sizes-bad .ensures) ∙ passed .if1 .left) in
-    let answer = answered .read .given in
-    let read =
-    subst (λ (r : Fields). ReadAs default-class model.book (at .book .now) r) (answer .1) (called .read-fields .ensures) in
-    (record { default = default-class; allowed = refl; read = read }, fit .input-fits, fit .work-fits)
+    let fits = sizes (passed (called (c .before .before .before))) in
+    (record { default = default-class; allowed = refl; read = read-as (c .before .before .before) }, fits .input-fits, fits .work-fits)
 
 cast-t16 : tie.Need-cast-t16
 cast-t16 c =
-    let inferring = c .before .before .before .before .before in
-    let answered = inferring .before .before .before .before in
-    let called = answered .before .before in
-    let passed = called .before in
-    let at = passed .before .before .before .before .before .args in
-    let fit = sizes-fit (at .book .now) (at .work .now) (sym (passed .before .sizes-bad .ensures) ∙ passed .if1 .left) in
-    let answer = answered .read .given in
-    let read =
-    subst (λ (r : Fields). ReadAs default-class model.book (at .book .now) r) (answer .1) (called .read-fields .ensures) in
-    let book = book-read-as (at .book .now) (answer .0 .0) read in
-    let gives =
-    subst (λ (f : File). inferred.Gives f (at .out .now) (inferring .infer .last .1 .1 .1 .0) (inferring .infer .result)) (book .file-is)
-    (inferring .infer .ensures) in
-    let small =
-    inferred-small (at .book .now) (at .work .now) (at .out .now) (inferring .infer .last .1 .1 .1 .0) (inferring .infer .result)
-    (fit .work-fits) (book .no-refusal) gives in
-    omega (arith, small .length-small)
+    let s = small (c .before .before .before .before .before) in
+    omega (arith, s .length-small, s .states-small, s .joins-small)
 
 cast-t17 : tie.Need-cast-t17
 cast-t17 c =
-    let inferring = c .before .before .before .before .before .before in
-    let answered = inferring .before .before .before .before in
-    let called = answered .before .before in
-    let passed = called .before in
-    let at = passed .before .before .before .before .before .args in
-    let fit = sizes-fit (at .book .now) (at .work .now) (sym (passed .before .sizes-bad .ensures) ∙ passed .if1 .left) in
-    let answer = answered .read .given in
-    let read =
-    subst (λ (r : Fields). ReadAs default-class model.book (at .book .now) r) (answer .1) (called .read-fields .ensures) in
-    let book = book-read-as (at .book .now) (answer .0 .0) read in
-    let gives =
-    subst (λ (f : File). inferred.Gives f (at .out .now) (inferring .infer .last .1 .1 .1 .0) (inferring .infer .result)) (book .file-is)
-    (inferring .infer .ensures) in
-    let small =
-    inferred-small (at .book .now) (at .work .now) (at .out .now) (inferring .infer .last .1 .1 .1 .0) (inferring .infer .result)
-    (fit .work-fits) (book .no-refusal) gives in
-    omega (arith, small .states-small)
+    let s = small (c .before .before .before .before .before .before) in
+    omega (arith, s .length-small, s .states-small, s .joins-small)
 
 cast-t18 : tie.Need-cast-t18
 cast-t18 c =
-    let inferring = c .before .before .before .before .before .before .before in
-    let answered = inferring .before .before .before .before in
-    let called = answered .before .before in
-    let passed = called .before in
-    let at = passed .before .before .before .before .before .args in
-    let fit = sizes-fit (at .book .now) (at .work .now) (sym (passed .before .sizes-bad .ensures) ∙ passed .if1 .left) in
-    let answer = answered .read .given in
-    let read =
-    subst (λ (r : Fields). ReadAs default-class model.book (at .book .now) r) (answer .1) (called .read-fields .ensures) in
-    let book = book-read-as (at .book .now) (answer .0 .0) read in
-    let gives =
-    subst (λ (f : File). inferred.Gives f (at .out .now) (inferring .infer .last .1 .1 .1 .0) (inferring .infer .result)) (book .file-is)
-    (inferring .infer .ensures) in
-    let small =
-    inferred-small (at .book .now) (at .work .now) (at .out .now) (inferring .infer .last .1 .1 .1 .0) (inferring .infer .result)
-    (fit .work-fits) (book .no-refusal) gives in
-    omega (arith, small .joins-small)
+    let s = small (c .before .before .before .before .before .before .before) in
+    omega (arith, s .length-small, s .states-small, s .joins-small)
 
 enum-known-read-2 : tie.Need-enum-known-read-2
 enum-known-read-2 c = search needs
@@ -118,32 +126,21 @@ same-length-2 c = search needs
 returns-2 : tie.Need-returns-2
 returns-2 c =
     let inferring = c .before .before .before .before .before .before .before in
-    let answered = inferring .before .before .before .before in
-    let called = answered .before .before in
-    let passed = called .before in
-    let at = passed .before .before .before .before .before .args in
-    let answer = answered .read .given in
-    let read =
-    subst (λ (r : Fields). ReadAs default-class model.book (at .book .now) r) (answer .1) (called .read-fields .ensures) in
-    let book = book-read-as (at .book .now) (answer .0 .0) read in
-    let gives =
-    subst (λ (f : File). inferred.Gives f (at .out .now) (inferring .infer .last .1 .1 .1 .0) (inferring .infer .result)) (book .file-is)
-    (inferring .infer .ensures) in
-    build-gives-inferred (at .book .now) (at .work .now) (at .out .now) (inferring .infer .last .1 .1 .1 .0) (inferring .infer .result) _
-    (sym (passed .before .sizes-bad .ensures) ∙ passed .if1 .left) (book .no-refusal) gives refl refl refl refl
+    build-inferred (book (at inferring)) (work (at inferring)) (out (at inferring)) (inferring .infer .last .1 .1 .1 .0)
+    (inferring .infer .result) (fit (at inferring)) (read (answered inferring) .no-refusal) (inferred inferring)
 
 returns-3 : tie.Need-returns-3
 returns-3 c =
-    let answered = c .before .before in
-    let called = answered .before .before in
-    let passed = called .before in
-    let at = passed .before .before .before .before .before .args in
-    let answer = answered .read2 .given in
-    let read =
-    subst (λ (r : Fields). ReadAs default-class model.book (at .book .now) r) (answer .1) (called .read-fields .ensures) in
-    build-gives-refusal (at .book .now) (at .work .now) (at .out .now) (answer .0 .0) (c .refused2 .result)
-    (sym (passed .before .sizes-bad .ensures) ∙ passed .if1 .left)
-    (refused-number default-class model.book (at .book .now) (answer .0 .0) read) (read .kept) (c .refused2 .ensures)
+    let refusing = c .before .before in
+    let before = passed (refusing .before .before) in
+    let k = refusing .read2 .given .0 .0 in
+    let refused =
+    subst (λ (r : Fields). ReadAs default-class model.book (book before) r) (refusing .read2 .given .1)
+    (refusing .before .before .read-fields .ensures) in
+    subst (λ (r : Built). Gives (building (book before) (work before)) (out before ∷ []) (out before ∷ []) r)
+    (sym (c .refused2 .ensures))
+    (build-fields-refused (book before) (work before) (out before) k (fit before)
+    (refused-number default-class model.book (book before) k refused) (refused .kept))
 
 pub build-spec : {M : Type 1} → statement M
 build-spec =

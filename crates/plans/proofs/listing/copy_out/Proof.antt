@@ -1,6 +1,10 @@
 -- `copy_out` meets its contract: one law of ListLaws for each answer. Assumes nothing.
-use mathlib.Core.Path.{refl}
+use mathlib.Core.Path.{sym, subst}
+use mathlib.Core.List.{[], _∷_}
 use native.Mathlib.Omega.{arith}
+use Rattle.model.specs.Calls.{Gives}
+use Rattle.plans.specs.declared.Written.{Written}
+use Rattle.plans.specs.Says.{copying}
 use Rattle.plans.proofs.ListLaws.{copy-short, copy-whole}
 use borrow.Author.Needs.{needs}
 use Rattle.plans.proofs.listing.copy_out.Statement.{statement}
@@ -12,7 +16,8 @@ refused-requires c κs = search needs
 returns : tie.Need-returns
 returns c =
     let at = c .before .before .before .before .args in
-    copy-short (at .bytes .now) (at .text .now) (c .refused .result) (omega arith) (c .refused .ensures)
+    subst (λ (r : Written). Gives (copying (at .bytes .now)) (at .text .now ∷ []) (at .text .now ∷ []) r) (sym (c .refused .ensures))
+    (copy-short (at .bytes .now) (at .text .now) (omega arith))
 
 copy-in-requires : tie.Need-copy-in-requires
 copy-in-requires c κs = search needs
@@ -27,7 +32,7 @@ returns-2 : tie.Need-returns-2
 returns-2 c =
     let at = c .before .before .before .before .before .before .before .args in
     let copied = c .before .before .copy-in in
-    copy-whole (at .bytes .now) (at .text .now) (copied .last .0) _ (omega arith) (copied .ensures .written) refl refl
+    copy-whole (at .bytes .now) (at .text .now) (copied .last .0) (omega arith) (copied .ensures .written)
 
 pub copy-out-spec : {M : Type 1} → statement M
 copy-out-spec =

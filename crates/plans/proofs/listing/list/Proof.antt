@@ -1,17 +1,19 @@
 -- `list` meets its contract: one law of ListLaws for each answer. Assumes nothing.
-use mathlib.Core.Path.{sym, ap}
-use mathlib.Core.List.{List}
+use mathlib.Core.Path.{sym, ap, subst}
+use mathlib.Core.List.{List, [], _∷_}
 use Prim.Native.Nat.{ℕ, _≤_}
 use native.Mathlib.Omega.{arith}
 use lib.ListN.{length, take, replicate, length-replicate}
 use lib.Seq.{length-take-le}
 use Rattle.model.specs.Quotients.{bookTable}
-use Rattle.model.specs.Calls.{bookOf}
+use Rattle.model.specs.Calls.{Gives, bookOf}
 use Rattle.model.specs.Listing.{bookListing}
 use Rattle.model.proofs.WrittenLengths.{table-bytes}
-use Rattle.plans.proofs.CallLaws.{FrontOf}
+use Rattle.model.proofs.CallLaws.{FrontOf}
+use Rattle.plans.specs.declared.Written.{Written}
+use Rattle.plans.specs.Says.{listingBook}
 use Rattle.plans.proofs.BuildLaws.{built-front}
-use Rattle.plans.proofs.ListLaws.{ListedBy, built-listed, puts-front, gives-refusal, gives-listing}
+use Rattle.plans.proofs.ListLaws.{ListedBy, built-listed, puts-front, listing-refused, listing-copied}
 use borrow.Author.Needs.{needs}
 use Rattle.plans.proofs.listing.list.Statement.{statement}
 use Rattle.plans.proofs.listing.list.Tie as tie
@@ -50,7 +52,7 @@ listed-by : (c : tie.Else1)
     → ListedBy (start (built c) .args .book .now) (start (built c) .args .work .now) (table (built c)) (built c .build .result .joins)
 listed-by c =
     let at = start (built c) .args in
-    built-listed (at .book .now) (at .work .now) zeros (output (built c)) (built c .build .result) long (built c .build .ensures)
+    built-listed (at .book .now) (at .work .now) zeros (output (built c)) (built c .build .result) (built c .build .ensures)
     (c .if1 .left)
 
 -- the working area after the listing, which stands at its front
@@ -79,8 +81,10 @@ returns : tie.Need-returns
 returns c =
     let after = c .before .before .before .before .before .before in
     let at = start after .args in
-    gives-refusal (at .book .now) (at .work .now) (at .text .now) zeros (output after) (after .build .result) (c .refused .result) long
-    (after .build .ensures) (omega (arith, c .before .if1 .taken)) (c .refused .ensures)
+    subst (λ (r : Written). Gives (listingBook (at .book .now) (at .work .now)) (at .text .now ∷ []) (at .text .now ∷ []) r)
+    (sym (c .refused .ensures))
+    (listing-refused (at .book .now) (at .work .now) zeros (output after) (after .build .result) (after .build .ensures) (at .text .now)
+    long (omega (arith, c .before .if1 .taken)))
 
 cast-end : tie.Need-cast-end
 cast-end c = search needs
@@ -125,8 +129,9 @@ returns-2 c =
     let copied = c .before .before .copy-out in
     let after = c .before .before .before .before .before .before .before in
     let at = start (built (tested after)) .args in
-    gives-listing (at .book .now) (at .work .now) (at .text .now) (take (after .list-accepted .result) (area after))
-    (copied .last .1 .0) (copied .result) (listed-by (tested after) .no-fault) (listed after .bytes-are) (copied .ensures)
+    listing-copied (at .book .now) (at .work .now) (at .text .now) (copied .last .1 .0)
+    (take (after .list-accepted .result) (area after)) (copied .result) (listed-by (tested after) .no-fault)
+    (listed after .bytes-are) (copied .ensures)
 
 pub list-spec : {M : Type 1} → statement M
 list-spec =

@@ -17,7 +17,7 @@ returns c =
     let listed = c .before .before .before .before .list-book in
     let at = c .before .before .before .before .before .before .before .before .args in
     prints-refusal (at .book .now) (at .work .now) (listed .last .1 .0) (at .text .now) (omega arith) (omega arith)
-    (listed .last .1 .1 .0) (c .refusal-text .last .1 .0) (listed .result) (c .refusal-text .result) (listed .ensures)
+    (listed .last .1 .1 .0) (listed .result) (listed .ensures) (c .refusal-text .last .1 .0) (c .refusal-text .result)
     (omega (arith, c .before .before .if1 .taken)) (c .refusal-text .ensures)
 
 cast-result : tie.Need-cast-result

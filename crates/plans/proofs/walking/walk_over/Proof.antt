@@ -43,6 +43,9 @@ cast-t13 c =
           (found .result) (next .result) (found .ensures .value) (next .ensures),
     )
 
+cast-t14 : tie.Need-cast-t14
+cast-t14 c = search needs
+
 returns : tie.Need-returns
 returns c =
     let start = c .before .before .before .before .before .before .before .before in
@@ -51,9 +54,8 @@ returns c =
     let next = c .before .before .next-names in
     let accepting = c .before .accepts in
     ends-over (start .args .table .now) (start .args .work .now) (start .args .row .now) (walked .result) (start .pre .0)
-    (walked .ensures) (found .result) (next .result) (c .outcome-of .result) _ (accepting .result) _ (found .ensures .value)
-    (next .ensures) (accepting .ensures)
-    (c .outcome-of .ensures) refl refl refl refl refl refl
+    (walked .ensures) (found .result) (next .result) (c .outcome-of .result) _ _ (accepting .result) (found .ensures .value)
+    (next .ensures) (accepting .ensures) (c .outcome-of .ensures) refl refl
 
 pub walk-over-spec : {M : Type 1} → statement M
 walk-over-spec =
@@ -65,4 +67,5 @@ walk-over-spec =
     accepts-requires
     outcome-of-requires
     cast-t13
+    cast-t14
     returns)

@@ -1,9 +1,9 @@
 -- `gathering::mark_accepting` meets its contract: before v all states are looked at. Assumes nothing.
 use borrow.Author.Needs.{needs}
-use mathlib.Core.Path.{_≡_, refl, _∙_}
-use Prim.Native.Nat.{_-_, _<_, _≤_}
+use mathlib.Core.Path.{_≡_, refl, ap, _∙_}
+use Prim.Native.Nat.{ℕ, _-_, _<_, _≤_}
 use native.Mathlib.Omega.{arith}
-use lib.ListN.{length, length-set}
+use lib.ListN.{length, replicate, length-set}
 use Rattle.quotient.proofs.TreeArcs.{label-low}
 use Rattle.quotient.proofs.AcceptPass.{MarkedUpTo, mark-start, mark-more, mark-end}
 use Rattle.quotient.proofs.gathering.mark_accepting.Statement.{statement}
@@ -27,12 +27,13 @@ clear-requires c κs =
 loop-holds : tie.Need-loop-holds Inv-loop μ-loop
 loop-holds c =
     let after-clear = c .before .before in
-    let at = after-clear .before .before .before .before .before in (
+    let at = after-clear .before .before .before .before .before in
+    let same : length (after-clear .clear .last .0) ≡ length (at .args .accepting .now) = omega arith in (
       omega arith,
       (
         refl,
         mark-start (at .args .accepts .now) (at .args .groups .now) (at .args .accepting .now) (after-clear .clear .last .0) (at .pre .1)
-            (after-clear .clear .ensures),
+            (after-clear .clear .ensures ∙ ap (λ (n : ℕ). replicate n 0) same),
       ),
     )
 

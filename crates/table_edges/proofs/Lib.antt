@@ -1,1 +1,0 @@
--- The proofs of table_edges: its two loops. Assumes nothing.
