@@ -1,6 +1,6 @@
 // The worked days and the sources' examples, as files, each with its listing; then document 01's edges, of books each with the first
-// line that it comes to, of tables and walks each with the refusal's number or 0. The file `stdout` has what document 01 gives, and for the sources' examples the listings of
-// examples/sources.
+// line that it comes to, of tables and walks each with the refusal's number or 0. The file `stdout` has what document 01 gives, and for
+// the sources' examples the listings of examples/sources.
 mod books;
 mod parts;
 mod tables;
