@@ -22,3 +22,8 @@ class Listing(unittest.TestCase):
     def test_the_longest_input_and_one_byte_more(self):
         self.assertEqual(self.printed(bytes(INPUT_LIMIT)), "refused 3\n")
         self.assertEqual(self.printed(bytes(INPUT_LIMIT + 1)), "refused 1\n")
+
+    def test_arguments_are_told_how_it_is_used(self):
+        ran = subprocess.run([PROGRAM, "days.book"], stdin=subprocess.DEVNULL, check=True, capture_output=True)
+        self.assertEqual(ran.stdout, b"")
+        self.assertRegex(ran.stderr, rb"\Ausage: listing < days\.book [^\n]*\n\Z")
