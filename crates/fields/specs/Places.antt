@@ -6,7 +6,7 @@ use Prim.Native.Nat.{ℕ, suc, _+_, _≤_, _<_}
 use lib.ListN.{length, getD, take, drop}
 use Rattle.model.specs.Lists.{lastOr}
 use Rattle.model.specs.Limits.{name-limit, state-limit}
-use Rattle.model.specs.Fields.{class-of, Settings, File, file, FileKind, Read, refused, accepted-file, readFrom, readWith, nameFault}
+use Rattle.model.specs.Fields.{class-of, Settings, standard, table, File, file, FileKind, Read, refused, accepted-file, readFrom, readWith, nameFault}
 use Rattle.model.specs.Fields.{classFault, rowFault, stateFault, fieldFault, withField}
 use Rattle.fields.specs.Offsets.{bodyAt, nextAt, offsetAt, fieldsAt}
 use Rattle.fields.specs.declared.Place.{Place}
@@ -132,3 +132,7 @@ settingsOf n = record { default-class = class-of (n .kind) (n .first) (n .second
 pub record ReadAs (settings : Settings) (kind : FileKind) (s : List ℕ) (answer : Fields) : Type 0 where
   pub is : answerOf s answer ≡ readWith settings kind s
   pub kept : Kept s answer
+
+-- a table read, which names its class itself, whatever the settings
+abbrev pub TableReadAs : List ℕ → Fields → Type 0
+TableReadAs s answer = ReadAs standard table s answer

@@ -25,8 +25,7 @@ ghost use mathlib.Core.Path.{_≡_};
 ghost use Prim.Native.Nat.{_≤_, _<_};
 ghost use lib.ListN.{length};
 ghost use Rattle.model.specs.Limits.{state-limit};
-ghost use Rattle.model.specs.Fields.{standard, table};
-ghost use Rattle.fields.specs.Places.{withItem, Sound, Whole, NameStep, ClassStep, RowStep, StateStep, FieldStep, Turned, settingsOf, ReadAs};
+ghost use Rattle.fields.specs.Places.{withItem, Sound, Whole, NameStep, ClassStep, RowStep, StateStep, FieldStep, Turned, settingsOf, ReadAs, TableReadAs};
 
 // How far reading has come, and where what was read stands.
 pub struct Place {
@@ -267,7 +266,7 @@ pub fn read_with(s: &[u8], is_table: bool, settings: Settings) -> Fields
 
 // A whole table, which names its class itself, whatever the settings.
 pub fn read_table(s: &[u8]) -> Fields
-    ensures { λ r. ⌜ ReadAs standard table (now (s .entry)) r ⌝ }
+    ensures { λ r. ⌜ TableReadAs (now (s .entry)) r ⌝ }
 {
     read_with(s, true, STANDARD)
 }
