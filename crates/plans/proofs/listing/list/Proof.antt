@@ -48,7 +48,7 @@ long : table-bytes ≤ length zeros
 long = omega (arith, length-replicate {A = ℕ} table-bytes 0)
 
 abbrev output : tie.After-build → List ℕ
-output c = c .build .last .1 .1 .0
+output c = c .build .last .1 .1 .1 .0
 
 abbrev table : tie.After-build → List ℕ
 table c = take (c .build .result .length) (output c)
