@@ -25,7 +25,8 @@ ghost use mathlib.Core.Path.{_≡_};
 ghost use Prim.Native.Nat.{_≤_, _<_};
 ghost use lib.ListN.{length};
 ghost use Rattle.model.specs.Limits.{state-limit};
-ghost use Rattle.fields.specs.Places.{withItem, Sound, Whole, NameStep, ClassStep, RowStep, StateStep, FieldStep, Turned, settingsOf, ReadAs, TableReadAs};
+ghost use Rattle.fields.specs.Places.{withItem, Sound, Whole, NameStep, ClassStep, RowStep, StateStep, FieldStep, Turned};
+ghost use Rattle.fields.specs.Places.{settingsOf, ReadAs, TableReadAs};
 
 // How far reading has come, and where what was read stands.
 pub struct Place {

@@ -1,5 +1,5 @@
--- What is handed over with build: demand 3, undivided, said of the bytes that builds wrote, with whichever allowed settings; calls of
--- build_table, and of plans_build for C, are those with the standard ones. First what one table is, then builds, then all of it.
+-- What is handed over with build: demand 3, undivided, said of the bytes that builds wrote, with whichever allowed settings; calls
+-- of build_table, and of plans_build for C, are those with the standard ones. First what one table is, then builds, then all of it.
 -- `build-handed-over` of proofs/Handed.antt proves it. Assumes nothing.
 use mathlib.Core.Path.{_≡_}
 use mathlib.Core.Bool.{true}
@@ -44,8 +44,8 @@ pub record HandedOver (book : File) (table : List ℕ) : Type 1 where
       (l : Word → Type 0) → InClass (book .class-is) l → ((r : Word) → hasRow r (book .items) ≡ true → l r) →
       (r : Word) → TableAdmits table r → l r
 
--- a build that is not refused: its settings, the book, the working area and the output before and after, and what is given back; what
--- build_table promises is such a `says`, with the standard settings
+-- a build that is not refused: its settings, the book, the working area and the output before and after, and what is given back;
+-- what build_table promises is such a `says`, with the standard settings
 pub record AcceptedBuild : Type 0 where
   pub settings : Settings
   pub allowed : Allowed settings

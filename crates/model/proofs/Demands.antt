@@ -35,7 +35,8 @@ use Rattle.model.proofs.Reading.{accepted-has-row, accepted-entries, re
 -- ---- what an accepted book and a like book give
 
 -- the prefix tree of an accepted book is within its limit
-pub accepted-tree : (settings : Settings) (s : List ℕ) → Accepted settings s → length (treeOf (bookOf settings s .items)) ≤ state-limit
+pub accepted-tree :
+    (settings : Settings) (s : List ℕ) → Accepted settings s → length (treeOf (bookOf settings s .items)) ≤ state-limit
 unfolding bookFault
 accepted-tree settings s ok =
     let rows = bookOf settings s .items in
@@ -136,7 +137,8 @@ demand-3 settings allowed =
 
 module _ (settings : Settings) (allowed : Allowed settings) where
   -- what build writes can be read
-  pub book-writable : (s : List ℕ) → Accepted settings s → Writable (length (bookOf settings s .names)) (bookStates (bookOf settings s))
+  pub book-writable :
+      (s : List ℕ) → Accepted settings s → Writable (length (bookOf settings s .names)) (bookStates (bookOf settings s))
   unfolding bookStates
   book-writable s ok =
       let f = bookOf settings s in
@@ -150,7 +152,8 @@ module _ (settings : Settings) (allowed : Allowed settings) where
       name-below s ok w a m =
           let first-row = accepted-has-row settings allowed s ok in
           let b = node-begins-row (bookOf settings s .items) (first-row .0) (first-row .1) (w ▸ a) m in
-          accepted-entries settings allowed s ok ((w ▸ a) ++ b .0) (b .1) a (Memᴰ·append-left (b .0) (Memᴰ·append-right w (here refl)))
+          accepted-entries settings allowed s ok ((w ▸ a) ++ b .0) (b .1) a
+          (Memᴰ·append-left (b .0) (Memᴰ·append-right w (here refl)))
 
   -- the table of a book is read back: its names, its class and its states
   pub read-table :
@@ -173,7 +176,8 @@ module _ (settings : Settings) (allowed : Allowed settings) where
   table-length s ok = written-length settings allowed s (bookStates (bookOf settings s)) ok (book-writable s ok)
 
   -- so it is accepted, where there is room to work
-  read-no-fault : (s work : List ℕ) → Accepted settings s → work-bytes ≤ length work → tableFault (bookTable (bookOf settings s)) work ≡ 0
+  read-no-fault :
+      (s work : List ℕ) → Accepted settings s → work-bytes ≤ length work → tableFault (bookTable (bookOf settings s)) work ≡ 0
   unfolding tableFault sizesFault
   read-no-fault s work ok long =
       let bytes : List ℕ = bookTable (bookOf settings s) in

@@ -36,7 +36,8 @@ module _ (settings : Settings) (allowed : Allowed settings) where
   pub accepted-entries :
       (s : List ℕ) → Accepted settings s → (r : List ℕ) → In r (bookOf settings s .items) → (a : ℕ) → In a r →
       a < length (bookOf settings s .names)
-  accepted-entries s ok r m a n = tells-allBelow (length (bookOf settings s .names)) r .fact (accepted-book settings allowed s ok .1 .rows-below r m) a n
+  accepted-entries s ok r m a n =
+      tells-allBelow (length (bookOf settings s .names)) r .fact (accepted-book settings allowed s ok .1 .rows-below r m) a n
 
   -- a table with the book's names and class, and states that can be written, is read back
   pub reads-written :

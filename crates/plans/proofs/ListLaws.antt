@@ -55,7 +55,8 @@ pub record ListedBy (settings : Settings) (book work table : List ℕ) (joins : 
   pub short : length (bookListing (bookOf settings book)) ≤ listing-bytes
 
 module _ (settings : Settings) (allowed : Allowed settings) where
-  names-read : (book : List ℕ) → Accepted settings book → tableOf (bookTable (bookOf settings book)) .names ≡ bookOf settings book .names
+  names-read :
+      (book : List ℕ) → Accepted settings book → tableOf (bookTable (bookOf settings book)) .names ≡ bookOf settings book .names
   unfolding tableOf
   names-read book ok = ap (λ (r : Read). r .file-is .names) (read-table settings allowed book ok)
 
