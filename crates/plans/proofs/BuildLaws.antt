@@ -6,7 +6,7 @@ use mathlib.Core.List.{List, [], _∷_}
 use Prim.Native.Nat.{ℕ, _≤_, _<_}
 use native.Mathlib.Omega.{arith}
 use lib.ListN.{length}
-use Rattle.model.specs.Limits.{firstOf, input-limit, work-bytes, state-limit, bad-sizes}
+use Rattle.model.specs.Limits.{firstOf, input-limit, state-limit, bad-sizes}
 use Rattle.model.specs.Fields.{Settings, Allowed, File, readBook}
 use Rattle.model.specs.Fields as fields
 use Rattle.model.specs.Joinings.{treeOf, joinedGroups}
@@ -15,11 +15,11 @@ use Rattle.model.specs.Calls.{Gives, faultWith, bookOf, treeFault, bookFault, b
 use Rattle.model.specs.Claims.{Accepted}
 use Rattle.model.proofs.FieldLaws.{first-of}
 use Rattle.model.proofs.CallLaws.{refuses-first, refuses-then, refuses-none, call-refused, seen-as, refusal-is, answer-by, answered}
-use Rattle.model.proofs.CallLaws.{SizesBad, sizes-refuse, sizes-pass, table-sizes, one-wrote, FrontOf, front-of}
+use Rattle.model.proofs.CallLaws.{SizesBad, sizes-refuse, sizes-pass, one-wrote, FrontOf, front-of}
 use Rattle.model.proofs.Trees.{treeOf-tree}
 use Rattle.model.proofs.FirstMet.{met-few, states-length}
 use Rattle.model.proofs.Joined.{joinedGroups-joined}
-use Rattle.model.proofs.Demands.{accepted-tree, demands}
+use Rattle.model.proofs.Demands.{accepted-tree, table-length}
 use Rattle.fields.specs.Places.{fileOf, ReadAs}
 use Rattle.fields.specs.declared.Place.{Place}
 use Rattle.fields.specs.declared.Fields.the-variants as answer
@@ -30,12 +30,6 @@ use Rattle.plans.specs.declared.Built.{Built}
 use Rattle.plans.specs.Says.{built, not-built, building}
 
 -- ---- how large the numbers of an accepted book are
-
-table-short :
-    (settings : Settings) → Allowed settings → (s work : List ℕ) → Accepted settings s → work-bytes ≤ length work →
-    length (bookTable (bookOf settings s)) ≤ input-limit
-table-short settings allowed s work ok room =
-    table-sizes (bookTable (bookOf settings s)) work (demands .reads-back settings allowed .accepted-again s work ok room) .input-fits
 
 pub joins-few : (settings : Settings) (s : List ℕ) → Accepted settings s → joinsOf (bookOf settings s) ≤ state-limit
 unfolding joinsOf
@@ -120,16 +114,16 @@ module _ (settings : Settings) (book work out : List ℕ) where
       (seen-as asBuilt (inferring f) (out ∷ []) (out′ ∷ []) i gives)
 
   pub inferred-small :
-      (out′ : List ℕ) (i : Inferred) → Allowed settings → work-bytes ≤ length work → readBook settings book .number ≡ 0 →
+      (out′ : List ℕ) (i : Inferred) → Allowed settings → readBook settings book .number ≡ 0 →
       Infers (bookOf settings book) out out′ i → Small i
   unfolding inferring bookFault
-  inferred-small out′ i allowed room e gives =
+  inferred-small out′ i allowed e gives =
       answer-by gives Small (λ k. record { length-small = omega arith; states-small = omega arith; joins-small = omega arith })
       (λ none.
       let few : treeFault (bookOf settings book .items) ≡ 0 = first-of _ _ none .0 in
       let ok : Accepted settings book = refuses-none e few in
       record {
-        length-small = table-short settings allowed book work ok room;
+        length-small = omega (arith, table-length settings allowed book ok);
         states-small = omega (arith, states-few (bookOf settings book), accepted-tree settings book ok);
         joins-small = joins-few settings book ok;
       })

@@ -74,7 +74,7 @@ inferred c =
 small : (c : tie.After-infer) → Small (c .infer .result)
 small c =
     inferred-small (settings (at c)) (book (at c)) (work (at c)) (out (at c)) (c .infer .last .1 .1 .1 .0) (c .infer .result)
-    (start (at c) .pre) (sizes (at c) .work-fits) (read (answered c) .no-refusal) (inferred c)
+    (start (at c) .pre) (read (answered c) .no-refusal) (inferred c)
 
 sizes-bad-requires : tie.Need-sizes-bad-requires
 sizes-bad-requires c κs = search needs
