@@ -5,7 +5,7 @@ use mathlib.Core.List.{List, []}
 use Prim.Native.Nat.{ℕ, _≤_, _<_}
 use native.Mathlib.Omega.{arith}
 use lib.ListN.{length, getD}
-use Rattle.model.specs.Fields.{Class, FileKind, Read, readWith}
+use Rattle.model.specs.Fields.{Settings, FileKind, Read, readWith}
 use Rattle.fields.specs.Offsets.{bodyAt, nextAt, offsetAt}
 use Rattle.fields.specs.Places.{fileOf, Sound, ReadAs}
 use Rattle.fields.specs.declared.Place.{Place}
@@ -25,14 +25,14 @@ module _ (s : List ℕ) (p : Place) (sound : Sound s p) where
   name-within i h = omega (arith, field-within s 0 (p .names) i h, sound .names-within, sound .within)
 
 -- the definition's answer, by the code's
-pub accepted-number : (class : Class) (kind : FileKind) (s : List ℕ) (p : Place) → ReadAs class kind s (Accepted p)
-    → readWith class kind s .number ≡ 0
-accepted-number class kind s p r = sym (ap (λ (x : Read). x .number) (r .is))
+pub accepted-number : (settings : Settings) (kind : FileKind) (s : List ℕ) (p : Place) → ReadAs settings kind s (Accepted p)
+    → readWith settings kind s .number ≡ 0
+accepted-number settings kind s p r = sym (ap (λ (x : Read). x .number) (r .is))
 
-pub accepted-file-is : (class : Class) (kind : FileKind) (s : List ℕ) (p : Place) → ReadAs class kind s (Accepted p)
-    → readWith class kind s .file-is ≡ fileOf s p
-accepted-file-is class kind s p r = sym (ap (λ (x : Read). x .file-is) (r .is))
+pub accepted-file-is : (settings : Settings) (kind : FileKind) (s : List ℕ) (p : Place) → ReadAs settings kind s (Accepted p)
+    → readWith settings kind s .file-is ≡ fileOf s p
+accepted-file-is settings kind s p r = sym (ap (λ (x : Read). x .file-is) (r .is))
 
-pub refused-number : (class : Class) (kind : FileKind) (s : List ℕ) (k : ℕ) → ReadAs class kind s (Refused k)
-    → readWith class kind s .number ≡ k
-refused-number class kind s k r = sym (ap (λ (x : Read). x .number) (r .is))
+pub refused-number : (settings : Settings) (kind : FileKind) (s : List ℕ) (k : ℕ) → ReadAs settings kind s (Refused k)
+    → readWith settings kind s .number ≡ k
+refused-number settings kind s k r = sym (ap (λ (x : Read). x .number) (r .is))

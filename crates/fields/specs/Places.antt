@@ -6,10 +6,11 @@ use Prim.Native.Nat.{ℕ, suc, _+_, _≤_, _<_}
 use lib.ListN.{length, getD, take, drop}
 use Rattle.model.specs.Lists.{lastOr}
 use Rattle.model.specs.Limits.{name-limit, state-limit}
-use Rattle.model.specs.Fields.{Class, class-of, File, file, FileKind, Read, refused, accepted-file, readFrom, readWith, nameFault}
-use Rattle.model.specs.Fields.{classFault, rowFault, stateFault, fieldFault, withField}
+use Rattle.model.specs.Fields.{class-of, Settings, standard, table, File, file, FileKind, Read, refused, accepted-file, readFrom}
+use Rattle.model.specs.Fields.{readWith, nameFault, classFault, rowFault, stateFault, fieldFault, withField}
 use Rattle.fields.specs.Offsets.{bodyAt, nextAt, offsetAt, fieldsAt}
 use Rattle.fields.specs.declared.Place.{Place}
+use Rattle.fields.specs.declared.Settings as numbers
 use Rattle.fields.specs.declared.Step.{Step}
 use Rattle.fields.specs.declared.Fields.{Fields}
 use Rattle.fields.specs.declared.Step.the-variants as step
@@ -123,8 +124,15 @@ abbrev pub Kept : List ℕ → Fields → Type 0
 Kept s (fields.Accepted p) = Finished s p
 Kept s (fields.Refused k) = 0 < k
 
--- a file read: the answer is what the definition gives, for a book that names no class with this one; at default-class the
--- definition is readFields
-pub record ReadAs (class : Class) (kind : FileKind) (s : List ℕ) (answer : Fields) : Type 0 where
-  pub is : answerOf s answer ≡ readWith class kind s
+-- the settings that the code's numbers stand for
+abbrev pub settingsOf : numbers.Settings → Settings
+settingsOf n = record { default-class = class-of (n .kind) (n .first) (n .second) }
+
+-- a file read: the answer is what the definition gives with these settings
+pub record ReadAs (settings : Settings) (kind : FileKind) (s : List ℕ) (answer : Fields) : Type 0 where
+  pub is : answerOf s answer ≡ readWith settings kind s
   pub kept : Kept s answer
+
+-- a table read, which names its class itself, whatever the settings
+abbrev pub TableReadAs : List ℕ → Fields → Type 0
+TableReadAs s answer = ReadAs standard table s answer

@@ -25,8 +25,8 @@ ghost use mathlib.Core.Path.{_≡_};
 ghost use Prim.Native.Nat.{_≤_, _<_};
 ghost use lib.ListN.{length};
 ghost use Rattle.model.specs.Limits.{state-limit};
-ghost use Rattle.model.specs.Fields.{class-of, default-class};
-ghost use Rattle.fields.specs.Places.{withItem, Sound, Whole, NameStep, ClassStep, RowStep, StateStep, FieldStep, Turned, ReadAs};
+ghost use Rattle.fields.specs.Places.{withItem, Sound, Whole, NameStep, ClassStep, RowStep, StateStep, FieldStep, Turned};
+ghost use Rattle.fields.specs.Places.{settingsOf, ReadAs, TableReadAs};
 
 // How far reading has come, and where what was read stands.
 pub struct Place {
@@ -47,6 +47,20 @@ pub struct Place {
     pub start: usize,
     pub items: usize,
 }
+
+// What books are read with: the class of a book that names none, by its kind and its two settings.
+pub struct Settings {
+    pub kind: u8,
+    pub first: u8,
+    pub second: u8,
+}
+
+// The settings of document 01: context, k = 2, h = 1.
+pub const STANDARD: Settings = Settings {
+    kind: 0,
+    first: 2,
+    second: 1,
+};
 
 // One field's answer: the place after it, or its refusal, which is not 0.
 pub enum Step {
@@ -216,9 +230,10 @@ fn field(s: &[u8], is_table: bool, p: Place) -> Step
     whole_field(s, is_table, p)
 }
 
-// A whole book, or a whole table, where a book that names no class has the one given: the answer is that of the definition readWith.
-pub fn read_with(s: &[u8], is_table: bool, kind: u8, first: u8, second: u8) -> Fields
-    ensures { λ r. ⌜ ReadAs (class-of kind first second) «is_table» (now (s .entry)) r ⌝ }
+// A whole book, or a whole table: where its parts stand, or its first refusal. Nothing is required of the input, and nothing is
+// copied; the answer is that of the definition readWith, and every offset of an accepted file lies within the input.
+pub fn read_with(s: &[u8], is_table: bool, settings: Settings) -> Fields
+    ensures { λ r. ⌜ ReadAs (settingsOf settings) «is_table» (now (s .entry)) r ⌝ }
 {
     let mut p = Place {
         at: 0,
@@ -226,9 +241,9 @@ pub fn read_with(s: &[u8], is_table: bool, kind: u8, first: u8, second: u8) -> F
         names: 0,
         last: 0,
         width: 0,
-        kind: kind,
-        first: first,
-        second: second,
+        kind: settings.kind,
+        first: settings.first,
+        second: settings.second,
         start: 0,
         items: 0,
     };
@@ -250,10 +265,9 @@ pub fn read_with(s: &[u8], is_table: bool, kind: u8, first: u8, second: u8) -> F
     }
 }
 
-// A whole book, or a whole table: where its parts stand, or its first refusal. Nothing is required of the input, and nothing is
-// copied; the answer is that of the definition readFields, and every offset of an accepted file lies within the input.
-pub fn read_fields(s: &[u8], is_table: bool) -> Fields
-    ensures { λ r. ⌜ ReadAs default-class «is_table» (now (s .entry)) r ⌝ }
+// A whole table, which names its class itself, whatever the settings.
+pub fn read_table(s: &[u8]) -> Fields
+    ensures { λ r. ⌜ TableReadAs (now (s .entry)) r ⌝ }
 {
-    read_with(s, is_table, 0, 2, 1)
+    read_with(s, true, STANDARD)
 }

@@ -11,9 +11,9 @@ use lib.Dec.{leb}
 use lib.ListN.{length, getD, take, length-append}
 use lib.Seq.{take-at}
 use Rattle.model.specs.Limits.{row-limit}
-use Rattle.model.specs.Fields.{Class, File, unread, book, readWith, withField, classOk, settingsOk, allBelow}
+use Rattle.model.specs.Fields.{Class, ClassOk, File, unread, book, readWith, withField, classOk, settingsOk, allBelow}
 use Rattle.model.specs.Tables.{fieldBytes, nameFields}
-use Rattle.model.proofs.FieldLaws.{RowFits, ClassOk, Fitting, a-name, a-class, a-row, a-state, fitting, class-parts}
+use Rattle.model.proofs.FieldLaws.{RowFits, Fitting, a-name, a-class, a-row, a-state, fitting, class-parts}
 use Rattle.model.proofs.Turns.{read-keeps}
 use Rattle.model.proofs.StateBodies.{Bytes}
 use Rattle.model.proofs.Rewriting.{bytes-of}
@@ -174,12 +174,12 @@ module _ (s : List ℕ) (p : Place) (at : BookAt s p) (bytes : (i : ℕ) → i <
   keeps : Keeps s (fileOf s p) []
   unfolding readWith
   keeps =
-      let c = at .default in
-      subst (λ (f : File). Keeps s f []) (accepted-file-is c book s p (at .read))
+      let c = at .settings .default-class in
+      subst (λ (f : File). Keeps s f []) (accepted-file-is (at .settings) book s p (at .read))
       (read-keeps book (Keeps s)
       (λ f mark a b body rest size fit h. book-step s f a b body rest size mark (fitting book f mark body fit) h)
       (suc (length s)) (unread c) s (nothing-read s c (at .allowed) (bytes-of s bytes))
-      (accepted-number c book s p (at .read)) .1)
+      (accepted-number (at .settings) book s p (at .read)) .1)
 
   -- the names' fields are the book's first bytes
   pub names-front : nameFields (fileOf s p .names) ≡ take (namesEnd p) s

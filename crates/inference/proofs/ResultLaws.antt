@@ -13,10 +13,9 @@ use Rattle.model.specs.Fields.{File}
 use Rattle.model.specs.Tables.{nameFields, classField, stateFields, tableBytes}
 use Rattle.model.specs.Joinings.{treeOf}
 use Rattle.model.specs.Quotients.{bookStates, bookTable}
-use Rattle.model.specs.Calls.{over, joinsOf}
+use Rattle.model.specs.Calls.{over, treeFault, joinsOf}
 use Rattle.model.proofs.CallLaws.{call-refused, call-one-short, call-one-wrote}
 use Rattle.model.proofs.Tests.{same-tests, tells-leb}
-use Rattle.prefix_tree.specs.Growth.{treeFault}
 use Rattle.inference.specs.Books.{frontBytes}
 use Rattle.inference.specs.Results.{refused-with, inferring, Infers}
 
@@ -34,7 +33,7 @@ fits-after room front rest h =
     same-tests (tells-leb rest (room - front)) (tells-leb (front + rest) room) (λ g. omega arith) (λ g. omega arith)
 
 module _ (f : File) (out : List ℕ) where
-  pub gives-too-large : tree-too-large ≡ treeFault (treeOf (f .items)) → Infers f out out (refused-with tree-too-large)
+  pub gives-too-large : tree-too-large ≡ treeFault (f .items) → Infers f out out (refused-with tree-too-large)
   unfolding inferring
   gives-too-large e = call-refused (inferring f) (out ∷ []) (record { is = sym e; some = omega arith })
 

@@ -1,12 +1,11 @@
 -- The place of an accepted book, and what is made of its rows on the way to its table: the prefix tree in arrays, and a partition of its
 -- states whose automaton is that of the full joining. Assumes nothing.
 use mathlib.Core.Path.{_≡_}
-use mathlib.Core.Bool.{true}
 use mathlib.Core.List.{List, _++_}
 use Prim.Native.Nat.{ℕ, _+_, _≤_}
 use lib.ListN.{length}
 use Rattle.model.specs.Limits.{state-limit}
-use Rattle.model.specs.Fields.{Class, class-of, File, settingsOk, book}
+use Rattle.model.specs.Fields.{Class, class-of, Settings, Allowed, File, book}
 use Rattle.model.specs.Classes.{Word}
 use Rattle.model.specs.Tables.{nameFields, classField}
 use Rattle.model.specs.Joinings.{treeOf, joinedGroups}
@@ -18,11 +17,11 @@ use Rattle.fields.specs.declared.Fields.the-variants.{Accepted}
 use Rattle.indexed.specs.Trees.{TreeArrays, AcceptsArray}
 use Rattle.indexed.specs.Partitions.{Labelled, ForkClosed}
 
--- the place of a book that was read without a fault, whichever allowed class a book has that names none
+-- the place of a book that was read without a fault, with whichever allowed settings
 pub record BookAt (s : List ℕ) (p : Place) : Type 0 where
-  pub default : Class
-  pub allowed : settingsOk (default .kind) (default .first) (default .second) ≡ true
-  pub read : ReadAs default book s (Accepted p)
+  pub settings : Settings
+  pub allowed : Allowed settings
+  pub read : ReadAs settings book s (Accepted p)
 
 -- the rows of the book, and its class
 abbrev pub rowsAt : List ℕ → Place → List Word

@@ -10,7 +10,7 @@ use lib.ListN.{length, getD, length-append}
 use borrow.Author.Tests.{leb-true}
 use Rattle.model.specs.Lists.{all}
 use Rattle.model.specs.Limits.{name-bytes}
-use Rattle.model.specs.Fields.{nameOk, startsName, continuesName}
+use Rattle.model.specs.Fields.{Settings, Allowed, nameOk, startsName, continuesName}
 use Rattle.model.specs.Tables.{Arc, State}
 use Rattle.model.specs.Listing.{decimal, arcText, stateLine, stateLines, listing, refusalText}
 use Rattle.model.specs.Calls.{bookOf}
@@ -87,11 +87,13 @@ listing-bytes = 32768
 
 -- the listing of an accepted book, of states that can be written
 pub book-listing-length :
-    (s : List ℕ) (states : List State) (joins : ℕ) → Accepted s → Writable (length (bookOf s .names)) states →
-    length (listing (bookOf s .names) states joins) ≤ listing-bytes
-book-listing-length s states joins ok w =
-    let short = names-short [] (bookOf s .names) (accepted-book s ok .1 .names-ok) in
-    omega (arith, listing-length (bookOf s .names) short states joins, w .few-states, w .few-arcs)
+    (settings : Settings) → Allowed settings → (s : List ℕ) (states : List State) (joins : ℕ) → Accepted settings s →
+    Writable (length (bookOf settings s .names)) states →
+    length (listing (bookOf settings s .names) states joins) ≤ listing-bytes
+book-listing-length settings allowed s states joins ok w =
+    let names = bookOf settings s .names in
+    let short = names-short [] names (accepted-book settings allowed s ok .1 .names-ok) in
+    omega (arith, listing-length names short states joins, w .few-states, w .few-arcs)
 
 pub refusal-text-length : (n : ℕ) → length (refusalText n) ≤ 14
 unfolding refusalText

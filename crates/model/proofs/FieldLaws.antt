@@ -12,7 +12,7 @@ use borrow.Author.Tests.{leb-false, lt-leb, eqb-true}
 use Rattle.model.specs.Limits.{name-limit, book-rows, state-limit, when, firstOf, misplaced}
 use Rattle.model.specs.Limits.{bad-name, name-order, too-many, bad-class, bad-row, bad-state}
 use Rattle.model.specs.Fields.{File, FileKind, book, table, mayCome, byMark, nameOk, above, classOk, rowOk, stateOk}
-use Rattle.model.specs.Fields.{Class, settingsOk, classFrom, nameFault, classFault, rowFault, stateFault, fieldFault}
+use Rattle.model.specs.Fields.{ClassOk, settingsOk, classFrom, nameFault, classFault, rowFault, stateFault, fieldFault}
 use Rattle.model.proofs.Tests.{tells-eqb, tells-leb, tells-and, tells-or}
 
 -- no refusal of two
@@ -79,10 +79,6 @@ class-fits body e = when-not (classOk body) bad-class (omega arith) e
 pub fits-class : (body : List ℕ) → classOk body ≡ true → classFault body ≡ 0
 unfolding classFault
 fits-class body e = ap (λ (t : Bool). when (not t) bad-class) e
-
--- a class may stand in a class field
-abbrev pub ClassOk : Class → Type 0
-ClassOk c = settingsOk (c .kind) (c .first) (c .second) ≡ true
 
 -- a class field has three bytes, its settings
 pub class-parts : (body : List ℕ) → classOk body ≡ true → (length body ≡ 3) × ClassOk (classFrom body)

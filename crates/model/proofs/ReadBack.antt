@@ -9,9 +9,9 @@ use native.Mathlib.Omega.{arith}
 use lib.ListN.{length, length-append}
 use borrow.Author.Tests.{le-leb}
 use Rattle.model.specs.Limits.{state-limit}
-use Rattle.model.specs.Fields.{Class, File, file, table, Read, accepted-file, readFrom, fieldFault, withField, stateOk}
+use Rattle.model.specs.Fields.{Class, ClassOk, File, file, table, Read, accepted-file, readFrom, fieldFault, withField, stateOk}
 use Rattle.model.specs.Tables.{State, fieldBytes, nameFields, classField, stateBody, stateFields, tableBytes}
-use Rattle.model.proofs.FieldLaws.{NameFits, StateFits, ClassOk, fits-name, fits-class, fits-state}
+use Rattle.model.proofs.FieldLaws.{NameFits, StateFits, fits-name, fits-class, fits-state}
 use Rattle.model.proofs.Turns.{one-field}
 use Rattle.model.proofs.StateBodies.{two-bytes}
 use Rattle.model.proofs.Books.{NamesOk}

@@ -10,8 +10,8 @@ use native.Mathlib.Omega.{arith}
 use lib.Dec.{leb}
 use lib.ListN.{length, getD}
 use borrow.Author.Tests.{le-leb, lt-leb}
-use Rattle.model.specs.Fields.{Class, File, unread, default-class, table, withField, classOk, classFrom}
-use Rattle.model.specs.Fields.{readFields, readWith}
+use Rattle.model.specs.Fields.{Class, File, unread, standard, table, withField, classOk, classFrom}
+use Rattle.model.specs.Fields.{readTable, readWith}
 use Rattle.model.specs.Tables.{fieldBytes, nameFields, classField, stateBody, stateFields, stateIn, statesIn, tableBytes}
 use Rattle.model.specs.Calls.{tableOf, tableStates, rewritten}
 use Rattle.model.proofs.FieldLaws.{StateFits, Fitting, a-name, a-class, a-row, a-state, fitting, class-parts}
@@ -155,7 +155,7 @@ module _ (s : List ℕ) (f : File) (a b : ℕ) (body rest : List ℕ) (size : le
   table-step mark (a-state k e high fits) h = at-mark mark 4 e (with-state high fits) h
 
 -- before the first field
-nothing-read : (s : List ℕ) → Bytes s → Rewrites s (unread default-class) s
+nothing-read : (s : List ℕ) → Bytes s → Rewrites s (unread (standard .default-class)) s
 unfolding nameFields flatMap
 nothing-read s bytes = record { same = refl; no-items = λ h. refl; bytes = bytes; bodies = λ r m. absurd (List·Memᴰ·not-nil m) }
 
@@ -169,13 +169,13 @@ states-again (r ∷ items) h =
     ap₂ (λ (x xs : List ℕ). fieldBytes 4 x ++ xs) (h r (here refl)) (states-again items (λ q m. h q (there m)))
 
 -- so an accepted table is rewritten to the same bytes
-pub rewritten-same : (s : List ℕ) → Bytes s → readFields table s .number ≡ 0 → rewritten s ≡ s
+pub rewritten-same : (s : List ℕ) → Bytes s → readTable s .number ≡ 0 → rewritten s ≡ s
 unfolding rewritten tableStates tableOf tableBytes readWith
 rewritten-same s bytes ok =
     let kept =
     read-keeps table (Rewrites s)
     (λ f mark a b body rest size fit h. table-step s f a b body rest size mark (fitting table f mark body fit) h)
-    (suc (length s)) (unread default-class) s (nothing-read s bytes) ok in
+    (suc (length s)) (unread (standard .default-class)) s (nothing-read s bytes) ok in
     let f = tableOf s in
     let class-read : leb 2 (f .stage) ≡ true = le-leb 2 (f .stage) (omega (arith, kept .0)) in
     ap (λ (z : List ℕ). nameFields (f .names) ++ (classField (f .class-is) ++ z))

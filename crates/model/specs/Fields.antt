@@ -1,5 +1,6 @@
 -- Fields of books and tables (document 01, "Fields"), read in file order with refusals 2 to 9 and 11. One reading serves both
 -- kinds of file. Names, rows and state fields are lists of bytes; what a state field means is in Tables. Assumes nothing.
+use mathlib.Core.Path.{_≡_}
 use mathlib.Core.Bool.{Bool, true, false, _&&_, _||_, not, cond}
 use mathlib.Core.List.{List, [], _∷_, _++_}
 use Prim.Native.Nat.{ℕ, zero, suc, _+_, _*_}
@@ -19,10 +20,6 @@ pub record Class : Type 0 where
 abbrev pub class-of : ℕ → ℕ → ℕ → Class
 class-of kind first second = record { kind = kind; first = first; second = second }
 
--- the class of a book without a class field: context, k = 2, h = 1
-abbrev pub default-class : Class
-default-class = class-of 0 2 1
-
 -- context: k from 1 to 8, h from 1 to k
 abbrev pub contextOk : ℕ → ℕ → Bool
 contextOk k h = (leb 1 k && leb k setting-limit) && (leb 1 h && leb h k)
@@ -32,6 +29,22 @@ abbrev pub settingsOk : ℕ → ℕ → ℕ → Bool
 settingsOk kind x y =
     (eqb kind 0 && contextOk x y)
     || ((eqb kind 1 && (eqb x 0 && eqb y 0)) || (eqb kind 2 && (leb x setting-limit && eqb y 0)))
+
+-- a class that a class field may hold
+abbrev pub ClassOk : Class → Type 0
+ClassOk c = settingsOk (c .kind) (c .first) (c .second) ≡ true
+
+-- what an entry reads books and builds tables with: the class of a book without a class field
+pub record Settings : Type 0 where
+  pub default-class : Class
+
+-- which settings are allowed: those with a default class that a class field may hold
+abbrev pub Allowed : Settings → Type 0
+Allowed settings = ClassOk (settings .default-class)
+
+-- the settings of document 01: context, k = 2, h = 1
+abbrev pub standard : Settings
+standard = record { default-class = class-of 0 2 1 }
 
 -- a class field's bytes: kind and two settings
 abbrev pub classOk : List ℕ → Bool
@@ -164,7 +177,7 @@ pub record Read : Type 0 where
 
 -- the refusal with this number, and nothing read
 abbrev pub refused : ℕ → Read
-refused n = record { number = n; file-is = unread default-class }
+refused n = record { number = n; file-is = unread (standard .default-class) }
 
 -- no refusal, and the file
 abbrev pub accepted-file : File → Read
@@ -210,10 +223,14 @@ readFrom (suc l) kind f s =
           ]
     ]
 
--- a whole file, with the class that a book has if it names none
-unfoldable pub readWith : Class → FileKind → List ℕ → Read
-readWith class kind s = readFrom (suc (length s)) kind (unread class) s
+-- a whole file; a book that names no class has that of the settings
+unfoldable pub readWith : Settings → FileKind → List ℕ → Read
+readWith settings kind s = readFrom (suc (length s)) kind (unread (settings .default-class)) s
 
--- a whole file, where a book that names no class has the default class
-abbrev pub readFields : FileKind → List ℕ → Read
-readFields kind s = readWith default-class kind s
+-- a whole book
+abbrev pub readBook : Settings → List ℕ → Read
+readBook settings s = readWith settings book s
+
+-- a whole table, which names its class itself, whatever the settings
+abbrev pub readTable : List ℕ → Read
+readTable s = readWith standard table s

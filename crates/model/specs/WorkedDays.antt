@@ -10,7 +10,7 @@ use Prim.Native.Nat.{ℕ, zero, suc}
 use lib.Dec.{eqb}
 use lib.ListN.{length, getD}
 use Rattle.model.specs.Lists.{all, filterBy, numbersFrom, same, hasRow}
-use Rattle.model.specs.Fields.{Class, class-of, default-class, settingsOk, File, book, table, readWith, readFields}
+use Rattle.model.specs.Fields.{Class, class-of, Settings, Allowed, standard, File, readTable}
 use Rattle.model.specs.Tables.{State, no-state, isFirstMet, walk, admits, outcome, longestBeginning, nextNames, nextCount}
 use Rattle.model.specs.Classes.{Word}
 use Rattle.model.specs.Joinings.{Step, step, treeOf, joinedGroups, isFullJoining}
@@ -659,10 +659,10 @@ isFile f names class items =
 -- compute of that book; its walks are over the table's bytes, read back
 unfoldable pub dayHolds : Day → Bool
 dayHolds day =
-    let f = bookOf (day .book-bytes) in
+    let f = bookOf standard (day .book-bytes) in
     let written = bookTable f in
     let states = tableStates written in
-    eqb (bookFault (day .book-bytes)) 0
+    eqb (bookFault standard (day .book-bytes)) 0
     && isFile f meal-names (day .class-is) (day .rows)
     && sameRows (treeOf (f .items)) (day .tree)
     && same (joinedGroups (f .class-is) (f .items)) (day .groups)
@@ -670,7 +670,7 @@ dayHolds day =
     && eqb (length states) (day .table-states)
     && eqb (joinsOf f) (day .joins)
     && same written (day .table-bytes)
-    && eqb (readFields table written .number) 0
+    && eqb (readTable written .number) 0
     && isFirstMet states
     && same (acceptingIn states) (day .accepting)
     && sameRows (filterBy (admits states) shortRows) (day .admitted-rows)
@@ -681,11 +681,11 @@ dayHolds day =
 -- the example book is accepted and read as it should be; its table and its listing are those printed in document 01
 unfoldable pub exampleHolds : Bool
 exampleHolds =
-    eqb (bookFault example-book) 0
-    && isFile (bookOf example-book) (snack ∷ []) (class-of 0 1 1) ((0 ∷ 0 ∷ []) ∷ [])
-    && same (bookTable (bookOf example-book)) example-table
-    && same (listingOf example-book) example-listing
-    && same (listingOf []) empty-listing
+    eqb (bookFault standard example-book) 0
+    && isFile (bookOf standard example-book) (snack ∷ []) (class-of 0 1 1) ((0 ∷ 0 ∷ []) ∷ [])
+    && same (bookTable (bookOf standard example-book)) example-table
+    && same (listingOf standard example-book) example-listing
+    && same (listingOf standard []) empty-listing
 
 -- the example holds, and the days, the further ones before the twelve; and the repeat of P3 has the table of P3
 unfoldable pub daysHold : Bool
@@ -693,7 +693,7 @@ daysHold =
     exampleHolds
     && all dayHolds furtherDays
     && all dayHolds workedDays
-    && same (bookTable (bookOf (P12 .book-bytes))) (bookTable (bookOf (P3 .book-bytes)))
+    && same (bookTable (bookOf standard (P12 .book-bytes))) (bookTable (bookOf standard (P3 .book-bytes)))
 
 -- ---- what is claimed
 
@@ -703,13 +703,14 @@ finiteDays = P1 ∷ P3 ∷ P4 ∷ P5 ∷ P6 ∷ P7 ∷ P11 ∷ P12 ∷ Q1 ∷ []
 
 -- of all rows, of any length and of any numbers, the states of the day's book admit those written down and no other
 abbrev pub AdmitsOnly : Day → Type 0
-AdmitsOnly day = (r : Word) → admits (bookStates (bookOf (day .book-bytes))) r ≡ hasRow r (day .admitted-rows)
+AdmitsOnly day = (r : Word) → admits (bookStates (bookOf standard (day .book-bytes))) r ≡ hasRow r (day .admitted-rows)
 
--- the book's states tell the default class: with any other default class that a class field may hold they would be others
+-- the book's states tell the default class: with any other that is allowed they would be others
 abbrev pub TellsDefault : Day → Type 0
 TellsDefault day =
-    (c : Class) → settingsOk (c .kind) (c .first) (c .second) ≡ true →
-    bookStates (readWith c book (day .book-bytes) .file-is) ≡ bookStates (bookOf (day .book-bytes)) → c ≡ default-class
+    (settings : Settings) → Allowed settings →
+    bookStates (bookOf settings (day .book-bytes)) ≡ bookStates (bookOf standard (day .book-bytes)) →
+    settings .default-class ≡ standard .default-class
 
 -- all of it
 pub record DaysClaimed : Type 0 where

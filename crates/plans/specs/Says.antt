@@ -5,6 +5,7 @@ use mathlib.Core.Path.{_≡_}
 use mathlib.Core.List.{List, [], _∷_}
 use Prim.Native.Nat.{ℕ}
 use lib.ListN.{length, replicate}
+use Rattle.model.specs.Fields.{Settings}
 use Rattle.model.specs.Tables.{State, outcome, longestBeginning, nextNames, nextCount}
 use Rattle.model.specs.Quotients.{bookStates, bookTable}
 use Rattle.model.specs.Calls.{Call, Says, over, unless}
@@ -24,12 +25,12 @@ built refusal length states joins = record { refusal = refusal; length = length;
 abbrev pub not-built : ℕ → Built
 not-built refusal = built refusal 0 0 0
 
--- the table of a book built: its length, its states, and the joins
-unfoldable pub building : List ℕ → List ℕ → Call Built
-building book work =
-    let f = bookOf book in
+-- the table of a book built with these settings: its length, its states, and the joins
+unfoldable pub building : Settings → List ℕ → List ℕ → Call Built
+building settings book work =
+    let f = bookOf settings book in
     record {
-      refusal = buildFault book work;
+      refusal = buildFault settings book work;
       none = not-built;
       answer = built 0 (length (bookTable f)) (length (bookStates f)) (joinsOf f);
       writes = bookTable f ∷ [];
@@ -45,9 +46,10 @@ rewriting table work =
       writes = rewritten table ∷ [];
     }
 
--- what build_table promises: the lent slices before and after, and the result
-abbrev pub BuildSays : List ℕ → List ℕ → List ℕ → List ℕ → List ℕ → Built → Type 0
-BuildSays book work work′ out out′ r = Says (building book work) work work′ (out ∷ []) (out′ ∷ []) r
+-- what an entry that builds with these settings promises, build_table with the standard ones: the lent slices before and after, and
+-- the result
+abbrev pub BuildSays : Settings → List ℕ → List ℕ → List ℕ → List ℕ → List ℕ → Built → Type 0
+BuildSays settings book work work′ out out′ r = Says (building settings book work) work work′ (out ∷ []) (out′ ∷ []) r
 
 -- what rewrite_table promises
 abbrev pub RewriteSays : List ℕ → List ℕ → List ℕ → List ℕ → List ℕ → Built → Type 0
@@ -98,21 +100,21 @@ not-written refusal = written refusal 0
 unfoldable pub copying : List ℕ → Call Written
 copying bytes = record { refusal = 0; none = not-written; answer = written 0 (length bytes); writes = bytes ∷ [] }
 
--- the listing of a book
-unfoldable pub listingBook : List ℕ → List ℕ → Call Written
-listingBook book work =
-    let text = bookListing (bookOf book) in
-    record { refusal = buildFault book work; none = not-written; answer = written 0 (length text); writes = text ∷ [] }
+-- the listing of a book read with these settings
+unfoldable pub listingBook : Settings → List ℕ → List ℕ → Call Written
+listingBook settings book work =
+    let text = bookListing (bookOf settings book) in
+    record { refusal = buildFault settings book work; none = not-written; answer = written 0 (length text); writes = text ∷ [] }
 
--- what list_book promises
-abbrev pub ListSays : List ℕ → List ℕ → List ℕ → List ℕ → List ℕ → Written → Type 0
-ListSays book work work′ text text′ r = Says (listingBook book work) work work′ (text ∷ []) (text′ ∷ []) r
+-- what an entry that lists books with these settings promises, list_book with the standard ones
+abbrev pub ListSays : Settings → List ℕ → List ℕ → List ℕ → List ℕ → List ℕ → Written → Type 0
+ListSays settings book work work′ text text′ r = Says (listingBook settings book work) work work′ (text ∷ []) (text′ ∷ []) r
 
 -- ---- what the listing program prints
 
 -- that text at the front of the lent one, which is untouched beyond it, and its length; and the working area before and after
-pub record PrintSays (book work work′ text text′ : List ℕ) (r : ℕ) : Type 0 where
-  pub text-is : text′ ≡ over (listingOf book) text
-  pub length-is : r ≡ length (listingOf book)
+pub record PrintSays (settings : Settings) (book work work′ text text′ : List ℕ) (r : ℕ) : Type 0 where
+  pub text-is : text′ ≡ over (listingOf settings book) text
+  pub length-is : r ≡ length (listingOf settings book)
   pub same-length : length work′ ≡ length work
   pub work-zero : work′ ≡ replicate (length work′) 0

@@ -2,22 +2,27 @@
 use crate::Built;
 use crate::rewriting::refused;
 use fields::Fields;
-use fields::read_fields;
+use fields::Settings;
+use fields::read_with;
 use inference::infer;
 use judging::limits::BAD_SIZES;
 use judging::sizes::sizes_bad;
 ghost use mathlib.Core.List.{[], _∷_};
+ghost use Rattle.model.specs.Fields.{Allowed};
 ghost use Rattle.model.specs.Calls.{Gives};
+ghost use Rattle.fields.specs.Places.{settingsOf};
 ghost use Rattle.plans.specs.Says.{building};
 
 // Refusals 1, the fields', 10, 13; otherwise the table stands at the front of the output.
-pub fn build(book: &[u8], work: &mut [u8], out: &mut [u8]) -> Built
-    ensures { λ r. ⌜ Gives (building (now (book .entry)) (now (work .entry))) (now (out .entry) ∷ []) (now (out .exit) ∷ []) r ⌝ }
+pub fn build(settings: Settings, book: &[u8], work: &mut [u8], out: &mut [u8]) -> Built
+    requires { ⌜ Allowed (settingsOf settings) ⌝ }
+    ensures { λ r. ⌜ Gives (building (settingsOf settings) (now (book .entry)) (now (work .entry)))
+        (now (out .entry) ∷ []) (now (out .exit) ∷ []) r ⌝ }
 {
     if sizes_bad(book.len(), work.len()) {
         return refused(BAD_SIZES);
     }
-    let read = read_fields(book, false);
+    let read = read_with(book, false, settings);
     match read {
         Fields::Accepted(p) => {
             let inferred = infer(book, p, work, out);

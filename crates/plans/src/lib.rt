@@ -9,6 +9,8 @@ mod rewriting;
 mod walking;
 
 use cells::clear;
+use fields::STANDARD;
+ghost use Rattle.model.specs.Fields.{standard};
 ghost use Rattle.plans.specs.Says.{BuildSays, RewriteSays, WalkSays, WalkedSays, ListSays};
 
 // What a call that writes a table gives back: its refusal or 0, then the table's length in bytes, its states, and the joins: tree
@@ -42,9 +44,10 @@ pub struct Written {
 // Builds the table of a book: the prefix tree of its rows, joined by the rules of its class until none applies, numbered
 // first-met. `build-handed-over` of the crate handed_over says what holds of the table that is written: demand 3, whole.
 pub fn build_table(book: &[u8], work: &mut [u8], out: &mut [u8]) -> Built
-    ensures { λ r. ⌜ BuildSays (now (book .entry)) (now (work .entry)) (now (work .exit)) (now (out .entry)) (now (out .exit)) r ⌝ }
+    ensures { λ r. ⌜ BuildSays standard (now (book .entry)) (now (work .entry)) (now (work .exit))
+        (now (out .entry)) (now (out .exit)) r ⌝ }
 {
-    let built = building::build(book, work, out);
+    let built = building::build(STANDARD, book, work, out);
     clear(work);
     built
 }
@@ -83,9 +86,10 @@ pub fn walk_row<'a>(
 
 // Writes the listing of a book: a line with the states and joins, then one for each state.
 pub fn list_book(book: &[u8], work: &mut [u8], text: &mut [u8]) -> Written
-    ensures { λ r. ⌜ ListSays (now (book .entry)) (now (work .entry)) (now (work .exit)) (now (text .entry)) (now (text .exit)) r ⌝ }
+    ensures { λ r. ⌜ ListSays standard (now (book .entry)) (now (work .entry)) (now (work .exit))
+        (now (text .entry)) (now (text .exit)) r ⌝ }
 {
-    let written = listing::list(book, work, text);
+    let written = listing::list(STANDARD, book, work, text);
     clear(work);
     written
 }
@@ -93,7 +97,8 @@ pub fn list_book(book: &[u8], work: &mut [u8], text: &mut [u8]) -> Written
 // build_table for C.
 #[no_mangle]
 pub extern "C" fn plans_build(book: &[u8], work: &mut [u8], out: &mut [u8]) -> Built
-    ensures { λ r. ⌜ BuildSays (now (book .entry)) (now (work .entry)) (now (work .exit)) (now (out .entry)) (now (out .exit)) r ⌝ }
+    ensures { λ r. ⌜ BuildSays standard (now (book .entry)) (now (work .entry)) (now (work .exit))
+        (now (out .entry)) (now (out .exit)) r ⌝ }
 {
     build_table(book, work, out)
 }
@@ -117,7 +122,8 @@ pub extern "C" fn plans_walk(table: &[u8], row: &[u8], work: &mut [u8]) -> Walke
 // list_book for C.
 #[no_mangle]
 pub extern "C" fn plans_list(book: &[u8], work: &mut [u8], text: &mut [u8]) -> Written
-    ensures { λ r. ⌜ ListSays (now (book .entry)) (now (work .entry)) (now (work .exit)) (now (text .entry)) (now (text .exit)) r ⌝ }
+    ensures { λ r. ⌜ ListSays standard (now (book .entry)) (now (work .entry)) (now (work .exit))
+        (now (text .entry)) (now (text .exit)) r ⌝ }
 {
     list_book(book, work, text)
 }

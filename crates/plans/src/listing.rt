@@ -5,7 +5,8 @@ use crate::building;
 use crate::limits::OUTPUT_TOO_SHORT;
 use crate::limits::TABLE_BYTES;
 use fields::Fields;
-use fields::read_fields;
+use fields::Settings;
+use fields::read_table;
 use listings::list_table;
 use writing::copy_in;
 ghost use mathlib.Core.Path.{_≡_};
@@ -13,21 +14,22 @@ ghost use mathlib.Core.List.{[], _∷_};
 ghost use Prim.Native.Nat.{_≤_, _<_};
 ghost use lib.ListN.{length};
 ghost use Rattle.model.specs.Limits.{work-bytes};
-ghost use Rattle.model.specs.Fields as model;
+ghost use Rattle.model.specs.Fields.{Allowed, readTable};
 ghost use Rattle.model.specs.Listing.{listing};
 ghost use Rattle.model.specs.Calls.{Gives, tableOf, tableStates};
+ghost use Rattle.fields.specs.Places.{settingsOf};
 ghost use Rattle.listings.specs.Texts.{Fits, Puts};
 ghost use Rattle.plans.specs.Says.{not-written, copying, listingBook};
 
 // The listing of a table that was accepted, at the front of the text; its length.
 fn list_accepted(table: &[u8], joins: usize, text: &mut [u8]) -> usize
-    requires { ⌜ model.readFields model.table (now table) .number ≡ 0 ⌝ }
+    requires { ⌜ readTable (now table) .number ≡ 0 ⌝ }
     requires { ⌜ joins < 65536 ⌝ }
     requires { ⌜ Fits (now text) 0 (listing (tableOf (now table) .names) (tableStates (now table)) joins) ⌝ }
     ensures { λ r. ⌜ Puts (now (text .entry)) (now (text .exit)) 0
         (listing (tableOf (now (table .entry)) .names) (tableStates (now (table .entry))) joins) r ⌝ }
 {
-    let read = read_fields(table, true);
+    let read = read_table(table);
     match read {
         Fields::Accepted(p) => list_table(table, p, joins, text),
         // never met: an accepted table is accepted again
@@ -61,11 +63,13 @@ fn copy_out(bytes: &[u8], text: &mut [u8]) -> Written
 }
 
 // Refusals 1, the fields', 10, 13; otherwise the listing stands at the front of the text.
-pub fn list(book: &[u8], work: &mut [u8], text: &mut [u8]) -> Written
-    ensures { λ r. ⌜ Gives (listingBook (now (book .entry)) (now (work .entry))) (now (text .entry) ∷ []) (now (text .exit) ∷ []) r ⌝ }
+pub fn list(settings: Settings, book: &[u8], work: &mut [u8], text: &mut [u8]) -> Written
+    requires { ⌜ Allowed (settingsOf settings) ⌝ }
+    ensures { λ r. ⌜ Gives (listingBook (settingsOf settings) (now (book .entry)) (now (work .entry)))
+        (now (text .entry) ∷ []) (now (text .exit) ∷ []) r ⌝ }
 {
     let mut table = [0u8; TABLE_BYTES];
-    let built = building::build(book, work, &mut table);
+    let built = building::build(settings, book, work, &mut table);
     if built.refusal != 0 {
         return refused(built.refusal);
     }

@@ -3,11 +3,13 @@ use crate::limits::LISTING_BYTES;
 use crate::limits::WORK_BYTES;
 use crate::list_book;
 use listings::refusal_text;
+ghost use Rattle.model.specs.Fields.{standard};
 ghost use Rattle.plans.specs.Says.{PrintSays};
 
 // That text, at the front of one that takes every listing; its length.
 pub fn print_book(book: &[u8], work: &mut [u8; WORK_BYTES], text: &mut [u8; LISTING_BYTES]) -> usize
-    ensures { λ r. ⌜ PrintSays (now (book .entry)) (now (work .entry)) (now (work .exit)) (now (text .entry)) (now (text .exit)) r ⌝ }
+    ensures { λ r. ⌜ PrintSays standard (now (book .entry)) (now (work .entry)) (now (work .exit))
+        (now (text .entry)) (now (text .exit)) r ⌝ }
 {
     let listed = list_book(book, work, text);
     if listed.refusal != 0 {

@@ -10,13 +10,13 @@ use borrow.Author.Tests.{ltb-true, ltb-false, eq-eqb, ne-eqb}
 use lib.Dec.{ltb}
 use lib.ListN.{length, getD, drop, length-map, List·getD-map}
 use Rattle.model.specs.Limits.{when, firstOf, work-bytes, bad-sizes}
-use Rattle.model.specs.Fields.{File, Read, default-class, table, readFields}
+use Rattle.model.specs.Fields.{File, Read, readTable}
 use Rattle.model.specs.Tables.{State, no-state, stateIn, statesIn, metByArcs, metByStates, isFirstMet}
 use Rattle.model.specs.Calls.{Refuses, tableOf, tableStates, tableFault}
 use Rattle.model.proofs.CallLaws.{SizesBad, refuses-first, sizes-refuse, sizes-pass}
 use Rattle.model.proofs.TableBodies.{bodies-ok}
 use Rattle.fields.specs.Offsets.{bodyAt, nextAt, offsetAt, fieldsAt}
-use Rattle.fields.specs.Places.{ReadAs}
+use Rattle.fields.specs.Places.{TableReadAs}
 use Rattle.fields.specs.declared.Place.{Place}
 use Rattle.fields.specs.declared.Fields.the-variants as read
 use Rattle.fields.proofs.OffsetLaws.{offset-suc, field-within, length-fields, field-at}
@@ -90,11 +90,11 @@ passing-begins s p lent =
       decides = refl;
     }
 
-fault-none : (s : List ℕ) → readFields table s .number ≡ 0 → isFirstMet (tableStates s) ≡ true → readFault s ≡ 0
+fault-none : (s : List ℕ) → readTable s .number ≡ 0 → isFirstMet (tableStates s) ≡ true → readFault s ≡ 0
 unfolding readFault
 fault-none s e f = rw (e, f)
 
-fault-12 : (s : List ℕ) → readFields table s .number ≡ 0 → isFirstMet (tableStates s) ≡ false → readFault s ≡ 12
+fault-12 : (s : List ℕ) → readTable s .number ≡ 0 → isFirstMet (tableStates s) ≡ false → readFault s ≡ 12
 unfolding readFault
 fault-12 s e f = rw (e, f)
 
@@ -102,7 +102,7 @@ first-of-some : (a b : ℕ) → 0 < a → firstOf a b ≡ a
 first-of-some zero b h = let z : ⊥ = omega arith in absurd z
 first-of-some (suc a) b h = refl
 
-pub fault-fields : (s : List ℕ) (k : ℕ) → readFields table s .number ≡ k → 0 < k → readFault s ≡ k
+pub fault-fields : (s : List ℕ) (k : ℕ) → readTable s .number ≡ k → 0 < k → readFault s ≡ k
 unfolding readFault
 fault-fields s k e h = rw e (first-of-some k (when (not (isFirstMet (tableStates s))) 12) h)
 
@@ -201,7 +201,7 @@ module _ (s : List ℕ) (p : Place) (t : TableRead s p) (lent work : List ℕ) (
 
 -- ---- the reader's answer
 
-pub table-read : (s : List ℕ) (p : Place) → ReadAs default-class table s (read.Accepted p) → TableRead s p
+pub table-read : (s : List ℕ) (p : Place) → TableReadAs s (read.Accepted p) → TableRead s p
 unfolding tableOf
 table-read s p r =
     record {
@@ -210,7 +210,7 @@ table-read s p r =
       file-is = ap (λ (a : Read). a .file-is) (r .is);
     }
 
-pub table-refused : (s lent : List ℕ) (k : ℕ) → ReadAs default-class table s (read.Refused k) → AcceptedAs s lent lent (Refused k)
+pub table-refused : (s lent : List ℕ) (k : ℕ) → TableReadAs s (read.Refused k) → AcceptedAs s lent lent (Refused k)
 table-refused s lent k r =
     record {
       number = sym (fault-fields s k (sym (ap (λ (a : Read). a .number) (r .is))) (r .kept));

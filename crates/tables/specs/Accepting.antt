@@ -6,7 +6,7 @@ use mathlib.Core.List.{List}
 use Prim.Native.Nat.{ℕ, _≤_, _<_}
 use lib.ListN.{length, getD}
 use Rattle.model.specs.Limits.{when, firstOf, bad-numbering, state-limit, work-bytes}
-use Rattle.model.specs.Fields.{table, readFields}
+use Rattle.model.specs.Fields.{readTable}
 use Rattle.model.specs.Tables.{stateIn, isFirstMet, no-state}
 use Rattle.model.specs.Calls.{tableOf, tableStates, tableFault}
 use Rattle.fields.specs.Offsets.{bodyAt, nextAt, offsetAt}
@@ -19,11 +19,11 @@ use Rattle.tables.specs.declared.Accepted.the-variants as answer
 
 -- the fields' refusals, then 12; 0 for none
 unfoldable pub readFault : List ℕ → ℕ
-readFault s = firstOf (readFields table s .number) (when (not (isFirstMet (tableStates s))) bad-numbering)
+readFault s = firstOf (readTable s .number) (when (not (isFirstMet (tableStates s))) bad-numbering)
 
 -- a table whose fields are read: the place stands for it
 pub record TableRead (s : List ℕ) (p : Place) : Type 0 where
-  pub no-refusal : readFields table s .number ≡ 0
+  pub no-refusal : readTable s .number ≡ 0
   pub sound : Sound s p
   pub file-is : fileOf s p ≡ tableOf s
 

@@ -75,7 +75,7 @@ fn accept_table(s: &[u8], work: &mut [u8]) -> Accepted
     requires { ⌜ work-bytes ≤ length (now work) ⌝ }
     ensures { λ r. ⌜ AcceptedAs (now (s .entry)) (now (work .entry)) (now (work .exit)) r ⌝ }
 {
-    let read = fields::read_fields(s, true);
+    let read = fields::read_table(s);
     match read {
         Fields::Accepted(p) => number_states(s, p, work),
         Fields::Refused(k) => Accepted::Refused(k),

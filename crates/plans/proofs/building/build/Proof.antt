@@ -1,14 +1,14 @@
 -- `build` meets its contract: one law of BuildLaws for each answer. Assumes nothing.
-use mathlib.Core.Path.{_≡_, refl, sym, _∙_, subst}
+use mathlib.Core.Path.{_≡_, sym, _∙_, subst}
 use mathlib.Core.Bool.{false}
 use mathlib.Core.List.{List, [], _∷_}
 use Prim.Native.Nat.{ℕ}
 use native.Mathlib.Omega.{arith}
-use Rattle.model.specs.Fields.{File, default-class}
+use Rattle.model.specs.Fields.{Settings, File}
 use Rattle.model.specs.Fields as model
 use Rattle.model.specs.Calls.{Gives, bookOf}
 use Rattle.model.proofs.CallLaws.{SizesBad, SizesFit, sizes-pass, sizes-fit}
-use Rattle.fields.specs.Places.{ReadAs}
+use Rattle.fields.specs.Places.{settingsOf, ReadAs}
 use Rattle.fields.specs.declared.Fields.{Fields}
 use Rattle.fields.specs.declared.Fields.the-variants as answer
 use Rattle.fields.proofs.Parts.{refused-number}
@@ -22,14 +22,17 @@ use Rattle.plans.proofs.building.build.Statement.{statement}
 use Rattle.plans.proofs.building.build.Tie as tie
 
 -- from each place an earlier one: the book read, its sizes passed, and the start
-abbrev called : tie.After-read → tie.After-read-fields
+abbrev called : tie.After-read → tie.After-read-with
 called c = c .before .before
 
-abbrev passed : tie.After-read-fields → tie.Else1
+abbrev passed : tie.After-read-with → tie.Else1
 passed c = c .before
 
 abbrev start : tie.Else1 → tie.Start
 start c = c .before .before .before .before .before
+
+abbrev settings : tie.Else1 → Settings
+settings c = settingsOf (start c .args .settings)
 
 abbrev book : tie.Else1 → List ℕ
 book c = start c .args .book .now
@@ -47,13 +50,14 @@ sizes : (c : tie.Else1) → SizesFit (book c) (work c)
 sizes c = sizes-fit (book c) (work c) (sizes-pass (book c) (work c) (fit c))
 
 -- the book as read, and what inference gives for it
-read-as : (c : tie.After-read) → ReadAs default-class model.book (book (passed (called c))) (answer.Accepted (c .read .given .0 .0))
+read-as : (c : tie.After-read)
+    → ReadAs (settings (passed (called c))) model.book (book (passed (called c))) (answer.Accepted (c .read .given .0 .0))
 read-as c =
-    subst (λ (r : Fields). ReadAs default-class model.book (book (passed (called c))) r) (c .read .given .1)
-    (called c .read-fields .ensures)
+    let at = passed (called c) in
+    subst (λ (r : Fields). ReadAs (settings at) model.book (book at) r) (c .read .given .1) (called c .read-with .ensures)
 
-read : (c : tie.After-read) → BookRead (book (passed (called c))) (c .read .given .0 .0)
-read c = book-read-as (book (passed (called c))) (c .read .given .0 .0) (read-as c)
+read : (c : tie.After-read) → BookRead (settings (passed (called c))) (book (passed (called c))) (c .read .given .0 .0)
+read c = book-read-as (settings (passed (called c))) (book (passed (called c))) (c .read .given .0 .0) (read-as c)
 
 abbrev answered : tie.After-infer → tie.After-read
 answered c = c .before .before .before .before
@@ -61,15 +65,16 @@ answered c = c .before .before .before .before
 abbrev at : tie.After-infer → tie.Else1
 at c = passed (called (answered c))
 
-inferred : (c : tie.After-infer) → Infers (bookOf (book (at c))) (out (at c)) (c .infer .last .1 .1 .1 .0) (c .infer .result)
+inferred : (c : tie.After-infer)
+    → Infers (bookOf (settings (at c)) (book (at c))) (out (at c)) (c .infer .last .1 .1 .1 .0) (c .infer .result)
 inferred c =
     subst (λ (f : File). Infers f (out (at c)) (c .infer .last .1 .1 .1 .0) (c .infer .result)) (read (answered c) .file-is)
     (c .infer .ensures)
 
-small : (c : tie.After-infer) → Small (book (at c)) (work (at c)) (out (at c)) (c .infer .result)
+small : (c : tie.After-infer) → Small (c .infer .result)
 small c =
-    inferred-small (book (at c)) (work (at c)) (out (at c)) (c .infer .last .1 .1 .1 .0) (c .infer .result) (sizes (at c) .work-fits)
-    (read (answered c) .no-refusal) (inferred c)
+    inferred-small (settings (at c)) (book (at c)) (work (at c)) (out (at c)) (c .infer .last .1 .1 .1 .0) (c .infer .result)
+    (start (at c) .pre) (read (answered c) .no-refusal) (inferred c)
 
 sizes-bad-requires : tie.Need-sizes-bad-requires
 sizes-bad-requires c κs = search needs
@@ -80,34 +85,38 @@ refused-requires c κs = search needs
 returns : tie.Need-returns
 returns c =
     let args = c .before .before .before .before .before .before .args in
-    subst (λ (r : Built). Gives (building (args .book .now) (args .work .now)) (args .out .now ∷ []) (args .out .now ∷ []) r)
+    let settings = settingsOf (args .settings) in
+    subst (λ (r : Built). Gives (building settings (args .book .now) (args .work .now)) (args .out .now ∷ []) (args .out .now ∷ []) r)
     (sym (c .refused .ensures))
-    (build-sizes-refused (args .book .now) (args .work .now) (args .out .now)
+    (build-sizes-refused settings (args .book .now) (args .work .now) (args .out .now)
     (sym (c .before .before .sizes-bad .ensures) ∙ c .before .if1 .taken))
 
-read-fields-requires : tie.Need-read-fields-requires
-read-fields-requires c κs = search needs
+read-with-requires : tie.Need-read-with-requires
+read-with-requires c κs = search needs
 
 enum-known-read : tie.Need-enum-known-read
 enum-known-read c = search needs
 
 infer-requires : tie.Need-infer-requires
 infer-requires c κs =
-    let fits = sizes (passed (called (c .before .before .before))) in
-    (record { default = default-class; allowed = refl; read = read-as (c .before .before .before) }, fits .input-fits, fits .work-fits)
-
-cast-t16 : tie.Need-cast-t16
-cast-t16 c =
-    let s = small (c .before .before .before .before .before) in
-    omega (arith, s .length-small, s .states-small, s .joins-small)
+    let at = passed (called (c .before .before .before)) in (
+      record { settings = settings at; allowed = start at .pre; read = read-as (c .before .before .before) },
+      sizes at .input-fits,
+      sizes at .work-fits,
+    )
 
 cast-t17 : tie.Need-cast-t17
 cast-t17 c =
-    let s = small (c .before .before .before .before .before .before) in
+    let s = small (c .before .before .before .before .before) in
     omega (arith, s .length-small, s .states-small, s .joins-small)
 
 cast-t18 : tie.Need-cast-t18
 cast-t18 c =
+    let s = small (c .before .before .before .before .before .before) in
+    omega (arith, s .length-small, s .states-small, s .joins-small)
+
+cast-t19 : tie.Need-cast-t19
+cast-t19 c =
     let s = small (c .before .before .before .before .before .before .before) in
     omega (arith, s .length-small, s .states-small, s .joins-small)
 
@@ -126,8 +135,9 @@ same-length-2 c = search needs
 returns-2 : tie.Need-returns-2
 returns-2 c =
     let inferring = c .before .before .before .before .before .before .before in
-    build-inferred (book (at inferring)) (work (at inferring)) (out (at inferring)) (inferring .infer .last .1 .1 .1 .0)
-    (inferring .infer .result) (fit (at inferring)) (read (answered inferring) .no-refusal) (inferred inferring)
+    build-inferred (settings (at inferring)) (book (at inferring)) (work (at inferring)) (out (at inferring))
+    (inferring .infer .last .1 .1 .1 .0) (inferring .infer .result) (fit (at inferring))
+    (read (answered inferring) .no-refusal) (inferred inferring)
 
 returns-3 : tie.Need-returns-3
 returns-3 c =
@@ -135,12 +145,12 @@ returns-3 c =
     let before = passed (refusing .before .before) in
     let k = refusing .read2 .given .0 .0 in
     let refused =
-    subst (λ (r : Fields). ReadAs default-class model.book (book before) r) (refusing .read2 .given .1)
-    (refusing .before .before .read-fields .ensures) in
-    subst (λ (r : Built). Gives (building (book before) (work before)) (out before ∷ []) (out before ∷ []) r)
+    subst (λ (r : Fields). ReadAs (settings before) model.book (book before) r) (refusing .read2 .given .1)
+    (refusing .before .before .read-with .ensures) in
+    subst (λ (r : Built). Gives (building (settings before) (book before) (work before)) (out before ∷ []) (out before ∷ []) r)
     (sym (c .refused2 .ensures))
-    (build-fields-refused (book before) (work before) (out before) k (fit before)
-    (refused-number default-class model.book (book before) k refused) (refused .kept))
+    (build-fields-refused (settings before) (book before) (work before) (out before) k (fit before)
+    (refused-number (settings before) model.book (book before) k refused) (refused .kept))
 
 pub build-spec : {M : Type 1} → statement M
 build-spec =
@@ -149,12 +159,12 @@ build-spec =
     sizes-bad-requires
     refused-requires
     returns
-    read-fields-requires
+    read-with-requires
     enum-known-read
     infer-requires
-    cast-t16
     cast-t17
     cast-t18
+    cast-t19
     enum-known-read-2
     refused-requires-2
     same-length

@@ -5,11 +5,13 @@ use Prim.Native.Nat.{ℕ, _≤_}
 use native.Mathlib.Omega.{arith}
 use lib.ListN.{length, take, replicate, length-replicate}
 use lib.Seq.{length-take-le}
+use Rattle.model.specs.Fields.{Settings}
 use Rattle.model.specs.Quotients.{bookTable}
 use Rattle.model.specs.Calls.{Gives, bookOf}
 use Rattle.model.specs.Listing.{bookListing}
 use Rattle.model.proofs.WrittenLengths.{table-bytes}
 use Rattle.model.proofs.CallLaws.{FrontOf}
+use Rattle.fields.specs.Places.{settingsOf}
 use Rattle.plans.specs.declared.Written.{Written}
 use Rattle.plans.specs.Says.{listingBook}
 use Rattle.plans.proofs.BuildLaws.{built-front}
@@ -21,6 +23,16 @@ use Rattle.plans.proofs.listing.list.Tie as tie
 -- from each place an earlier one: the start, the build, the test of its refusal
 abbrev start : tie.After-build → tie.Start
 start c = c .before .before .before .before .before .before
+
+-- the settings, the book and the working area that are given
+abbrev settings : tie.After-build → Settings
+settings c = settingsOf (start c .args .settings)
+
+abbrev book : tie.After-build → List ℕ
+book c = start c .args .book .now
+
+abbrev work : tie.After-build → List ℕ
+work c = start c .args .work .now
 
 abbrev built : tie.Else1 → tie.After-build
 built c = c .before .before .before .before .before
@@ -36,23 +48,22 @@ long : table-bytes ≤ length zeros
 long = omega (arith, length-replicate {A = ℕ} table-bytes 0)
 
 abbrev output : tie.After-build → List ℕ
-output c = c .build .last .1 .1 .0
+output c = c .build .last .1 .1 .1 .0
 
 abbrev table : tie.After-build → List ℕ
 table c = take (c .build .result .length) (output c)
 
 front : (c : tie.Else1)
-    → FrontOf (bookTable (bookOf (start (built c) .args .book .now))) (output (built c)) (built c .build .result .length)
+    → FrontOf (bookTable (bookOf (settings (built c)) (book (built c)))) (output (built c)) (built c .build .result .length)
 front c =
-    let at = start (built c) .args in
-    built-front (at .book .now) (at .work .now) zeros (output (built c)) (built c .build .result) (built c .build .ensures)
-    (c .if1 .left) .at-front
+    let at = built c in
+    built-front (settings at) (book at) (work at) zeros (output at) (at .build .result) (at .build .ensures) (c .if1 .left) .at-front
 
 listed-by : (c : tie.Else1)
-    → ListedBy (start (built c) .args .book .now) (start (built c) .args .work .now) (table (built c)) (built c .build .result .joins)
+    → ListedBy (settings (built c)) (book (built c)) (work (built c)) (table (built c)) (built c .build .result .joins)
 listed-by c =
-    let at = start (built c) .args in
-    built-listed (at .book .now) (at .work .now) zeros (output (built c)) (built c .build .result) (built c .build .ensures)
+    let at = built c in
+    built-listed (settings at) (start at .pre) (book at) (work at) zeros (output at) (at .build .result) (at .build .ensures)
     (c .if1 .left)
 
 -- the working area after the listing, which stands at its front
@@ -60,16 +71,15 @@ abbrev area : tie.After-list-accepted → List ℕ
 area c = c .list-accepted .last .1 .1 .0
 
 listed : (c : tie.After-list-accepted)
-    → FrontOf (bookListing (bookOf (start (built (tested c)) .args .book .now))) (area c) (c .list-accepted .result)
+    → FrontOf (bookListing (bookOf (settings (built (tested c))) (book (built (tested c))))) (area c) (c .list-accepted .result)
 listed c =
-    puts-front (start (built (tested c)) .args .book .now) _ (area c) _ (c .list-accepted .result) (listed-by (tested c) .is)
-    (c .list-accepted .ensures)
+    puts-front _ _ (area c) _ (c .list-accepted .result) (listed-by (tested c) .is) (c .list-accepted .ensures)
 
 slice-aggregate-build : tie.Need-slice-aggregate-build
 slice-aggregate-build c = search needs
 
 build-requires : tie.Need-build-requires
-build-requires c κs = search needs
+build-requires c κs = c .before .before .before .before .before .pre
 
 refused-requires : tie.Need-refused-requires
 refused-requires c κs = search needs
@@ -80,11 +90,11 @@ same-length c = search needs
 returns : tie.Need-returns
 returns c =
     let after = c .before .before .before .before .before .before in
-    let at = start after .args in
-    subst (λ (r : Written). Gives (listingBook (at .book .now) (at .work .now)) (at .text .now ∷ []) (at .text .now ∷ []) r)
+    let text = start after .args .text .now in
+    subst (λ (r : Written). Gives (listingBook (settings after) (book after) (work after)) (text ∷ []) (text ∷ []) r)
     (sym (c .refused .ensures))
-    (listing-refused (at .book .now) (at .work .now) zeros (output after) (after .build .result) (after .build .ensures) (at .text .now)
-    long (omega (arith, c .before .if1 .taken)))
+    (listing-refused (settings after) (start after .pre) (book after) (work after) zeros (output after) (after .build .result)
+    (after .build .ensures) text long (omega (arith, c .before .if1 .taken)))
 
 cast-end : tie.Need-cast-end
 cast-end c = search needs
@@ -128,8 +138,8 @@ returns-2 : tie.Need-returns-2
 returns-2 c =
     let copied = c .before .before .copy-out in
     let after = c .before .before .before .before .before .before .before in
-    let at = start (built (tested after)) .args in
-    listing-copied (at .book .now) (at .work .now) (at .text .now) (copied .last .1 .0)
+    let at = built (tested after) in
+    listing-copied (settings at) (book at) (work at) (start at .args .text .now) (copied .last .1 .0)
     (take (after .list-accepted .result) (area after)) (copied .result) (listed-by (tested after) .no-fault)
     (listed after .bytes-are) (copied .ensures)
 
