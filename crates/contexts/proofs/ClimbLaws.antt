@@ -7,7 +7,7 @@ use mathlib.Core.List.{List}
 use Prim.Native.Nat.{ℕ, zero, suc, _+_, _<_, _≤_}
 use native.Mathlib.Omega.{arith}
 use lib.ListN.{getD}
-use Rattle.model.proofs.Tests.{eq-dec}
+use Rattle.base.proofs.Tests.{eq-dec}
 use Rattle.indexed.specs.Trees.{Arrays, SameSuffix, up}
 use Rattle.indexed.specs.Partitions.{Refines, Labelled, ForkClosed, ContextClosed}
 use Rattle.indexed.specs.Passes.{BySuffix, ContextJoined}

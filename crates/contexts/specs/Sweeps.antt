@@ -5,9 +5,9 @@ use mathlib.Core.Path.{_≡_}
 use mathlib.Core.List.{List}
 use Prim.Native.Nat.{ℕ, zero, suc, _+_, _<_, _≤_}
 use lib.ListN.{length, getD, set}
-use Rattle.model.specs.Limits.{state-limit}
+use Rattle.base.specs.Limits.{state-limit}
 use Rattle.indexed.specs.Chains.{Chained}
-use Rattle.indexed.proofs.Bits.{bit}
+use Rattle.base.specs.Bits.{bit}
 use Rattle.contexts.specs.Distances.{distanceOf}
 
 -- no arc before v has its name and leaves its group

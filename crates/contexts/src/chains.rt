@@ -5,16 +5,17 @@
 // Most pairs are left out: an arc is near where fewer than m - 1 arcs lead on from where it leads to a group that has grown since
 // the last sweep, else far, and what leads on from two far arcs was compared by the last sweep. So the chain of a class has its
 // near arcs alone; each of them is compared with those before it, and each far arc with all of them.
+use base::limits::STATE_LIMIT;
 use crate::STATE_LIMIT;
-use cells::numbers::narrow16;
-use cells::numbers::wide8;
-use cells::numbers::wide16;
+use base::numbers::narrow16;
+use base::numbers::wide8;
+use base::numbers::wide16;
 ghost use mathlib.Core.Path.{_≡_};
 ghost use Prim.Native.Nat.{ℕ, _+_, _<_, _≤_};
 ghost use lib.ListN.{length, getD};
 ghost use Rattle.indexed.specs.Trees.{Arrays};
 ghost use Rattle.indexed.specs.Partitions.{Labelled};
-ghost use Rattle.model.specs.Limits.{state-limit};
+ghost use Rattle.base.specs.Limits.{state-limit};
 ghost use Rattle.contexts.specs.Sweeps.{Sizes, Placed, ArcsLinked, waiting, Settled, FarLinked};
 
 // The class of a state with too few names.

@@ -4,8 +4,8 @@ use mathlib.Core.Path.{_≡_}
 use mathlib.Core.List.{List, []}
 use Prim.Native.Nat.{ℕ, suc, _+_, _≤_, _<_}
 use lib.ListN.{length, getD, take, drop}
-use Rattle.model.specs.Lists.{lastOr}
-use Rattle.model.specs.Limits.{name-limit, state-limit}
+use Rattle.base.specs.Lists.{lastOr}
+use Rattle.base.specs.Limits.{name-limit, state-limit}
 use Rattle.model.specs.Fields.{Class, class-of, File, file, FileKind, Read, refused, accepted-file, readFrom, readWith, nameFault}
 use Rattle.model.specs.Fields.{classFault, rowFault, stateFault, fieldFault, withField}
 use Rattle.fields.specs.Offsets.{bodyAt, nextAt, offsetAt, fieldsAt}

@@ -1,11 +1,11 @@
 // Keys of arcs for passes against them: names by whether the seen set grows.
-use cells::numbers;
+use base::numbers;
 ghost use mathlib.Core.Path.{_≡_};
 ghost use mathlib.Core.Bool.{true, false};
 ghost use Prim.Native.Nat.{_^_, _<_};
 ghost use lib.Bits.{bitOr};
 ghost use lib.ListN.{length};
-ghost use Rattle.model.specs.Limits.{name-limit};
+ghost use Rattle.base.specs.Limits.{name-limit};
 ghost use Rattle.indexed.specs.Trees.{Arrays};
 ghost use Rattle.indexed.specs.Passes.{SeenSets, KeysWhere};
 ghost use Rattle.functions.specs.Parts.{keyWhere, KeyAt};

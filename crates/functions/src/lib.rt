@@ -4,16 +4,16 @@ pub mod keys;
 pub mod rounds;
 pub mod seen;
 
+use base::limits::STATE_LIMIT;
 ghost use mathlib.Core.Path.{_≡_};
 ghost use Prim.Native.Nat.{ℕ, _<_, _≤_};
 ghost use lib.ListN.{length, getD};
-ghost use Rattle.model.specs.Limits.{name-limit, setting-limit};
+ghost use Rattle.base.specs.Limits.{name-limit, setting-limit};
 ghost use Rattle.indexed.specs.Trees.{Arrays};
 ghost use Rattle.functions.specs.Parts.{ValuesAndKeys};
 ghost use Rattle.functions.specs.Results.{JoinReady, JoinedByF};
 
 // No partition has more states.
-const STATE_LIMIT: usize = 512;
 
 // The values of f and the keys against the arcs: sets of names seen, or codes of the last j names, which have one set of keys.
 fn prepare(

@@ -1,10 +1,10 @@
 // The set of names seen on the way to each state, as 64 bits.
-use cells::numbers;
+use base::numbers;
 ghost use mathlib.Core.Path.{_≡_};
 ghost use Prim.Native.Nat.{_^_, _<_};
 ghost use lib.Bits.{bitOr};
 ghost use lib.ListN.{length};
-ghost use Rattle.model.specs.Limits.{name-limit};
+ghost use Rattle.base.specs.Limits.{name-limit};
 ghost use Rattle.indexed.specs.Trees.{Arrays};
 ghost use Rattle.indexed.specs.Passes.{SeenSets};
 ghost use Rattle.functions.specs.Parts.{SeenAt};

@@ -8,7 +8,7 @@ use native.Mathlib.Nat.{not-suc-le-zero}
 use native.Mathlib.Omega.{arith}
 use lib.Dec.{eqb, ltb}
 use lib.ListN.{getD}
-use Rattle.model.proofs.Tests.{Tells, tells-and, tells-by, tells-eqb, tells-ltb}
+use Rattle.base.proofs.Tests.{Tells, tells-and, tells-by, tells-eqb, tells-ltb}
 use Rattle.indexed.specs.Trees.{Arrays, SameSuffix, up}
 use Rattle.indexed.specs.Partitions.{ForkClosed, Share, ContextClosed}
 

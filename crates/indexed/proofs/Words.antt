@@ -9,11 +9,11 @@ use Prim.Native.Nat.{ℕ, zero, suc, _+_, _-_, _<_, _≤_}
 use native.Mathlib.Omega.{arith}
 use lib.ListN.{length, getD, length-append}
 use lib.Seq.{drop-length, drop-append-le}
-use Rattle.model.specs.Limits.{state-limit}
-use Rattle.model.specs.Lists.{hasRow}
+use Rattle.base.specs.Limits.{state-limit}
+use Rattle.base.specs.Lists.{hasRow}
 use Rattle.model.specs.Classes.{Word, lastNames}
 use Rattle.model.specs.Joinings.{beginnings, withStates, withRows, treeOf, groupAt}
-use Rattle.model.proofs.Lists.{Distinct}
+use Rattle.base.proofs.Lists.{Distinct}
 use Rattle.model.proofs.Notions.{Fits, Inside, Ker, _▸_}
 use Rattle.model.proofs.GroupCases.{groupAt-first, groupAt-later, no-groups, fits-rest}
 use Rattle.model.proofs.Trees.{treeOf-tree}

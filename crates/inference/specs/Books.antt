@@ -5,7 +5,7 @@ use mathlib.Core.Bool.{true}
 use mathlib.Core.List.{List, _++_}
 use Prim.Native.Nat.{ℕ, _+_, _≤_}
 use lib.ListN.{length}
-use Rattle.model.specs.Limits.{state-limit}
+use Rattle.base.specs.Limits.{state-limit}
 use Rattle.model.specs.Fields.{Class, class-of, File, settingsOk, book}
 use Rattle.model.specs.Classes.{Word}
 use Rattle.model.specs.Tables.{nameFields, classField}

@@ -1,5 +1,5 @@
 // The joining of a book's prefix tree by the rule of its class.
-use cells::numbers::wide8;
+use base::numbers::wide8;
 use contexts::join_by_context;
 use functions::join_by_function;
 ghost use mathlib.Core.Path.{_≡_};

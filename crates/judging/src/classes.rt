@@ -1,6 +1,6 @@
 // Class fields and their refusal, 8.
-use crate::limits::BAD_CLASS;
-use crate::limits::SETTING_LIMIT;
+use base::limits::BAD_CLASS;
+use base::limits::SETTING_LIMIT;
 ghost use mathlib.Core.Path.{_≡_};
 ghost use Rattle.model.specs.Fields.{settingsOk, classFault};
 

@@ -8,8 +8,8 @@ use native.Mathlib.Omega.{arith}
 use lib.Dec.{leb}
 use lib.ListN.{length, getD, length-append}
 use borrow.Author.Tests.{leb-true}
-use Rattle.model.specs.Lists.{all}
-use Rattle.model.specs.Limits.{name-bytes}
+use Rattle.base.specs.Lists.{all}
+use Rattle.base.specs.Limits.{name-bytes}
 use Rattle.model.specs.Fields.{nameOk, startsName, continuesName}
 use Rattle.model.specs.Tables.{Arc, State}
 use Rattle.model.specs.Listing.{decimal, arcText, stateLine, stateLines, listing, refusalText}

@@ -4,7 +4,7 @@
 mod arcs;
 mod words;
 
-use cells::numbers::wide8;
+use base::numbers::wide8;
 use fields::Place;
 use fields::offsets::next_field;
 use tables::accepts;

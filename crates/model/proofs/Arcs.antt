@@ -10,9 +10,8 @@ use native.Mathlib.Omega.{arith}
 use lib.Dec.{eqb, ltb}
 use borrow.Author.Tests.{eqb-true, eqb-false, eq-eqb, ltb-true, ltb-false}
 use Rattle.model.specs.Tables.{Arc, arc}
-use Rattle.model.specs.Joinings.{Transition, transition}
+use Rattle.model.specs.Joinings.{Transition, transition, Deterministic}
 use Rattle.model.specs.Quotients.{putArc, arcsOutOf}
-use Rattle.model.proofs.Notions.{Deterministic}
 
 -- names ascend strictly, from `next` on
 abbrev pub Ascending : ℕ → List Arc → Type 0

@@ -10,12 +10,12 @@ use Prim.Native.Nat.{ℕ, suc, _≤_, _<_}
 use native.Mathlib.Omega.{arith}
 use lib.Dec.{ltb, leb}
 use lib.ListN.{length, length-append}
-use Rattle.model.specs.Limits.{row-limit, state-limit, when, tree-too-large}
+use Rattle.base.specs.Limits.{row-limit, state-limit, when, tree-too-large}
 use Rattle.model.specs.Fields.{File, unread, default-class, book, readFields, readWith, withField, classOk, allBelow}
 use Rattle.model.specs.Joinings.{treeOf}
 use Rattle.model.specs.Calls.{bookOf, bookFault}
 use Rattle.model.specs.Claims.{Accepted}
-use Rattle.model.proofs.Tests.{Tells, tells-by, tells-and, tells-ltb}
+use Rattle.base.proofs.Tests.{Tells, tells-by, tells-and, tells-ltb}
 use Rattle.model.proofs.FieldLaws.{NameFits, RowFits, Fitting, a-name, a-class, a-row, a-state, fitting, first-of}
 use Rattle.model.proofs.FieldLaws.{ClassOk, class-parts}
 use Rattle.model.proofs.Turns.{read-keeps}

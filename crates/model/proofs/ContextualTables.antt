@@ -11,14 +11,14 @@ use lib.ListN.{length, getD, take, drop, take-append-drop, length-drop}
 use lib.Seq.{length-take-le}
 use borrow.Author.Tests.{eq-eqb}
 use Rattle.model.specs.Fields.{Class, File}
-use Rattle.model.specs.Lists.{indexIn}
+use Rattle.base.specs.Lists.{indexIn}
 use Rattle.model.specs.Classes.{Word, Contextual}
 use Rattle.model.specs.Tables.{State, Walk, walkFrom}
 use Rattle.model.specs.Joinings.{Transition, transitionsOf, treeOf, joinedGroups}
 use Rattle.model.specs.Quotients.{metGroups, statesOf, bookStates}
 use Rattle.model.specs.Sources.{AdmittedBy, Reaches, AdmittedFrom, ContextualStates, ContextualTails}
 use Rattle.model.specs.Sources.{AllReached, Canonical}
-use Rattle.model.proofs.Places.{nth-in, index-of-nth}
+use Rattle.base.proofs.Places.{nth-in, index-of-nth}
 use Rattle.model.proofs.Notions.{Walks}
 use Rattle.model.proofs.Transitions.{walks-split, walks-unique}
 use Rattle.model.proofs.Rules.{Ruled, full-equal}

@@ -10,7 +10,7 @@ use lib.ListN.{length}
 use Rattle.model.specs.Fields.{Class}
 use Rattle.model.specs.Classes.{Word, fOf}
 use Rattle.model.specs.Joinings.{Transition, transition, groupAt}
-use Rattle.model.proofs.Lists.{Distinct}
+use Rattle.base.proofs.Lists.{Distinct}
 
 -- a word with one name more
 abbrev pub _▸_ : Word → ℕ → Word

@@ -8,10 +8,9 @@ use native.Mathlib.Omega.{arith}
 use lib.Dec.{eqb, ltb, leb}
 use lib.ListN.{length}
 use borrow.Author.Tests.{lt-ltb, le-leb, leb-true}
-use Rattle.model.specs.Limits.{when}
+use Rattle.base.specs.Limits.{when}
 use Rattle.model.specs.Fields.{arcsOk, stateOk}
-use Rattle.model.specs.Tables.{Arc, arc, State, state, arcBytes, stateBody, arcsIn, stateIn, statesIn}
-use Rattle.model.proofs.Arcs.{Ascending}
+use Rattle.model.specs.Tables.{Arc, arc, State, state, arcBytes, stateBody, arcsIn, stateIn, statesIn, Ascending}
 
 -- a number is its high byte and its low byte
 pub two-bytes : (n : ℕ) → 256 * (n / 256) + n % 256 ≡ n

@@ -5,9 +5,9 @@ use mathlib.Core.List.{List, [], _∷_, _++_}
 use Prim.Native.Nat.{ℕ, zero, suc, _+_, _*_}
 use lib.Dec.{eqb, ltb, leb}
 use lib.ListN.{length, getD, take, drop}
-use Rattle.model.specs.Lists.{all, before, lastOr}
-use Rattle.model.specs.Limits.{name-limit, name-bytes, book-rows, row-limit, state-limit, setting-limit, when, firstOf}
-use Rattle.model.specs.Limits.{cut-off, misplaced, unfinished, bad-name, name-order, too-many, bad-class, bad-row, bad-state}
+use Rattle.base.specs.Lists.{all, before, lastOr}
+use Rattle.base.specs.Limits.{name-limit, name-bytes, book-rows, row-limit, state-limit, setting-limit, when, firstOf}
+use Rattle.base.specs.Limits.{cut-off, misplaced, unfinished, bad-name, name-order, too-many, bad-class, bad-row, bad-state}
 
 -- a class: kind 0 context, with k and h; 1 seen set; 2 last names, with j
 pub record Class : Type 0 where

@@ -6,7 +6,7 @@ use mathlib.Core.List.{List, [], _∷_, _++_, map, flatMap, dropLast}
 use Prim.Native.Nat.{ℕ, zero, suc, _-_}
 use lib.Dec.{eqb, ltb}
 use lib.ListN.{length, getD}
-use Rattle.model.specs.Lists.{any, anyTwo, filterBy, numbersFrom, isIn, same, hasRow, lastOr}
+use Rattle.base.specs.Lists.{any, anyTwo, filterBy, numbersFrom, isIn, same, hasRow, lastOr}
 use Rattle.model.specs.Fields.{Class}
 use Rattle.model.specs.Classes.{Word, fOf}
 

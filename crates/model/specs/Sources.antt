@@ -7,7 +7,7 @@ use mathlib.Core.Bool.{Bool, true, false}
 use mathlib.Core.List.{List, [], _∷_, _++_, map}
 use Prim.Native.Nat.{ℕ, suc, _-_, _≤_, _<_}
 use lib.ListN.{length, getD, take, drop}
-use Rattle.model.specs.Lists.{all, hasRow}
+use Rattle.base.specs.Lists.{all, hasRow}
 use Rattle.model.specs.Fields.{Class, class-of, allBelow, File}
 use Rattle.model.specs.Tables.{State, state, arc, no-state, walk-at, walkFrom, admits}
 use Rattle.model.specs.Classes.{Word, fOf, TailsEqual, Contextual, Distinguishable}

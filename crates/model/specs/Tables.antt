@@ -5,7 +5,7 @@ use mathlib.Core.List.{List, [], _∷_, _++_, map, flatMap}
 use Prim.Native.Nat.{ℕ, zero, suc, _+_, _-_, _*_, _/_, _%_, _^_}
 use lib.Dec.{eqb, ltb}
 use lib.ListN.{length, getD, take, drop}
-use Rattle.model.specs.Limits.{when}
+use Rattle.base.specs.Limits.{when}
 use Rattle.model.specs.Fields.{Class}
 
 -- an arc out of a state: a name's number and the number of the target state

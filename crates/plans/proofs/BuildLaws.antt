@@ -8,7 +8,7 @@ use native.Mathlib.Omega.{arith}
 use borrow.Author.Tests.{ltb-false}
 use lib.Dec.{ltb}
 use lib.ListN.{length}
-use Rattle.model.specs.Limits.{when, firstOf, input-limit, work-bytes, state-limit, bad-sizes, tree-too-large}
+use Rattle.base.specs.Limits.{when, firstOf, input-limit, work-bytes, state-limit, bad-sizes, tree-too-large}
 use Rattle.model.specs.Fields.{File, default-class, readFields}
 use Rattle.model.specs.Fields as fields
 use Rattle.model.specs.Joinings.{treeOf, joinedGroups}

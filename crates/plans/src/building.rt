@@ -4,7 +4,7 @@ use crate::rewriting::refused;
 use fields::Fields;
 use fields::read_fields;
 use inference::infer;
-use judging::limits::BAD_SIZES;
+use base::limits::BAD_SIZES;
 use judging::sizes::sizes_bad;
 ghost use mathlib.Core.List.{[], _∷_};
 ghost use Rattle.model.specs.Calls.{Gives};

@@ -8,7 +8,7 @@ pub mod printing;
 mod rewriting;
 mod walking;
 
-use cells::clear;
+use base::cells::clear;
 ghost use Rattle.plans.specs.Says.{BuildSays, RewriteSays, WalkSays, WalkedSays, ListSays};
 
 // What a call that writes a table gives back: its refusal or 0, then the table's length in bytes, its states, and the joins: tree

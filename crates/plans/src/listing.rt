@@ -2,7 +2,7 @@
 // which holds nothing more by then and takes every listing; from there it is copied to the text, where it fits.
 use crate::Written;
 use crate::building;
-use crate::limits::OUTPUT_TOO_SHORT;
+use base::limits::OUTPUT_TOO_SHORT;
 use crate::limits::TABLE_BYTES;
 use fields::Fields;
 use fields::read_fields;
@@ -12,7 +12,7 @@ ghost use mathlib.Core.Path.{_≡_};
 ghost use mathlib.Core.List.{[], _∷_};
 ghost use Prim.Native.Nat.{_≤_, _<_};
 ghost use lib.ListN.{length};
-ghost use Rattle.model.specs.Limits.{work-bytes};
+ghost use Rattle.base.specs.Limits.{work-bytes};
 ghost use Rattle.model.specs.Fields as model;
 ghost use Rattle.model.specs.Listing.{listing};
 ghost use Rattle.model.specs.Calls.{Gives, tableOf, tableStates};

@@ -1,6 +1,6 @@
 // The text that the listing program prints for a book: its listing, or `refused` and the refusal's number.
 use crate::limits::LISTING_BYTES;
-use crate::limits::WORK_BYTES;
+use base::limits::WORK_BYTES;
 use crate::list_book;
 use listings::refusal_text;
 ghost use Rattle.plans.specs.Says.{PrintSays};

@@ -1,8 +1,8 @@
 // A row walked over a table: the table is judged wholly, then the row.
 use crate::Walked;
-use cells::cell;
-use cells::clear;
-use judging::limits::BAD_ROW;
+use base::cells::cell;
+use base::cells::clear;
+use base::limits::BAD_ROW;
 use judging::rows::row_ok;
 use tables::Accepted;
 use tables::accepts;
@@ -14,7 +14,7 @@ ghost use mathlib.Core.Bool.{cond};
 ghost use mathlib.Core.List.{[]};
 ghost use Prim.Native.Nat.{_≤_};
 ghost use lib.ListN.{length};
-ghost use Rattle.model.specs.Limits.{row-limit};
+ghost use Rattle.base.specs.Limits.{row-limit};
 ghost use Rattle.model.specs.Calls.{Gives, tableStates};
 ghost use Rattle.tables.specs.Accepting.{Ready};
 ghost use Rattle.plans.specs.Says.{walked-as, walked-over, walking, WalkedSays};

@@ -8,16 +8,17 @@ use native.Mathlib.Omega.{arith}
 use lib.Bits.{bitOr}
 use lib.ListN.{length, getD, set, replicate, length-set, length-replicate, getD-replicate}
 use lib.Seq.{getD-set-same, getD-set-other}
-use Rattle.model.specs.Limits.{name-limit, state-limit, work-bytes}
+use Rattle.base.specs.Limits.{name-limit, state-limit, work-bytes}
 use Rattle.model.specs.Classes.{Word}
 use Rattle.model.specs.Tables.{Arc, arc, nameSet}
 use Rattle.model.specs.Joinings.{treeOf, transition, transitionsOf}
 use Rattle.model.specs.Quotients.{arcsOutOf}
 use Rattle.model.proofs.Arcs.{arcsOutOf-ascending, arcsOutOf-in, in-arcsOutOf}
-use Rattle.model.proofs.Tests.{eq-dec}
-use Rattle.indexed.proofs.Bits.{bit, bit-zero, bit-of-set, bits-told}
-use Rattle.cells.specs.Cells.{cellAt, withCell}
-use Rattle.cells.proofs.CellLaws.{length-withCell, cell-same, cell-other}
+use Rattle.base.proofs.Tests.{eq-dec}
+use Rattle.base.specs.Bits.{bit}
+use Rattle.base.proofs.Bits.{bit-zero, bit-of-set, bits-told}
+use Rattle.base.specs.Cells.{cellAt, withCell}
+use Rattle.base.proofs.CellLaws.{length-withCell, cell-same, cell-other}
 use Rattle.quotient.specs.Gathered.{Joined, ArcsAt, Gathered}
 use Rattle.quotient.proofs.NameSets.{bit-nameSet}
 use Rattle.quotient.proofs.TreeArcs.{TreeArc, label-low, transition-number, number-transition, one-target}

@@ -8,9 +8,9 @@ use native.Mathlib.Nat.{one-mul, add-comm, mod-eq-of-lt}
 use native.Mathlib.Omega.{arith}
 use lib.Bits.{bitOr, or-shifted}
 use lib.Pow.{pow-lt}
-use Rattle.model.specs.Tables.{Arc, arc, nameSet}
-use Rattle.model.proofs.Arcs.{Ascending}
-use Rattle.indexed.proofs.Bits.{bit, bit-zero, bit-of-set}
+use Rattle.model.specs.Tables.{Arc, arc, nameSet, Ascending}
+use Rattle.base.specs.Bits.{bit}
+use Rattle.base.proofs.Bits.{bit-zero, bit-of-set}
 use Rattle.model.proofs.NameSets.{multiple-set}
 
 -- the set of one name, as a shift gives it

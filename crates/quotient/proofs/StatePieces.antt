@@ -10,17 +10,17 @@ use lib.Count.{ones, trailingZeros}
 use lib.Dec.{eqb}
 use lib.ListN.{length, getD, drop, length-append, length-map, drop-of-length-le}
 use lib.Seq.{drop-cons}
-use Rattle.model.specs.Limits.{name-limit, when}
-use Rattle.model.specs.Lists.{indexIn}
+use Rattle.base.specs.Limits.{name-limit, when}
+use Rattle.base.specs.Lists.{indexIn}
 use Rattle.model.specs.Classes.{Word}
 use Rattle.model.specs.Tables.{Arc, arc, State, state, fieldBytes, arcBytes, stateBody, stateFields}
 use Rattle.model.specs.Joinings.{treeOf, transitionsOf, groupAccepts}
 use Rattle.model.specs.Quotients.{arcsOutOf, metGroups, renumbered, stateOf, statesOf}
 use Rattle.model.proofs.Arcs.{arcsOutOf-in}
 use Rattle.model.proofs.FirstMet.{met-closed, met-few}
-use Rattle.model.proofs.Places.{nth-in}
+use Rattle.base.proofs.Places.{nth-in}
 use Rattle.model.proofs.Trees.{treeOf-tree}
-use Rattle.cells.specs.Cells.{cellAt}
+use Rattle.base.specs.Cells.{cellAt}
 use Rattle.writing.specs.Writing.{stateHead, arcPart}
 use Rattle.writing.proofs.Pieces.{state-bytes, state-bytes-length, arc-bytes-cons}
 use Rattle.quotient.specs.Gathered.{ArcsAt, Gathered}

@@ -5,8 +5,8 @@ use mathlib.Core.Bool.{Bool}
 use mathlib.Core.List.{List, List·Memᴰ as In}
 use Prim.Native.Nat.{ℕ, _≤_}
 use lib.ListN.{length, getD}
-use Rattle.model.specs.Limits.{when}
-use Rattle.model.specs.Lists.{indexIn}
+use Rattle.base.specs.Limits.{when}
+use Rattle.base.specs.Lists.{indexIn}
 use Rattle.model.specs.Classes.{Word}
 use Rattle.model.specs.Tables.{Arc, state, fieldBytes, arcBytes, stateBody, stateFields}
 use Rattle.model.specs.Joinings.{treeOf}

@@ -1,8 +1,8 @@
 // The arcs of the joined automaton, and which groups accept, gathered in one pass each over the tree's states.
 use crate::sets;
-use cells::numbers::wide8;
-use cells::numbers::wide16;
-use cells::set_cell;
+use base::numbers::wide8;
+use base::numbers::wide16;
+use base::cells::set_cell;
 ghost use mathlib.Core.Path.{_≡_};
 ghost use mathlib.Core.Bool.{cond};
 ghost use mathlib.Core.List.{List};
@@ -11,7 +11,7 @@ ghost use lib.Dec.{eqb};
 ghost use lib.ListN.{length};
 ghost use Rattle.model.specs.Classes.{Word};
 ghost use Rattle.model.specs.Joinings.{treeOf};
-ghost use Rattle.model.specs.Limits.{work-bytes};
+ghost use Rattle.base.specs.Limits.{work-bytes};
 ghost use Rattle.indexed.specs.Trees.{AcceptsArray};
 ghost use Rattle.indexed.specs.Partitions.{Labelled};
 ghost use Rattle.quotient.specs.Gathered.{Joined, Gathered, Accepting};

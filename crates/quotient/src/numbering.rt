@@ -2,15 +2,15 @@
 // new target has the next number. The bytes of the states' fields are counted on the way.
 use crate::Quotient;
 use crate::sets;
-use cells::cell;
-use cells::numbers::narrow16;
-use cells::numbers::wide16;
+use base::cells::cell;
+use base::numbers::narrow16;
+use base::numbers::wide16;
 ghost use mathlib.Core.Path.{_≡_};
 ghost use mathlib.Core.List.{List};
 ghost use Prim.Native.Nat.{ℕ, _<_, _≤_};
 ghost use lib.ListN.{length, replicate};
 ghost use Rattle.model.specs.Classes.{Word};
-ghost use Rattle.model.specs.Limits.{state-limit, work-bytes};
+ghost use Rattle.base.specs.Limits.{state-limit, work-bytes};
 ghost use Rattle.quotient.specs.Gathered.{Gathered};
 ghost use Rattle.quotient.specs.Numbered.{MetAs, MeetingOne, Meeting};
 ghost use Rattle.quotient.specs.Ready.{NumberedStates};

@@ -1,12 +1,13 @@
 // Classes of the states of a prefix tree by their last names, and the partition by them. A state's class is the first state with
 // the same last names. The last names of each state are one number, its code, seven bits a name; states are compared by their
 // codes. For passes against the arcs the name before the last ones is a state's key.
-use cells::numbers::wide16;
+use base::limits::STATE_LIMIT;
+use base::numbers::wide16;
 ghost use mathlib.Core.Path.{_≡_};
 ghost use mathlib.Core.Bool.{false};
 ghost use Prim.Native.Nat.{ℕ, suc, _+_, _-_, _*_, _/_, _%_, _^_, _<_, _≤_};
 ghost use lib.ListN.{length, getD};
-ghost use Rattle.model.specs.Limits.{name-limit, setting-limit};
+ghost use Rattle.base.specs.Limits.{name-limit, setting-limit};
 ghost use Rattle.indexed.specs.Trees.{Arrays};
 ghost use Rattle.indexed.specs.Partitions.{Alone};
 ghost use Rattle.indexed.specs.Passes.{SuffixClasses, BySuffix, NamesAbove};
@@ -181,7 +182,7 @@ pub fn suffix_classes(i: usize, parents: &[u16], names: &[u8], classes: &mut [u1
         ⌜ SuffixClasses (length (now (classes .entry))) i (now (parents .entry)) (now (names .entry)) (now (classes .exit)) ⌝ }
 {
     let n = classes.len();
-    let mut values = [0u64; 512];
+    let mut values = [0u64; STATE_LIMIT];
     classes_in(i, parents, names, &mut values[..n], classes);
 }
 
@@ -214,6 +215,6 @@ pub fn by_suffix(k: usize, parents: &[u16], names: &[u8], groups: &mut [u16]) ->
     ensures none { λ joined. ⌜ (joined ≡ false → Alone (length (now (groups .entry))) (now (groups .exit))) ⌝ }
 {
     let n = groups.len();
-    let mut values = [0u64; 512];
+    let mut values = [0u64; STATE_LIMIT];
     groups_in(k, parents, names, &mut values[..n], groups)
 }

@@ -9,7 +9,7 @@ use native.Mathlib.Omega.{arith}
 use borrow.Author.Tests.{ltb-true, ltb-false, eq-eqb, ne-eqb}
 use lib.Dec.{ltb}
 use lib.ListN.{length, getD, drop, length-map, List·getD-map}
-use Rattle.model.specs.Limits.{when, firstOf, work-bytes, bad-sizes}
+use Rattle.base.specs.Limits.{when, firstOf, work-bytes, bad-sizes}
 use Rattle.model.specs.Fields.{File, Read, default-class, table, readFields}
 use Rattle.model.specs.Tables.{State, no-state, stateIn, statesIn, metByArcs, metByStates, isFirstMet}
 use Rattle.model.specs.Calls.{Refuses, tableOf, tableStates, tableFault}
@@ -20,8 +20,8 @@ use Rattle.fields.specs.Places.{ReadAs}
 use Rattle.fields.specs.declared.Place.{Place}
 use Rattle.fields.specs.declared.Fields.the-variants as read
 use Rattle.fields.proofs.OffsetLaws.{offset-suc, field-within, length-fields, field-at}
-use Rattle.cells.specs.Cells.{cellAt, withCell}
-use Rattle.cells.proofs.CellLaws.{length-withCell, cell-same, cell-other-row}
+use Rattle.base.specs.Cells.{cellAt, withCell}
+use Rattle.base.proofs.CellLaws.{length-withCell, cell-same, cell-other-row}
 use Rattle.tables.specs.Arcs.{StateOk}
 use Rattle.tables.specs.Accepting.{readFault, TableRead, StateField, AcceptedAs, OpenedAs}
 use Rattle.tables.specs.declared.Accepted.{Accepted}

@@ -1,6 +1,6 @@
 // One state's field, over its bytes after mark and length: whether it accepts, the names of its arcs as a set, the target of an
 // arc, and the check of first-met numbering. Every function here requires that the field passed the reader's test.
-use cells::numbers::wide8;
+use base::numbers::wide8;
 ghost use mathlib.Core.Path.{_≡_};
 ghost use Prim.Native.Nat.{_+_, _≤_};
 ghost use lib.ListN.{length};

@@ -9,7 +9,7 @@ use native.Mathlib.Omega.{arith}
 use lib.Dec.{ltb}
 use lib.ListN.{getD}
 use borrow.Author.Tests.{ltb-true, ltb-false}
-use Rattle.model.proofs.Tests.{eq-dec}
+use Rattle.base.proofs.Tests.{eq-dec}
 use Rattle.indexed.specs.Partitions.{Refines, Labelled}
 use Rattle.partition.specs.Joins.{JoinedTwo}
 use Rattle.worklist.specs.Lists.{Grew}

@@ -6,11 +6,11 @@ use mathlib.Core.List.{List}
 use Prim.Native.Nat.{ℕ, zero, suc, _+_, _<_, _≤_}
 use native.Mathlib.Omega.{arith}
 use lib.ListN.{getD}
-use Rattle.model.specs.Limits.{state-limit}
-use Rattle.model.proofs.Tests.{decided, eq-dec, tells-leb}
+use Rattle.base.specs.Limits.{state-limit}
+use Rattle.base.proofs.Tests.{decided, eq-dec, tells-leb}
 use Rattle.indexed.specs.Trees.{Arrays}
 use Rattle.indexed.specs.Partitions.{Share}
-use Rattle.indexed.proofs.Keys.{number-at}
+use Rattle.base.proofs.Places.{number-at}
 use Rattle.worklist.specs.Lists.{Next, Sorted}
 use Rattle.worklist.specs.Forks.{ForkLists}
 use Rattle.worklist.specs.Searches.{Past, ShareAfter}

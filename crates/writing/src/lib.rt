@@ -5,7 +5,7 @@ pub mod decimals;
 ghost use mathlib.Core.Path.{_≡_};
 ghost use Prim.Native.Nat.{_+_, _≤_, _<_};
 ghost use lib.ListN.{length};
-ghost use Rattle.model.specs.Limits.{when};
+ghost use Rattle.base.specs.Limits.{when};
 ghost use Rattle.model.specs.Fields.{class-of};
 ghost use Rattle.model.specs.Tables.{classField};
 ghost use Rattle.writing.specs.Writing.{Put, stateHead, arcPart};

@@ -8,7 +8,7 @@ use lib.Dec.{lit<}
 use lib.ListN.{length, getD, set}
 use lib.Pow.{shl-exact}
 use borrow.Author.Needs.{needs}
-use Rattle.indexed.proofs.Bits.{bit}
+use Rattle.base.specs.Bits.{bit}
 use Rattle.indexed.proofs.Suffixes.{parent-below}
 use Rattle.contexts.specs.Sweeps.{Linked}
 use Rattle.contexts.proofs.LinkLaws.{name-known, name-new, first-arc, linked-more}

@@ -5,7 +5,7 @@ pub mod numbers;
 ghost use mathlib.Core.Path.{_≡_};
 ghost use Prim.Native.Nat.{_<_, _≤_};
 ghost use lib.ListN.{length, replicate};
-ghost use Rattle.cells.specs.Cells.{row-count, column-count, work-bytes, cell-limit, withCell, IsCell};
+ghost use Rattle.base.specs.Cells.{row-count, column-count, work-bytes, cell-limit, withCell, IsCell};
 
 // The value of the cell in a row and a column.
 pub fn cell(work: &[u8], row: usize, column: usize) -> usize

@@ -4,9 +4,9 @@ use native.Mathlib.Omega.{arith}
 use mathlib.Core.Path.{_≡_, ap₂}
 use Prim.Native.Nat.{ℕ, _+_, _*_, _<_}
 use lib.ListN.{getD}
-use Rattle.cells.specs.Cells.{cellAt}
-use Rattle.cells.proofs.cell.Statement.{statement}
-use Rattle.cells.proofs.cell.Tie as tie
+use Rattle.base.specs.Cells.{cellAt}
+use Rattle.base.proofs.cells.cell.Statement.{statement}
+use Rattle.base.proofs.cells.cell.Tie as tie
 
 mul-high : tie.Need-mul-high
 mul-high c = omega arith

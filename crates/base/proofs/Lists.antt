@@ -9,7 +9,7 @@ use mathlib.Core.List.{Memᴰ·cast, Memᴰ·of-map, Memᴰ·append-left, Memᴰ
 use Prim.Native.Nat.{suc, _≤_, _<_}
 use native.Mathlib.Omega.{arith}
 use lib.ListN.{length}
-use Rattle.model.specs.Lists.{filterBy}
+use Rattle.base.specs.Lists.{filterBy}
 
 module _ {A B : Type 0} where
   -- an element of a mapped list is what an element became

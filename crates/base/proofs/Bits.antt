@@ -8,7 +8,7 @@ use native.Mathlib.Numerals.{add-one, one-add}
 use native.Mathlib.Omega.{arith}
 use lib.Bits.{bitAnd, bitOr, and-step, or-step, shifted-half}
 use lib.Pow.{field, mod-mod-pow, shr-shr}
-use Rattle.model.proofs.Tests.{eq-dec}
+use Rattle.base.proofs.Tests.{eq-dec}
 
 -- bit a of n, counted from the lowest
 pub bit : ℕ → ℕ → ℕ

@@ -8,9 +8,9 @@ use Prim.Native.Nat.{ℕ, zero, suc, _+_, _≤_, _<_}
 use native.Mathlib.Omega.{arith}
 use lib.ListN.{length, getD}
 use borrow.Author.Tests.{eq-eqb, ne-eqb}
-use Rattle.model.specs.Lists.{numbersFrom, indexIn}
-use Rattle.model.proofs.Tests.{eq-dec}
-use Rattle.model.proofs.Lists.{Distinct}
+use Rattle.base.specs.Lists.{numbersFrom, indexIn}
+use Rattle.base.proofs.Tests.{eq-dec}
+use Rattle.base.proofs.Lists.{Distinct}
 
 -- ---- numbers in succession
 

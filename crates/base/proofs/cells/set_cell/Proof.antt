@@ -3,9 +3,9 @@ use mathlib.Core.Path.{ap₂}
 use Prim.Native.Nat.{ℕ, _+_, _*_}
 use native.Mathlib.Omega.{arith}
 use lib.ListN.{set, length-set}
-use Rattle.cells.specs.Cells.{withCell}
-use Rattle.cells.proofs.set_cell.Statement.{statement}
-use Rattle.cells.proofs.set_cell.Tie as tie
+use Rattle.base.specs.Cells.{withCell}
+use Rattle.base.proofs.cells.set_cell.Statement.{statement}
+use Rattle.base.proofs.cells.set_cell.Tie as tie
 
 mul-high : tie.Need-mul-high
 mul-high c = omega arith

@@ -7,8 +7,8 @@ use native.Mathlib.Nat.{le-refl}
 use native.Mathlib.Omega.{arith}
 use borrow.Author.Fill.{fill-more}
 use lib.ListN.{length, drop, set, replicate, length-set, drop-of-length-le}
-use Rattle.cells.proofs.clear.Statement.{statement}
-use Rattle.cells.proofs.clear.Tie as tie
+use Rattle.base.proofs.cells.clear.Statement.{statement}
+use Rattle.base.proofs.cells.clear.Tie as tie
 
 abbrev Inv-loop : tie.InvT-loop
 Inv-loop work₀ i₀ work i = (i ≤ length work₀) × ((length work ≡ length work₀) × (work ≡ replicate i 0 ++ drop i work₀))

@@ -7,7 +7,7 @@ use native.Mathlib.Nat.{div-add-mod}
 use native.Mathlib.Omega.{arith}
 use lib.ListN.{length, getD, set, length-set}
 use lib.Seq.{getD-set-same, getD-set-other, lt-length-set}
-use Rattle.cells.specs.Cells.{row-count, column-count, work-bytes, cellAt, withCell}
+use Rattle.base.specs.Cells.{row-count, column-count, work-bytes, cellAt, withCell}
 
 pub length-withCell : (work : List ℕ) (row column value : ℕ) → length (withCell work row column value) ≡ length work
 unfolding withCell

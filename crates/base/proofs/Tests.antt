@@ -8,7 +8,7 @@ use mathlib.Core.List.{List·Memᴰ·cases-cons, head-eq-of-cons-eq, tail-eq-of-
 use Prim.Native.Nat.{ℕ, _≤_, _<_}
 use lib.Dec.{eqb, ltb, leb}
 use borrow.Author.Tests.{ltb-true, leb-true, eqb-true, lt-ltb, le-leb, eq-eqb}
-use Rattle.model.specs.Lists.{any, anyTwo, all, same, hasRow, isIn}
+use Rattle.base.specs.Lists.{any, anyTwo, all, same, hasRow, isIn}
 
 -- the test is true exactly when the fact holds
 pub record Tells (b : Bool) (P : Type 0) : Type 0 where
