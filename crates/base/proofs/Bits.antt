@@ -3,17 +3,14 @@
 use mathlib.Core.Path.{_≡_, refl, sym, ap, _∙_, subst}
 use mathlib.Core.Logic.{_⊎_, inl, inr, ⊎-elim, _↔_}
 use Prim.Native.Nat.{ℕ, zero, suc, _+_, _-_, _*_, _/_, _%_, _^_, _<_, _≤_, max, min}
-use native.Mathlib.Nat.{zero-add, suc-add, mul-one, div-one, pow-suc}
+use native.Mathlib.Nat.{zero-add, suc-add, mul-one, one-mul, div-one, pow-suc, mod-eq-of-lt}
 use native.Mathlib.Numerals.{add-one, one-add}
 use native.Mathlib.Omega.{arith}
 use lib.Bits.{bitAnd, bitOr, and-step, or-step, shifted-half}
-use lib.Pow.{field, mod-mod-pow, shr-shr}
+use lib.Pow.{field, mod-mod-pow, shr-shr, pow-lt}
+use Rattle.base.specs.Limits.{name-limit}
+use Rattle.base.specs.Bits.{bit}
 use Rattle.base.proofs.Tests.{eq-dec}
-
--- bit a of n, counted from the lowest
-pub bit : ℕ → ℕ → ℕ
-bit zero n = n % 2
-bit (suc a) n = bit a (n / 2)
 
 pub bit-small : (a n : ℕ) → bit a n < 2
 unfolding bit
@@ -192,3 +189,9 @@ bit-fallen (suc s) a x =
     let halves : x / 2 ^ suc s ≡ x / 2 / 2 ^ s =
     ap (λ (d : ℕ). x / 2 ^ d) (sym (one-add s)) ∙ sym (shr-shr x 1 s) in
     ap (bit a) halves ∙ bit-fallen s a (x / 2) ∙ ap (λ (d : ℕ). bit d x) (sym (suc-add s a))
+
+-- the set of one name, as a shift gives it: no bit is lost
+pub shifted-one : (a : ℕ) → a < name-limit → 1 * 2 ^ a % 2 ^ 64 ≡ 2 ^ a
+shifted-one a h =
+    let fits : 1 * 2 ^ a < 2 ^ 64 = omega (arith, pow-lt {i = a} {j = 64} h) in
+    mod-eq-of-lt fits ∙ one-mul (2 ^ a)

@@ -7,7 +7,8 @@ use native.Mathlib.Nat.{div-add-mod}
 use native.Mathlib.Omega.{arith}
 use lib.ListN.{length, getD, set, length-set}
 use lib.Seq.{getD-set-same, getD-set-other, lt-length-set}
-use Rattle.base.specs.Cells.{row-count, column-count, work-bytes, cellAt, withCell}
+use Rattle.base.specs.Limits.{name-limit, state-limit, work-bytes}
+use Rattle.base.specs.Cells.{cellAt, withCell}
 
 pub length-withCell : (work : List ℕ) (row column value : ℕ) → length (withCell work row column value) ≡ length work
 unfolding withCell
@@ -32,25 +33,25 @@ byte-other : (work : List ℕ) (at k a b : ℕ) → (k ≡ at → ⊥) → (k �
 byte-other work at k a b h j = getD-set-other (set work at a) (at + 1) k b 0 j ∙ getD-set-other work at k a 0 h
 
 -- the cell just written reads as the value
-pub cell-same : (work : List ℕ) (row column value : ℕ) → row < row-count → column < column-count → work-bytes ≤ length work
+pub cell-same : (work : List ℕ) (row column value : ℕ) → row < state-limit → column < name-limit → work-bytes ≤ length work
     → cellAt (withCell work row column value) row column ≡ value
 unfolding cellAt withCell
 cell-same work row column value r c l = pair-same work (128 * row + 2 * column) value (omega arith)
 
 -- two cells with one place have one row
-row-of-place : (row column row' column' : ℕ) → column < column-count → column' < column-count
+row-of-place : (row column row' column' : ℕ) → column < name-limit → column' < name-limit
     → 128 * row' + 2 * column' ≡ 128 * row + 2 * column
     → row' ≡ row
 row-of-place row column row' column' c c' e = omega arith
 
 -- and one column
-column-of-place : (row column row' column' : ℕ) → column < column-count → column' < column-count
+column-of-place : (row column row' column' : ℕ) → column < name-limit → column' < name-limit
     → 128 * row' + 2 * column' ≡ 128 * row + 2 * column
     → column' ≡ column
 column-of-place row column row' column' c c' e = omega (arith, row-of-place row column row' column' c c' e)
 
 -- a cell that is not in both the same row and the same column keeps its value
-pub cell-other : (work : List ℕ) (row column value row' column' : ℕ) → column < column-count → column' < column-count
+pub cell-other : (work : List ℕ) (row column value row' column' : ℕ) → column < name-limit → column' < name-limit
     → (row' ≡ row → column' ≡ column → ⊥)
     → cellAt (withCell work row column value) row' column' ≡ cellAt work row' column'
 unfolding cellAt withCell
@@ -63,7 +64,7 @@ cell-other work row column value row' column' c c' h =
     (λ e. omega arith)
     (λ e. apart (omega arith)))
 
-pub cell-other-row : (work : List ℕ) (row column value row' column' : ℕ) → column < column-count → column' < column-count
+pub cell-other-row : (work : List ℕ) (row column value row' column' : ℕ) → column < name-limit → column' < name-limit
     → (row' ≡ row → ⊥)
     → cellAt (withCell work row column value) row' column' ≡ cellAt work row' column'
 cell-other-row work row column value row' column' c c' h = cell-other work row column value row' column' c c' (λ e _. h e)

@@ -3,11 +3,14 @@
 -- local array cut to the number of states. Assumes nothing.
 use mathlib.Core.Path.{_≡_, refl, sym, ap, _∙_, subst}
 use mathlib.Core.Logic.{⊎-elim}
-use mathlib.Core.List.{List, _++_}
+use mathlib.Core.List.{List, _++_, append-nil}
 use Prim.Native.Nat.{ℕ, _+_, _<_, _≤_}
+use native.Mathlib.Nat.{le-refl}
 use native.Mathlib.Omega.{arith}
-use lib.ListN.{length, getD, set, take, replicate, length-append, length-set, length-replicate, getD-replicate}
+use lib.ListN.{length, getD, set, take, drop, replicate, length-append, length-set, length-replicate, getD-replicate}
+use lib.ListN.{drop-of-length-le}
 use lib.Seq.{getD-set-same, getD-set-other, getD-take, length-take-le, take-at}
+use Rattle.base.specs.Limits.{state-limit}
 use Rattle.base.proofs.Tests.{eq-dec}
 
 module _ (P : ℕ → ℕ → Type 0) (list : List ℕ) (at value : ℕ) where
@@ -41,6 +44,10 @@ filled-more P i value list₀ list inside here so-far =
       done = fill-more P list i value (omega (arith, so-far .size)) (so-far .done) here;
     }
 
+-- a list filled with one value to its end
+pub filled : (n v : ℕ) (xs : List ℕ) → n ≡ length xs → replicate n v ++ drop n xs ≡ replicate (length xs) v
+filled n v xs e = rw (e, drop-of-length-le xs (le-refl (length xs)), append-nil)
+
 -- the front of a list is as long as it says
 pub front-length : (n : ℕ) (list : List ℕ) → n ≤ length list → length (take n list) ≡ n
 front-length n list h = length-take-le n list h
@@ -54,11 +61,11 @@ front-fits n list front rest e size =
     let same : length front ≡ length list = ap length e in
     simp length-append (omega arith)
 
--- a local array of 512 elements cut to n: its length, and what it holds where nothing was written
-pub cut : (n x : ℕ) → n ≤ 512 → n ≡ length (take n (replicate 512 x))
-cut n x h = sym (length-take-le n (replicate 512 x) (subst (λ (m : ℕ). n ≤ m) (sym (length-replicate 512 x)) h))
+-- a local array of as many elements as there may be states, cut to n: its length, and what it holds where nothing was written
+pub cut : (n x : ℕ) → n ≤ state-limit → n ≡ length (take n (replicate state-limit x))
+cut n x h = sym (length-take-le n (replicate state-limit x) (subst (λ (m : ℕ). n ≤ m) (sym (length-replicate state-limit x)) h))
 
-pub cut-at : (n x v : ℕ) → n ≤ 512 → v < n → getD (take n (replicate 512 x)) v 0 ≡ x
+pub cut-at : (n x v : ℕ) → n ≤ state-limit → v < n → getD (take n (replicate state-limit x)) v 0 ≡ x
 cut-at n x v h inside =
-    let below : v < 512 = omega arith in
-    getD-take n (replicate 512 x) v 0 inside ∙ getD-replicate 512 v x 0 below
+    let below : v < state-limit = omega arith in
+    getD-take n (replicate state-limit x) v 0 inside ∙ getD-replicate state-limit v x 0 below

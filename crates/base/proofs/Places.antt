@@ -1,5 +1,5 @@
--- Places in lists: numbers in succession, the place of an element (`indexIn`) and the element at a place, in a list, in one
--- that goes on, and in a mapped one. Assumes nothing.
+-- Places in lists: numbers in succession, the element at a place, and the place of an element (`indexIn`) in a list, in one that
+-- goes on, and in a mapped one. Assumes nothing.
 use mathlib.Core.Path.{_≡_, refl, sym, ap, _∙_, subst}
 use mathlib.Core.Logic.{_⊎_, inl, inr, ⊎-elim}
 use mathlib.Core.List.{List, [], _∷_, _++_, map, List·Memᴰ as In, List·Memᴰ·head as here, List·Memᴰ·tail as there}
@@ -8,6 +8,7 @@ use Prim.Native.Nat.{ℕ, zero, suc, _+_, _≤_, _<_}
 use native.Mathlib.Omega.{arith}
 use lib.ListN.{length, getD}
 use borrow.Author.Tests.{eq-eqb, ne-eqb}
+use native.Mathlib.Nat.{add-zero, not-suc-le-zero}
 use Rattle.base.specs.Lists.{numbersFrom, indexIn}
 use Rattle.base.proofs.Tests.{eq-dec}
 use Rattle.base.proofs.Lists.{Distinct}
@@ -34,6 +35,57 @@ numbersFrom-in (suc n) i j m =
     (λ k. let r = numbersFrom-in n (suc i) j k in (omega (arith, r .0), omega (arith, r .1)))
     (List·Memᴰ·cases-cons m)
 
+-- the v-th of them is i + v
+pub nth-number : (n i v : ℕ) → v < n → getD (numbersFrom n i) v 0 ≡ i + v
+unfolding numbersFrom
+nth-number zero i v h = absurd (not-suc-le-zero h)
+nth-number (suc n) i zero h = sym (add-zero i)
+nth-number (suc n) i (suc v) h =
+    let rest : getD (numbersFrom n (suc i)) v 0 ≡ suc i + v = nth-number n (suc i) v (omega arith) in
+    let sums : suc i + v ≡ i + suc v = omega arith in
+    rest ∙ sums
+
+-- the v-th number from 0 is v
+pub number-at : (n v : ℕ) → v < n → getD (numbersFrom n 0) v 0 ≡ v
+number-at n v h =
+    let sum-is : 0 + v ≡ v = omega arith in
+    nth-number n 0 v h ∙ sum-is
+
+-- ---- lists by place
+
+module _ {A : Type 0} (d : A) where
+  -- the element at a place is in the list
+  pub nth-in : (xs : List A) (i : ℕ) → i < length xs → In (getD xs i d) xs
+  nth-in [] i h = let z : ⊥ = omega arith in absurd z
+  nth-in (x ∷ xs) zero h = here refl
+  nth-in (x ∷ xs) (suc i) h = there (nth-in xs i (omega arith))
+
+  -- and each element has a place
+  pub place-of : (xs : List A) (x : A) → In x xs → (i : ℕ) × (i < length xs) × (getD xs i d ≡ x)
+  place-of [] x m = absurd (List·Memᴰ·not-nil m)
+  place-of (y ∷ ys) x m = go (place-of ys x) (List·Memᴰ·cases-cons m)
+    where
+      go :
+          (In x ys → (i : ℕ) × (i < length ys) × (getD ys i d ≡ x)) → (x ≡ y) ⊎ In x ys →
+          (i : ℕ) × (i < suc (length ys)) × (getD (y ∷ ys) i d ≡ x)
+      go again (inl e) = (0, omega arith, sym e)
+      go again (inr n) =
+          let r = again n in
+          let low : r .0 < length ys = r .1 in
+          (suc (r .0), omega arith, r .2)
+
+  -- one place, where none stands twice
+  pub one-place :
+      (xs : List A) (i j : ℕ) → Distinct xs → i < length xs → j < length xs → getD xs i d ≡ getD xs j d → i ≡ j
+  one-place [] i j distinct h k e = let z : ⊥ = omega arith in absurd z
+  one-place (x ∷ xs) zero zero distinct h k e = refl
+  one-place (x ∷ xs) zero (suc j) distinct h k e =
+      absurd (distinct .0 (Memᴰ·cast e (nth-in xs j (omega arith))))
+  one-place (x ∷ xs) (suc i) zero distinct h k e =
+      absurd (distinct .0 (Memᴰ·cast (sym e) (nth-in xs i (omega arith))))
+  one-place (x ∷ xs) (suc i) (suc j) distinct h k e =
+      ap suc (one-place xs i j (distinct .1) (omega arith) (omega arith) e)
+
 -- ---- the place of an element
 
 -- the first is at place 0, others one further than in the rest
@@ -45,18 +97,13 @@ pub index-there : (x y : ℕ) (ys : List ℕ) → (x ≡ y → ⊥) → indexIn 
 unfolding indexIn
 index-there x y ys d = rw (ne-eqb x y d, indexIn)
 
-pub nth-in : (xs : List ℕ) (i : ℕ) → i < length xs → In (getD xs i 0) xs
-nth-in [] i h = let z : ⊥ = omega arith in absurd z
-nth-in (x ∷ xs) zero h = here refl
-nth-in (x ∷ xs) (suc i) h = there (nth-in xs i (omega arith))
-
 -- the i-th of a list without repeats has the place i
 pub index-of-nth : (xs : List ℕ) (i : ℕ) → Distinct xs → i < length xs → indexIn (getD xs i 0) xs ≡ i
 index-of-nth [] i d h = let z : ⊥ = omega arith in absurd z
 index-of-nth (x ∷ xs) zero d h = index-here x x xs refl
 index-of-nth (x ∷ xs) (suc i) d h =
     let below : i < length xs = omega arith in
-    index-there (getD xs i 0) x xs (λ e. d .0 (Memᴰ·cast (sym e) (nth-in xs i below)))
+    index-there (getD xs i 0) x xs (λ e. d .0 (Memᴰ·cast (sym e) (nth-in 0 xs i below)))
     ∙ ap suc (index-of-nth xs i (d .1) below)
 
 -- at the place of an element stands the element

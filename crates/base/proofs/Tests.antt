@@ -6,6 +6,7 @@ use mathlib.Core.Bool.{Bool, true, false, _&&_, _||_, not, true≢false, false�
 use mathlib.Core.List.{List, [], _∷_, List·Memᴰ as In, List·Memᴰ·head as here, List·Memᴰ·tail as there, List·Memᴰ·not-nil}
 use mathlib.Core.List.{List·Memᴰ·cases-cons, head-eq-of-cons-eq, tail-eq-of-cons-eq, nil≢cons, cons≢nil}
 use Prim.Native.Nat.{ℕ, _≤_, _<_}
+use native.Mathlib.Omega.{arith}
 use lib.Dec.{eqb, ltb, leb}
 use borrow.Author.Tests.{ltb-true, leb-true, eqb-true, lt-ltb, le-leb, eq-eqb}
 use Rattle.base.specs.Lists.{any, anyTwo, all, same, hasRow, isIn}
@@ -63,6 +64,10 @@ tells-leb x y = record { fact = leb-true x y; test = le-leb x y }
 -- equal numbers are decided
 pub eq-dec : (x y : ℕ) → (x ≡ y) ⊎ (x ≡ y → ⊥)
 eq-dec x y = decided (tells-eqb x y)
+
+-- and so is which of two numbers is the lower
+pub le-or-lt : (x y : ℕ) → (x ≤ y) ⊎ (y < x)
+le-or-lt x y = ⊎-elim inl (λ (above : x ≤ y → ⊥). inr (omega arith)) (decided (tells-leb x y))
 
 pub tells-and : {a b : Bool} {P Q : Type 0} → Tells a P → Tells b Q → Tells (a && b) (P × Q)
 tells-and {a} {b} s t =

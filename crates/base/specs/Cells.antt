@@ -1,23 +1,11 @@
--- The lent working area, read as 512 rows of 64 cells. A cell is two bytes, the high one first; the high byte of the cell in
--- a row and a column stands at offset 128 * row + 2 * column. In order: the numbers of the layout, a cell's value, the area
--- with one cell written, and what reading a cell promises. Assumes nothing.
+-- The lent working area, read as rows of cells, a row for each state and a cell for each name. A cell is two bytes, the high one
+-- first; the high byte of the cell in a row and a column stands at offset 128 * row + 2 * column. In order: a cell's value, the
+-- area with one cell written, and what reading a cell promises. Assumes nothing.
 use mathlib.Core.Path.{_≡_}
 use mathlib.Core.List.{List}
 use Prim.Native.Nat.{ℕ, _+_, _*_, _/_, _%_, _<_}
 use lib.ListN.{getD, set}
-
--- how many rows there are, how many cells a row has, the bytes of them all, and the number that no cell reaches
-abbrev pub row-count : ℕ
-row-count = 512
-
-abbrev pub column-count : ℕ
-column-count = 64
-
-abbrev pub work-bytes : ℕ
-work-bytes = 65536
-
-abbrev pub cell-limit : ℕ
-cell-limit = 65536
+use Rattle.base.specs.Limits.{number-limit}
 
 -- the value of the cell in a row and a column
 unfoldable pub cellAt : List ℕ → ℕ → ℕ → ℕ
@@ -30,4 +18,4 @@ withCell work row column value = set (set work (128 * row + 2 * column) (value /
 -- what reading a cell promises of its answer
 pub record IsCell (work : List ℕ) (row column answer : ℕ) : Type 0 where
   pub value : answer ≡ cellAt work row column
-  pub small : answer < cell-limit
+  pub small : answer < number-limit

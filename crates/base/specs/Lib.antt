@@ -1,2 +1,6 @@
--- What the lent working area holds, and what its functions promise. Assumes nothing.
+-- What many crates share: the numbers that document 01 fixes, tests and choices over lists, the bits of a
+-- number, and what the lent working area holds. Assumes nothing.
+pub mod Limits
+pub mod Lists
+pub mod Bits
 pub mod Cells

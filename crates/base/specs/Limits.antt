@@ -1,4 +1,5 @@
--- The numbers that document 01 fixes, each in one place: the limits, and the refusals (its table "What is given back").
+-- The numbers that document 01 fixes, each in one place: the limits, the marks of fields and the stages of reading them, the kinds of
+-- classes, the ends of a walk, and the refusals (its table "What is given back"). src/limits.rt has them by the same names.
 -- Assumes nothing.
 use mathlib.Core.Bool.{Bool, true, false}
 use Prim.Native.Nat.{ℕ, zero, suc}
@@ -34,6 +35,56 @@ input-limit = 65535
 -- the shortest working area, in bytes
 abbrev pub work-bytes : ℕ
 work-bytes = 65536
+
+-- numbers of two bytes are below this
+abbrev pub number-limit : ℕ
+number-limit = 65536
+
+-- the marks of fields: 01 name, 02 class, 03 row, 04 state
+abbrev pub name-mark : ℕ
+name-mark = 1
+
+abbrev pub class-mark : ℕ
+class-mark = 2
+
+abbrev pub row-mark : ℕ
+row-mark = 3
+
+abbrev pub state-mark : ℕ
+state-mark = 4
+
+-- the stages of reading: a name is due, names met, the class met, rows or states met
+abbrev pub name-due : ℕ
+name-due = 0
+
+abbrev pub names-met : ℕ
+names-met = 1
+
+abbrev pub class-met : ℕ
+class-met = 2
+
+abbrev pub items-met : ℕ
+items-met = 3
+
+-- the kinds of classes: context, with k and h; seen set; last names, with j
+abbrev pub context-kind : ℕ
+context-kind = 0
+
+abbrev pub seen-set-kind : ℕ
+seen-set-kind = 1
+
+abbrev pub last-names-kind : ℕ
+last-names-kind = 2
+
+-- how a walk ends
+abbrev pub admitted : ℕ
+admitted = 1
+
+abbrev pub on-the-way : ℕ
+on-the-way = 2
+
+abbrev pub stops : ℕ
+stops = 3
 
 -- 1: an input too long, or a working area too short
 abbrev pub bad-sizes : ℕ

@@ -1,16 +1,16 @@
-// The lent working area as 512 rows of 64 cells of two bytes: read a cell, write a cell, clear the area. The module `numbers`
-// changes the width of a number and keeps its value.
-pub mod numbers;
-
+// The lent working area as rows of cells of two bytes, a row for each state and a cell for each name: read a cell, write a cell, clear
+// the area.
+use crate::numbers;
 ghost use mathlib.Core.Path.{_≡_};
 ghost use Prim.Native.Nat.{_<_, _≤_};
 ghost use lib.ListN.{length, replicate};
-ghost use Rattle.base.specs.Cells.{row-count, column-count, work-bytes, cell-limit, withCell, IsCell};
+ghost use Rattle.base.specs.Limits.{name-limit, state-limit, work-bytes, number-limit};
+ghost use Rattle.base.specs.Cells.{withCell, IsCell};
 
 // The value of the cell in a row and a column.
 pub fn cell(work: &[u8], row: usize, column: usize) -> usize
-    requires in_rows { ⌜ row < row-count ⌝ }
-    requires in_columns { ⌜ column < column-count ⌝ }
+    requires in_rows { ⌜ row < state-limit ⌝ }
+    requires in_columns { ⌜ column < name-limit ⌝ }
     requires room { do ⌜ work-bytes ≤ (← ⟦work.len()⟧) ⌝ }
     ensures { λ r. ⌜ IsCell (now (work .entry)) row column r ⌝ }
 {
@@ -21,9 +21,9 @@ pub fn cell(work: &[u8], row: usize, column: usize) -> usize
 
 // Writes a value into the cell in a row and a column; every other cell keeps its value.
 pub fn set_cell(work: &mut [u8], row: usize, column: usize, value: usize)
-    requires in_rows { ⌜ row < row-count ⌝ }
-    requires in_columns { ⌜ column < column-count ⌝ }
-    requires small { ⌜ value < cell-limit ⌝ }
+    requires in_rows { ⌜ row < state-limit ⌝ }
+    requires in_columns { ⌜ column < name-limit ⌝ }
+    requires small { ⌜ value < number-limit ⌝ }
     requires room { do ⌜ work-bytes ≤ (← ⟦work.len()⟧) ⌝ }
     ensures { λ _. ⌜ now (work .exit) ≡ withCell (now (work .entry)) row column value ⌝ }
 {

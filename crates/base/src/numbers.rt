@@ -1,6 +1,7 @@
 // A number at another width: its value is the same. So that callers read arrays of u8 and u16 without casts of their own.
 ghost use mathlib.Core.Path.{_≡_};
 ghost use Prim.Native.Nat.{_<_};
+ghost use Rattle.base.specs.Limits.{number-limit};
 
 // A byte as a usize.
 pub fn wide8(x: u8) -> usize
@@ -26,7 +27,7 @@ pub fn narrow8(x: usize) -> u8
 
 // A number below 65,536 as a u16.
 pub fn narrow16(x: usize) -> u16
-    requires { ⌜ x < 65536 ⌝ }
+    requires { ⌜ x < number-limit ⌝ }
     ensures { λ r. ⌜ r ≡ x ⌝ }
 {
     x as u16

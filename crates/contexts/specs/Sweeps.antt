@@ -52,7 +52,7 @@ pub record ListedNear (j : ℕ) (parents names classes old dist : List ℕ) (b v
 
 -- the mark of a far arc until the chains are whole, instead of a link
 abbrev pub waiting : ℕ
-waiting = 513
+waiting = state-limit + 1
 
 -- the links and heads after arc v, the first of its name out of its group, is put into its chain, if it is near, or marked, if it
 -- is far; one without a class is left alone

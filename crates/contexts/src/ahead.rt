@@ -2,7 +2,6 @@
 // whose sets have no bit in common have no two names in common that lead on; a bit in common tells nothing. An arc goes by the
 // state that it leads into.
 use base::limits::STATE_LIMIT;
-use crate::STATE_LIMIT;
 use base::numbers::wide16;
 ghost use mathlib.Core.Path.{_≡_};
 ghost use Prim.Native.Nat.{ℕ, _<_};

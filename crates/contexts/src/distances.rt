@@ -1,7 +1,6 @@
 // How near each group is to one that has grown since an earlier partition, in arcs: from there on the names that lead on may be
 // others than they were. A group goes by its label, an arc by the state that it leads into.
 use base::limits::STATE_LIMIT;
-use crate::STATE_LIMIT;
 use base::numbers::narrow8;
 use base::numbers::wide16;
 ghost use Prim.Native.Nat.{_<_, _≤_};

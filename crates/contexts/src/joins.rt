@@ -1,16 +1,15 @@
 // The comparisons of a sweep, and the joins that they lead to. Each arc is compared with those further down its chain; where m - 1
 // names in succession lead on after both, their sources are joined, and forks are closed at once, so that what comes later is
 // looked for among groups that are as large as they can be. The chains stay those of the groups at the beginning of the sweep.
-use worklist::lists::PAIR_LIMIT;
-use base::limits::STATE_LIMIT;
-use crate::STATE_LIMIT;
 use crate::ahead::names_ahead;
 use crate::chains::link_arcs;
 use crate::chains::link_far;
 use crate::distances::distances;
+use base::limits::STATE_LIMIT;
 use base::numbers::wide16;
 use partition::forest;
 use worklist::forks::join_two;
+use worklist::lists::PAIR_LIMIT;
 use worklist::search::lead_on;
 ghost use mathlib.Core.Path.{_≡_};
 ghost use mathlib.Core.Bool.{true};

@@ -5,12 +5,12 @@ pub mod chains;
 pub mod distances;
 pub mod joins;
 
-use worklist::lists::PAIR_LIMIT;
 use base::limits::STATE_LIMIT;
 use base::numbers::wide16;
 use joins::sweep;
 use partition::forest;
 use worklist::forks::start;
+use worklist::lists::PAIR_LIMIT;
 ghost use mathlib.Core.Path.{_≡_};
 ghost use Prim.Native.Nat.{_+_, _<_, _≤_};
 ghost use lib.ListN.{length};
@@ -23,8 +23,6 @@ ghost use Rattle.partition.specs.Forests.{Forest, rootsOf};
 ghost use Rattle.worklist.specs.Settling.{NoLists, QueueRoom};
 ghost use Rattle.contexts.specs.Climbs.{Above, Climbed, ClimbedAt, ClimbedBelow, ByRoots};
 ghost use Rattle.contexts.specs.Rounds.{RoundReady};
-
-// No partition has more states.
 
 // Joins the groups of the ancestors of v and w, the first of each, the second, and so on up to the m-th.
 fn climb(m: usize, parents: &[u16], groups: &mut [u16], v: usize, w: usize)

@@ -1,14 +1,10 @@
 // The reader of books and tables: fields in file order, each judged by the refusals that concern it, nothing copied. What is accepted
 // stays where it is, and a Place says where: specs/Places has the file that a place stands for.
-pub mod limits;
 pub mod offsets;
 
-use judging::classes::class_fault;
-use judging::names::name_fault;
-use judging::rows::row_fault;
-use judging::states::state_fault;
 use base::limits::CLASS_MARK;
 use base::limits::CLASS_MET;
+use base::limits::CONTEXT_KIND;
 use base::limits::CUT_OFF;
 use base::limits::ITEMS_MET;
 use base::limits::MISPLACED;
@@ -18,13 +14,17 @@ use base::limits::NAMES_MET;
 use base::limits::ROW_MARK;
 use base::limits::STATE_MARK;
 use base::limits::UNFINISHED;
+use judging::classes::class_fault;
+use judging::names::name_fault;
+use judging::rows::row_fault;
+use judging::states::state_fault;
 use offsets::body;
 use offsets::body_len;
 use offsets::next_field;
 ghost use mathlib.Core.Path.{_≡_};
 ghost use Prim.Native.Nat.{_≤_, _<_};
 ghost use lib.ListN.{length};
-ghost use Rattle.base.specs.Limits.{state-limit};
+ghost use Rattle.base.specs.Limits.{state-limit, names-met, class-met};
 ghost use Rattle.model.specs.Fields.{class-of, default-class};
 ghost use Rattle.fields.specs.Places.{withItem, Sound, Whole, NameStep, ClassStep, RowStep, StateStep, FieldStep, Turned, ReadAs};
 
@@ -63,7 +63,7 @@ pub enum Fields {
 // A name field, where a name may come: the place after it, or what refuses it.
 fn name_field(s: &[u8], p: Place) -> Step
     requires { ⌜ Whole (now s) p ⌝ }
-    requires { ⌜ p .stage ≤ 1 ⌝ }
+    requires { ⌜ p .stage ≤ names-met ⌝ }
     ensures { λ r. ⌜ NameStep (now (s .entry)) p r ⌝ }
 {
     let at = p.at;
@@ -92,7 +92,7 @@ fn name_field(s: &[u8], p: Place) -> Step
 // A class field, where the class may come: the place after it, or what refuses it.
 fn class_field(s: &[u8], p: Place) -> Step
     requires { ⌜ Whole (now s) p ⌝ }
-    requires { ⌜ p .stage ≤ 2 ⌝ }
+    requires { ⌜ p .stage ≤ class-met ⌝ }
     ensures { λ r. ⌜ ClassStep (now (s .entry)) p r ⌝ }
 {
     let at = p.at;
@@ -255,5 +255,5 @@ pub fn read_with(s: &[u8], is_table: bool, kind: u8, first: u8, second: u8) -> F
 pub fn read_fields(s: &[u8], is_table: bool) -> Fields
     ensures { λ r. ⌜ ReadAs default-class «is_table» (now (s .entry)) r ⌝ }
 {
-    read_with(s, is_table, 0, 2, 1)
+    read_with(s, is_table, CONTEXT_KIND, 2, 1)
 }

@@ -72,7 +72,7 @@ module _ (n : ℕ) (parents names : List ℕ) (arrays : Arrays n parents names) 
           suffix-up n parents names arrays j 1 v w cut in
           let below : getD keys v 0 < name-limit =
           subst (λ (x : ℕ). x < name-limit) (sym (above .above v hv))
-          (arrays .name-below (up parents j v) (top .0) (up-below n parents names arrays j v hv)) in
+          (arrays .name-below (up parents j v) (top .0) (up-below n parents (parent-below n parents names arrays) j v hv)) in
           step-back keys groups closed v w hv hw below (above .above v hv ∙ top .2 ∙ sym (above .above w hw)) one
 
   pub last-keys :

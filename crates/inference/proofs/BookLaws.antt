@@ -202,6 +202,6 @@ module _ (s : List ℕ) (p : Place) (at : BookAt s p) (bytes : (i : ℕ) → i <
             omega (
               arith,
               length-names s p (at .read .kept .sound),
-              tells-allBelow (length (fileOf s p .names)) row .fact (keeps .rows-below row m) (getD row i 0) (nth-in row i h),
+              tells-allBelow (length (fileOf s p .names)) row .fact (keeps .rows-below row m) (getD row i 0) (nth-in 0 row i h),
             );
       }

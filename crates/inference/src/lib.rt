@@ -2,7 +2,9 @@
 // written before it is known that the table fits.
 pub mod classes;
 
+use base::limits::OUTPUT_TOO_SHORT;
 use base::limits::STATE_LIMIT;
+use base::limits::TREE_TOO_LARGE;
 use fields::Place;
 use prefix_tree::Tree;
 use prefix_tree::add_rows;
@@ -19,11 +21,6 @@ ghost use Rattle.fields.specs.Places.{fileOf};
 ghost use Rattle.writing.specs.Writing.{Put};
 ghost use Rattle.inference.specs.Books.{BookAt, rowsAt, classAt, namesEnd, frontBytes, TreeIn, JoinedBy};
 ghost use Rattle.inference.specs.Results.{Infers, refused-with};
-
-// The refusals of an accepted book.
-pub const TREE_TOO_LARGE: u8 = 10;
-
-pub const OUTPUT_TOO_SHORT: u8 = 13;
 
 // How many bytes a class field takes.
 const CLASS_BYTES: usize = 6;

@@ -16,19 +16,13 @@ use Rattle.model.specs.Listing.{decimal, arcText, stateLine, stateLines, listin
 use Rattle.model.specs.Calls.{bookOf}
 use Rattle.model.specs.Claims.{Accepted}
 use Rattle.model.proofs.Books.{NamesOk, accepted-book}
+use Rattle.model.proofs.WrittenLengths.{name-length}
 use Rattle.model.proofs.Writable.{Writable, arcCount}
 use Rattle.writing.proofs.Digits.{decimal-length}
 
 -- every name is within its limit
 abbrev pub NamesShort : List (List ℕ) → Type 0
 NamesShort names = (i : ℕ) → length (getD names i []) ≤ name-bytes
-
-name-length : (n : List ℕ) → nameOk n ≡ true → length n ≤ name-bytes
-unfolding nameOk
-name-length [] ok = omega arith
-name-length (b ∷ bs) ok =
-    let n = length (b ∷ bs) in
-    leb-true n name-bytes (and-eq-true-iff (leb n name-bytes) (startsName b && all continuesName bs) .0 ok .0)
 
 pub names-short : (names more : List (List ℕ)) → NamesOk names more → NamesShort more
 names-short names [] ok i = omega arith

@@ -160,7 +160,7 @@ module _ (c : Class) (rows : List Word) (groups : List ℕ) (joined : Joined c r
       low = omega (arith, states-length nodes groups (treeOf-tree rows) (joined .fits) rows)
 
       from-met : In from met
-      from-met = nth-in met p low
+      from-met = nth-in 0 met p low
 
       place-is : indexIn from met ≡ p
       place-is = index-of-nth met p (met-distinct nodes groups (treeOf-tree rows) (joined .fits)) low

@@ -35,7 +35,7 @@ use Rattle.model.proofs.Reading.{accepted-has-row, accepted-entries, re
 -- ---- what an accepted book and a like book give
 
 -- the prefix tree of an accepted book is within its limit
-accepted-tree : (s : List ℕ) → Accepted s → length (treeOf (bookOf s .items)) ≤ state-limit
+pub accepted-tree : (s : List ℕ) → Accepted s → length (treeOf (bookOf s .items)) ≤ state-limit
 unfolding bookFault
 accepted-tree s ok =
     let size = length (treeOf (bookOf s .items)) in

@@ -85,7 +85,3 @@ pub record Ker (nodes : List Word) (groups : List ℕ) (u w : Word) : Type 0 whe
 -- two words with the same f
 pub record SameF (c : Class) (u w : Word) : Type 0 where
   pub same-f : fOf c u ≡ fOf c w
-
--- no two arcs of one name leave one group
-abbrev pub Deterministic : List Transition → Type 0
-Deterministic ts = (x a y z : ℕ) → In (transition x a y) ts → In (transition x a z) ts → y ≡ z

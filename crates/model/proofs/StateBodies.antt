@@ -34,7 +34,7 @@ arcs-read zero (a ∷ arcs) h = let z : ⊥ = omega arith in absurd z
 arcs-read (suc f) (a ∷ arcs) h =
     ap₂ (λ (t : ℕ) (more : List Arc). arc (a .name) t ∷ more) (two-bytes (a .to)) (arcs-read f arcs (omega arith))
 
-accepts-read : (t : Bool) → eqb (when t 1) 1 ≡ t
+pub accepts-read : (t : Bool) → eqb (when t 1) 1 ≡ t
 accepts-read true = refl
 accepts-read false = refl
 

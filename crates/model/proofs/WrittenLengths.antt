@@ -26,7 +26,7 @@ unfolding fieldBytes
 field-length mark body = omega arith
 
 -- a name is within its limit
-name-length : (n : List ℕ) → nameOk n ≡ true → length n ≤ name-bytes
+pub name-length : (n : List ℕ) → nameOk n ≡ true → length n ≤ name-bytes
 unfolding nameOk
 name-length [] ok = omega arith
 name-length (b ∷ bs) ok =

@@ -21,7 +21,7 @@ use Rattle.model.proofs.CallLaws.{SizesBad, sizes-refuse, sizes-pass, table-siz
 use Rattle.model.proofs.Trees.{treeOf-tree}
 use Rattle.model.proofs.FirstMet.{met-few, states-length}
 use Rattle.model.proofs.Joined.{joinedGroups-joined}
-use Rattle.model.proofs.Demands.{demands}
+use Rattle.model.proofs.Demands.{demands, accepted-tree}
 use Rattle.fields.specs.Places.{fileOf, ReadAs}
 use Rattle.fields.specs.declared.Place.{Place}
 use Rattle.fields.specs.declared.Fields.the-variants as answer
@@ -37,16 +37,9 @@ table-short : (s work : List ℕ) → Accepted s → work-bytes ≤ length work 
 table-short s work ok room =
     table-sizes (bookTable (bookOf s)) work (demands .reads-back .accepted-again s work ok room) .input-fits
 
-accepted-few : (s : List ℕ) → Accepted s → length (treeOf (bookOf s .items)) ≤ state-limit
-unfolding bookFault
-accepted-few s ok =
-    let size = length (treeOf (bookOf s .items)) in
-    ltb-false state-limit size
-    (when-none (ltb state-limit size) tree-too-large (omega arith) (first-of (readFields fields.book s .number) _ ok .1))
-
 pub joins-few : (s : List ℕ) → Accepted s → joinsOf (bookOf s) ≤ state-limit
 unfolding joinsOf
-joins-few s ok = omega (arith, accepted-few s ok)
+joins-few s ok = omega (arith, accepted-tree s ok)
 
 -- a book has at most as many states as its prefix tree
 states-few : (f : File) → length (bookStates f) ≤ length (treeOf (f .items))
@@ -135,7 +128,7 @@ module _ (book work out : List ℕ) where
       let ok : Accepted book = refuses-none e few in
       record {
         length-small = table-short book work ok room;
-        states-small = omega (arith, states-few (bookOf book), accepted-few book ok);
+        states-small = omega (arith, states-few (bookOf book), accepted-tree book ok);
         joins-small = joins-few book ok;
       })
 

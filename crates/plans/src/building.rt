@@ -1,10 +1,10 @@
 // A book's table built, before the working area is cleared.
 use crate::Built;
 use crate::rewriting::refused;
+use base::limits::BAD_SIZES;
 use fields::Fields;
 use fields::read_fields;
 use inference::infer;
-use base::limits::BAD_SIZES;
 use judging::sizes::sizes_bad;
 ghost use mathlib.Core.List.{[], _∷_};
 ghost use Rattle.model.specs.Calls.{Gives};

@@ -2,14 +2,14 @@
 // whether it accepts. A child is found by its cell [state][name] of the working area, which counts only where the state that it
 // names has that parent and that name; so the area may hold anything at the start.
 use base::cells::cell;
+use base::cells::set_cell;
+use base::limits::NAME_LIMIT;
+use base::limits::STATE_LIMIT;
 use base::numbers::narrow16;
 use base::numbers::wide8;
 use base::numbers::wide16;
-use base::cells::set_cell;
 use fields::offsets::body;
 use fields::offsets::next_field;
-use base::limits::NAME_LIMIT;
-use base::limits::STATE_LIMIT;
 ghost use mathlib.Core.Path.{_≡_};
 ghost use Prim.Native.Nat.{_+_, _<_, _≤_};
 ghost use lib.ListN.{length, set};

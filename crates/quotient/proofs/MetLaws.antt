@@ -43,7 +43,7 @@ pub met-low : {n : ℕ} {met numbers : List ℕ} {count : ℕ} (seen : List ℕ)
     getD met i 0 < n
 met-low {n} {met} {numbers} {count} seen r i h =
     let counted : count ≡ length seen = r .counted in
-    subst (λ (g : ℕ). g < n) (sym (met-nth seen r i h)) (r .low (getD seen i 0) (nth-in seen i (omega arith)))
+    subst (λ (g : ℕ). g < n) (sym (met-nth seen r i h)) (r .low (getD seen i 0) (nth-in 0 seen i (omega arith)))
 
 module _ {n : ℕ} {met numbers : List ℕ} {count target : ℕ} {after : List ℕ} (r : MeetingOne n met numbers count target after) where
   -- a target with a number is met

@@ -1,8 +1,8 @@
 // The states' fields, written front to back from the arcs gathered and the numbers given.
-use crate::sets;
 use base::cells::cell;
 use base::numbers::narrow8;
 use base::numbers::wide16;
+use base::sets;
 use writing::put_arc;
 use writing::put_state;
 ghost use mathlib.Core.Path.{_≡_};

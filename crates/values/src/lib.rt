@@ -26,7 +26,13 @@ fn bucket(value: u64) -> usize
 
 // The first accepting state with the value of state v, which accepts, sought in the list of the value's bucket, where the first
 // of each value is. It asks of no state whether it accepts: whichever states are in the lists, those are the accepting ones.
-fn first_alike(values: &[u64], links: &[u16; STATE_LIMIT], heads: &[u16; STATE_LIMIT], b: usize, v: usize) -> usize
+fn first_alike(
+    values: &[u64],
+    links: &[u16; STATE_LIMIT],
+    heads: &[u16; STATE_LIMIT],
+    b: usize,
+    v: usize,
+) -> usize
     requires few { ⌜ length (now values) ≤ state-limit ⌝ }
     requires inside { ⌜ v < length (now values) ⌝ }
     requires list { ⌜ b ≡ bucketOf (getD (now values) v 0) ⌝ }
@@ -47,7 +53,13 @@ fn first_alike(values: &[u64], links: &[u16; STATE_LIMIT], heads: &[u16; STATE_L
 }
 
 // Puts state v at the end of list b where it is the first with its value.
-fn link(links: &mut [u16; STATE_LIMIT], heads: &mut [u16; STATE_LIMIT], b: usize, v: usize, first: usize)
+fn link(
+    links: &mut [u16; STATE_LIMIT],
+    heads: &mut [u16; STATE_LIMIT],
+    b: usize,
+    v: usize,
+    first: usize,
+)
     requires inside { ⌜ v < state-limit ⌝ }
     requires below { ⌜ b < state-limit ⌝ }
     ensures { λ _.

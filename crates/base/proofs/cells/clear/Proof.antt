@@ -1,12 +1,12 @@
 -- `cells::clear` meets its contract. The invariant of its loop: the first i bytes are 0, and the rest is as it came; the length
 -- is as it was. The measure is what is left of the length. Assumes nothing.
 use mathlib.Core.Path.{_≡_, refl, sym, ap, _∙_}
-use mathlib.Core.List.{List, _++_, append-nil}
+use mathlib.Core.List.{List, _++_}
 use Prim.Native.Nat.{ℕ, _-_, _≤_}
-use native.Mathlib.Nat.{le-refl}
 use native.Mathlib.Omega.{arith}
 use borrow.Author.Fill.{fill-more}
-use lib.ListN.{length, drop, set, replicate, length-set, drop-of-length-le}
+use lib.ListN.{length, drop, set, replicate, length-set}
+use Rattle.base.proofs.Fills.{filled}
 use Rattle.base.proofs.cells.clear.Statement.{statement}
 use Rattle.base.proofs.cells.clear.Tie as tie
 
@@ -43,15 +43,11 @@ loop-again c =
 same-length : tie.Need-same-length Inv-loop μ-loop
 same-length c = c .before .loop .inv .1 .0
 
--- once i is the length nothing of the old area is left
-filled : (n : ℕ) (work : List ℕ) → n ≡ length work → replicate n 0 ++ drop n work ≡ replicate (length work) 0
-filled n work e = rw (e, drop-of-length-le work (le-refl (length work)), append-nil)
-
 returns : tie.Need-returns Inv-loop μ-loop
 returns c =
     let work₀ = c .before .before .args .work .now in
     c .before .loop .inv .1 .1
-    ∙ filled (c .before .loop .i) work₀ (omega arith)
+    ∙ filled (c .before .loop .i) 0 work₀ (omega arith)
     ∙ ap (λ (n : ℕ). replicate n 0) (sym (c .before .loop .inv .1 .0))
 
 pub clear-spec : {M : Type 1} → statement M

@@ -1,8 +1,6 @@
 -- `sets::put` meets its contract. Assumes nothing.
 use mathlib.Core.Path.{ap}
-use Prim.Native.Nat.{ℕ}
-use lib.Bits.{bitOr}
-use lib.ListN.{getD, set}
+use lib.ListN.{set}
 use borrow.Author.Needs.{needs}
 use Rattle.quotient.proofs.sets.put.Statement.{statement}
 use Rattle.quotient.proofs.sets.put.Tie as tie
@@ -13,8 +11,8 @@ mul-sets c = search needs
 slice-read-sets : tie.Need-slice-read-sets
 slice-read-sets c = search needs
 
-only-requires : tie.Need-only-requires
-only-requires c κs = search needs
+with-name-requires : tie.Need-with-name-requires
+with-name-requires c κs = search needs
 
 mul-sets-2 : tie.Need-mul-sets-2
 mul-sets-2 c = search needs
@@ -28,7 +26,7 @@ same-length c = search needs
 returns : tie.Need-returns
 returns c =
     let args = c .before .before .before .args in
-    ap (λ (names : ℕ). set (args .sets .now) (args .at) (bitOr (getD (args .sets .now) (args .at) 0) names)) (c .only .ensures)
+    ap (set (args .sets .now) (args .at)) (c .with-name .ensures)
 
 pub put-spec : {M : Type 1} → statement M
 put-spec =
@@ -36,7 +34,7 @@ put-spec =
     (tie.spec
     mul-sets
     slice-read-sets
-    only-requires
+    with-name-requires
     mul-sets-2
     slice-write-sets
     same-length

@@ -1,8 +1,8 @@
 -- `sets::only` meets its contract: the shift loses no bit. Assumes nothing.
 use borrow.Author.Needs.{needs}
-use Rattle.quotient.proofs.NameSets.{shifted-one}
-use Rattle.quotient.proofs.sets.only.Statement.{statement}
-use Rattle.quotient.proofs.sets.only.Tie as tie
+use Rattle.base.proofs.Bits.{shifted-one}
+use Rattle.base.proofs.sets.only.Statement.{statement}
+use Rattle.base.proofs.sets.only.Tie as tie
 
 shl-result : tie.Need-shl-result
 shl-result c = search needs

@@ -2,8 +2,8 @@
 use borrow.Author.Needs.{needs}
 use native.Mathlib.Omega.{arith}
 use lib.Count.{ones-le}
-use Rattle.quotient.proofs.sets.how_many.Statement.{statement}
-use Rattle.quotient.proofs.sets.how_many.Tie as tie
+use Rattle.base.proofs.sets.how_many.Statement.{statement}
+use Rattle.base.proofs.sets.how_many.Tie as tie
 
 cast-result : tie.Need-cast-result
 cast-result c = omega (arith, ones-le 64 (c .args .names) (c .fits .names .fits))

@@ -2,8 +2,8 @@
 use borrow.Author.Needs.{needs}
 use native.Mathlib.Omega.{arith}
 use lib.Count.{trailing-le}
-use Rattle.quotient.proofs.sets.lowest.Statement.{statement}
-use Rattle.quotient.proofs.sets.lowest.Tie as tie
+use Rattle.base.proofs.sets.lowest.Statement.{statement}
+use Rattle.base.proofs.sets.lowest.Tie as tie
 
 cast-result : tie.Need-cast-result
 cast-result c = omega (arith, trailing-le 64 (c .args .names))
