@@ -93,8 +93,8 @@ wide16-requires-3 c κs = search needs
 
 set-cell-requires : tie.Need-set-cell-requires Inv-loop μ-loop
 set-cell-requires c κs =
-    let after-wide8 = c .before .before .before in
-    let from = after-wide8 .before .before in
+    let after-wide8 = c .before .before in
+    let from = after-wide8 .before .before .before in
     let at = here (turn from) in
     let room = turn from .before .loop .inv .1 .1 .1 .work-size in (
       omega (arith, from-is from, at .from-below, at .few),
@@ -125,8 +125,8 @@ loop-again c =
     let after-put = c .before .before in
     let after-set-cell = after-put .before .before .before .before in
     let after-wide163 = after-set-cell .before in
-    let after-wide8 = after-wide163 .before .before .before in
-    let from = after-wide8 .before .before in
+    let after-wide8 = after-wide163 .before .before in
+    let from = after-wide8 .before .before .before in
     let head = turn from .before in
     let at = entry head in
     let cells = after-set-cell .set-cell in

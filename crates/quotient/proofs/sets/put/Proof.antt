@@ -5,17 +5,17 @@ use borrow.Author.Needs.{needs}
 use Rattle.quotient.proofs.sets.put.Statement.{statement}
 use Rattle.quotient.proofs.sets.put.Tie as tie
 
-mul-sets : tie.Need-mul-sets
-mul-sets c = search needs
+mul-with-name : tie.Need-mul-with-name
+mul-with-name c = search needs
 
-slice-read-sets : tie.Need-slice-read-sets
-slice-read-sets c = search needs
+slice-read-with-name : tie.Need-slice-read-with-name
+slice-read-with-name c = search needs
 
 with-name-requires : tie.Need-with-name-requires
 with-name-requires c κs = search needs
 
-mul-sets-2 : tie.Need-mul-sets-2
-mul-sets-2 c = search needs
+mul-sets : tie.Need-mul-sets
+mul-sets c = search needs
 
 slice-write-sets : tie.Need-slice-write-sets
 slice-write-sets c = search needs
@@ -32,10 +32,10 @@ pub put-spec : {M : Type 1} → statement M
 put-spec =
     tie.close
     (tie.spec
-    mul-sets
-    slice-read-sets
+    mul-with-name
+    slice-read-with-name
     with-name-requires
-    mul-sets-2
+    mul-sets
     slice-write-sets
     same-length
     returns)
