@@ -1,6 +1,6 @@
 #!/usr/bin/env python3
 """Compares include/plans.h with the library: its functions with the symbols of libplans.a and with the extern "C" functions of
-crates/plans/src/lib.rt, its structs with the #[repr(C)] structs there, its sizes with the constants of src/limits.rt in judging and
+crates/plans/src/lib.rt, its structs with the #[repr(C)] structs there, its sizes with the constants of src/limits.rt in base and
 plans.
 The last line is 'N passed, M failed'."""
 import re
@@ -69,7 +69,7 @@ def exported_symbols(library):
 def main():
     header = re.sub(r"/\*.*?\*/", "", (ROOT / "include/plans.h").read_text(), flags=re.S)
     source = (ROOT / "crates/plans/src/lib.rt").read_text()
-    limits = "".join((ROOT / "crates" / crate / "src/limits.rt").read_text() for crate in ("judging", "plans"))
+    limits = "".join((ROOT / "crates" / crate / "src/limits.rt").read_text() for crate in ("base", "plans"))
     functions, structs, sizes = header_functions(header), header_structs(header), header_sizes(header)
     checks = [
         ("functions declared and symbols exported", set(functions), exported_symbols(sys.argv[1])),

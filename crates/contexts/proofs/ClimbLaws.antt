@@ -7,11 +7,11 @@ use mathlib.Core.List.{List}
 use Prim.Native.Nat.{ℕ, zero, suc, _+_, _<_, _≤_}
 use native.Mathlib.Omega.{arith}
 use lib.ListN.{getD}
-use Rattle.model.proofs.Tests.{eq-dec}
+use Rattle.base.proofs.Tests.{eq-dec}
 use Rattle.indexed.specs.Trees.{Arrays, SameSuffix, up}
 use Rattle.indexed.specs.Partitions.{Refines, Labelled, ForkClosed, ContextClosed}
 use Rattle.indexed.specs.Passes.{BySuffix, ContextJoined}
-use Rattle.indexed.proofs.Suffixes.{up-parent, parent-below, climb-sound, suffix-cast}
+use Rattle.indexed.proofs.Suffixes.{up-below, up-parent, parent-below, climb-sound, suffix-cast}
 use Rattle.indexed.proofs.Contexts.{suffix-closed, climbed-closed}
 use Rattle.partition.specs.Joins.{JoinedTwo}
 use Rattle.contexts.specs.Climbs.{Above, Upward, StepsJoined, ParentsJoined, Climbed, ClimbedAt, ClimbedBelow}
@@ -62,9 +62,7 @@ module _ (n m : ℕ) (parents : List ℕ) (above : Above n parents) where
 
   -- ancestors are states
   up-inside : (i v : ℕ) → v < n → up parents i v < n
-  unfolding up
-  up-inside zero v h = h
-  up-inside (suc i) v h = up-inside i (getD parents v 0) (above .below v h)
+  up-inside = up-below n parents (above .below)
 
   module _ (v w i a b x y : ℕ) (groups now-groups next-groups : List ℕ) (joined : Bool) (hv : v < n) (hw : w < n) (left : i < m)
       (x-is : x ≡ getD parents a 0) (y-is : y ≡ getD parents b 0) (climbing : Climbing n m parents v w i a b groups now-groups)

@@ -7,11 +7,11 @@ use mathlib.Core.List.{List}
 use Prim.Native.Nat.{ℕ, zero, suc, _+_, _<_, _≤_}
 use native.Mathlib.Omega.{arith}
 use lib.ListN.{getD}
-use Rattle.model.specs.Lists.{numbersFrom}
+use Rattle.base.specs.Lists.{numbersFrom}
 use Rattle.indexed.specs.Trees.{Arrays, SameSuffix, up}
 use Rattle.indexed.specs.Partitions.{Refines, Share, ContextClosed}
 use Rattle.indexed.specs.Passes.{BySuffix}
-use Rattle.indexed.proofs.Keys.{number-at}
+use Rattle.base.proofs.Places.{number-at}
 use Rattle.indexed.proofs.Suffixes.{parent-below, up-parent, suffix-cast}
 use Rattle.contexts.specs.Climbs.{ClimbedBelow}
 use Rattle.contexts.specs.Distances.{Tested, Spread, SpreadAt, distanceOf}

@@ -5,9 +5,9 @@ use mathlib.Core.List.{List}
 use Prim.Native.Nat.{ℕ, _+_, _*_, _<_}
 use lib.Bits.{bitAnd}
 use lib.ListN.{getD}
-use Rattle.model.specs.Limits.{name-limit}
+use Rattle.base.specs.Limits.{name-limit}
 use Rattle.indexed.specs.Partitions.{Share}
-use Rattle.indexed.proofs.Bits.{bit}
+use Rattle.base.specs.Bits.{bit}
 use Rattle.contexts.specs.Sweeps.{Linked}
 
 -- the low two bits of a name

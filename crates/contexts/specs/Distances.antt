@@ -7,7 +7,7 @@ use mathlib.Core.Bool.{Bool, true, false}
 use mathlib.Core.List.{List}
 use Prim.Native.Nat.{ℕ, _+_, _<_, _≤_}
 use lib.ListN.{length, getD}
-use Rattle.model.specs.Limits.{state-limit}
+use Rattle.base.specs.Limits.{state-limit}
 use Rattle.indexed.specs.Trees.{SameSuffix}
 use Rattle.indexed.specs.Partitions.{Labelled, Share, sum}
 use Rattle.contexts.specs.Climbs.{Above}

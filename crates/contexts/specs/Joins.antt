@@ -8,8 +8,8 @@ use mathlib.Core.List.{List}
 use Prim.Native.Nat.{ℕ, _+_, _<_, _≤_}
 use lib.Bits.{bitAnd}
 use lib.ListN.{length, getD}
-use Rattle.model.specs.Limits.{state-limit}
-use Rattle.model.specs.Lists.{numbersFrom}
+use Rattle.base.specs.Limits.{state-limit}
+use Rattle.base.specs.Lists.{numbersFrom}
 use Rattle.indexed.specs.Trees.{Arrays}
 use Rattle.indexed.specs.Partitions.{Refines, Labelled, ForkClosed, Share, SuffixAgree, sum}
 use Rattle.indexed.specs.Passes.{SuffixClasses, Swept}

@@ -1,12 +1,12 @@
 // Which two names in succession lead on from each group, as a set of 16 bits. A name counts by its low two bits, so that groups
 // whose sets have no bit in common have no two names in common that lead on; a bit in common tells nothing. An arc goes by the
 // state that it leads into.
-use crate::STATE_LIMIT;
-use cells::numbers::wide16;
+use base::limits::STATE_LIMIT;
+use base::numbers::wide16;
 ghost use mathlib.Core.Path.{_≡_};
 ghost use Prim.Native.Nat.{ℕ, _<_};
 ghost use lib.ListN.{length, getD};
-ghost use Rattle.model.specs.Limits.{state-limit};
+ghost use Rattle.base.specs.Limits.{state-limit};
 ghost use Rattle.indexed.specs.Trees.{Arrays};
 ghost use Rattle.indexed.specs.Partitions.{Labelled};
 ghost use Rattle.contexts.specs.Ahead.{LowNames, LeadOnBelow, AheadOf};

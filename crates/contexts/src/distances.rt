@@ -1,8 +1,8 @@
 // How near each group is to one that has grown since an earlier partition, in arcs: from there on the names that lead on may be
 // others than they were. A group goes by its label, an arc by the state that it leads into.
-use crate::STATE_LIMIT;
-use cells::numbers::narrow8;
-use cells::numbers::wide16;
+use base::limits::STATE_LIMIT;
+use base::numbers::narrow8;
+use base::numbers::wide16;
 ghost use Prim.Native.Nat.{_<_, _≤_};
 ghost use lib.ListN.{length};
 ghost use Rattle.contexts.specs.Distances.{Spread, SpreadAt, SpreadFrom, Marking, MarkedAt, MarkedBelow, Lowering, Lowered};

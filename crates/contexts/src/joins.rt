@@ -1,21 +1,22 @@
 // The comparisons of a sweep, and the joins that they lead to. Each arc is compared with those further down its chain; where m - 1
 // names in succession lead on after both, their sources are joined, and forks are closed at once, so that what comes later is
 // looked for among groups that are as large as they can be. The chains stay those of the groups at the beginning of the sweep.
-use crate::STATE_LIMIT;
 use crate::ahead::names_ahead;
 use crate::chains::link_arcs;
 use crate::chains::link_far;
 use crate::distances::distances;
-use cells::numbers::wide16;
+use base::limits::STATE_LIMIT;
+use base::numbers::wide16;
 use partition::forest;
 use worklist::forks::join_two;
+use worklist::lists::PAIR_LIMIT;
 use worklist::search::lead_on;
 ghost use mathlib.Core.Path.{_≡_};
 ghost use mathlib.Core.Bool.{true};
 ghost use Prim.Native.Nat.{_<_, _≤_};
 ghost use lib.ListN.{length};
-ghost use Rattle.model.specs.Limits.{setting-limit, state-limit};
-ghost use Rattle.model.specs.Lists.{numbersFrom};
+ghost use Rattle.base.specs.Limits.{setting-limit, state-limit};
+ghost use Rattle.base.specs.Lists.{numbersFrom};
 ghost use Rattle.indexed.specs.Trees.{Arrays};
 ghost use Rattle.indexed.specs.Partitions.{Refines, Labelled};
 ghost use Rattle.partition.specs.Forests.{rootsOf};
@@ -52,10 +53,10 @@ fn join_pair(
     next: &[u64],
     ahead: &[u16; STATE_LIMIT],
     groups: &mut [u16],
-    arclinks: &mut [u16; 512],
-    archeads: &mut [u16; 512],
-    firsts: &mut [u16; 1536],
-    seconds: &mut [u16; 1536],
+    arclinks: &mut [u16; STATE_LIMIT],
+    archeads: &mut [u16; STATE_LIMIT],
+    firsts: &mut [u16; PAIR_LIMIT],
+    seconds: &mut [u16; PAIR_LIMIT],
 ) -> bool
     requires comparing { ⌜ Comparing (length (now groups)) j (now parents) (now names) (now numbers) (now old) (now next)
         (now ahead) ⌝ }
@@ -111,10 +112,10 @@ fn join_chain(
     ahead: &[u16; STATE_LIMIT],
     links: &[u16],
     groups: &mut [u16],
-    arclinks: &mut [u16; 512],
-    archeads: &mut [u16; 512],
-    firsts: &mut [u16; 1536],
-    seconds: &mut [u16; 1536],
+    arclinks: &mut [u16; STATE_LIMIT],
+    archeads: &mut [u16; STATE_LIMIT],
+    firsts: &mut [u16; PAIR_LIMIT],
+    seconds: &mut [u16; PAIR_LIMIT],
 ) -> bool
     requires comparing { ⌜ Comparing (length (now groups)) j (now parents) (now names) (now numbers) (now old) (now next)
         (now ahead) ⌝ }
@@ -167,10 +168,10 @@ fn sweep_pairs(
     ahead: &[u16; STATE_LIMIT],
     links: &[u16],
     groups: &mut [u16],
-    arclinks: &mut [u16; 512],
-    archeads: &mut [u16; 512],
-    firsts: &mut [u16; 1536],
-    seconds: &mut [u16; 1536],
+    arclinks: &mut [u16; STATE_LIMIT],
+    archeads: &mut [u16; STATE_LIMIT],
+    firsts: &mut [u16; PAIR_LIMIT],
+    seconds: &mut [u16; PAIR_LIMIT],
 ) -> bool
     requires comparing { ⌜ Comparing (length (now groups)) j (now parents) (now names) (now numbers) (now old) (now next)
         (now ahead) ⌝ }
@@ -220,10 +221,10 @@ pub fn sweep(
     classes: &[u16],
     before: &mut [u16],
     groups: &mut [u16],
-    arclinks: &mut [u16; 512],
-    archeads: &mut [u16; 512],
-    firsts: &mut [u16; 1536],
-    seconds: &mut [u16; 1536],
+    arclinks: &mut [u16; STATE_LIMIT],
+    archeads: &mut [u16; STATE_LIMIT],
+    firsts: &mut [u16; PAIR_LIMIT],
+    seconds: &mut [u16; PAIR_LIMIT],
 ) -> bool
     requires arrays { ⌜ Arrays (length (now groups)) (now parents) (now names) ⌝ }
     requires own { ⌜ now numbers ≡ numbersFrom (length (now groups)) 0 ⌝ }

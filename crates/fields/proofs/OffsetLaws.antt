@@ -6,7 +6,7 @@ use Prim.Native.Nat.{ℕ, zero, suc, _+_, _*_, _-_, _≤_, _<_}
 use native.Mathlib.Omega.{arith}
 use lib.ListN.{length, getD, take, drop, length-take, length-drop}
 use lib.Seq.{getD-drop, drop-drop}
-use Rattle.model.specs.Lists.{lastOr}
+use Rattle.base.specs.Lists.{lastOr}
 use Rattle.fields.specs.Offsets.{lengthAt, bodyAt, nextAt, offsetAt, fieldsAt}
 
 -- the stated length, as two bytes at their offsets

@@ -9,8 +9,8 @@ use native.Mathlib.Omega.{arith}
 use borrow.Author.Tests.{leb-false, eqb-true, not-false}
 use lib.Dec.{leb, eqb}
 use lib.ListN.{length, getD, take, drop}
-use Rattle.model.specs.Lists.{lastOr}
-use Rattle.model.specs.Limits.{name-limit, book-rows, state-limit, when, firstOf}
+use Rattle.base.specs.Lists.{lastOr}
+use Rattle.base.specs.Limits.{name-limit, book-rows, state-limit, when, firstOf}
 use Rattle.model.specs.Fields.{File, nameOk, above, settingsOk, classOk, nameFault, classFault, rowFault, stateFault, withField}
 use Rattle.fields.specs.Offsets.{lengthAt, bodyAt, nextAt, offsetAt, fieldsAt}
 use Rattle.judging.specs.Judged.{NameJudged, RowJudged, StateJudged}

@@ -12,14 +12,14 @@ use lib.ListN.{length, getD, drop, length-drop, drop-of-length-le}
 use lib.Seq.{getD-drop, drop-drop}
 use Rattle.model.specs.Fields.{FileKind, File, refused, atEnd, fieldFault, withField, runsPast, bodyOf, afterField, statedLength}
 use Rattle.model.specs.Fields.{Settings, readFrom, readWith}
-use Rattle.model.specs.Lists.{lastOr}
+use Rattle.base.specs.Lists.{lastOr}
 use Rattle.fields.specs.Offsets.{lengthAt, bodyAt, nextAt, offsetAt, fieldsAt}
 use Rattle.fields.specs.Places.{fileOf, Sound, FieldStep, Turned, Goes, Refuses, Finished, ReadAs}
 use Rattle.fields.specs.declared.Place.{Place}
 use Rattle.fields.specs.declared.Step.{Step}
 use Rattle.fields.specs.declared.Step.the-variants.{Go, Refused}
 use Rattle.fields.specs.declared.Fields.the-variants as answer
-use Rattle.model.specs.Limits.{cut-off, unfinished}
+use Rattle.base.specs.Limits.{cut-off, unfinished}
 
 -- the definition, over the bytes that are left: at the end, past the end, refused, and going on
 read-end : (l : ℕ) (kind : FileKind) (f : File) → readFrom (suc l) kind f [] ≡ atEnd f

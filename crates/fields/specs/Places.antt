@@ -4,8 +4,9 @@ use mathlib.Core.Path.{_≡_}
 use mathlib.Core.List.{List, []}
 use Prim.Native.Nat.{ℕ, suc, _+_, _≤_, _<_}
 use lib.ListN.{length, getD, take, drop}
-use Rattle.model.specs.Lists.{lastOr}
-use Rattle.model.specs.Limits.{name-limit, state-limit}
+use Rattle.base.specs.Lists.{lastOr}
+use Rattle.base.specs.Limits.{name-limit, state-limit, names-met, class-met, items-met}
+use Rattle.base.specs.Limits.{name-mark, class-mark, row-mark, state-mark}
 use Rattle.model.specs.Fields.{class-of, Settings, standard, table, File, file, FileKind, Read, refused, accepted-file, readFrom}
 use Rattle.model.specs.Fields.{readWith, nameFault, classFault, rowFault, stateFault, fieldFault, withField}
 use Rattle.fields.specs.Offsets.{bodyAt, nextAt, offsetAt, fieldsAt}
@@ -26,7 +27,7 @@ abbrev pub withItem : Place → ℕ → Place
 withItem p next =
     record {
       at = next;
-      stage = 3;
+      stage = items-met;
       names = p .names;
       last = p .last;
       width = p .width;
@@ -44,12 +45,12 @@ pub record Sound (s : List ℕ) (p : Place) : Type 0 where
   pub few-names : p .names ≤ name-limit
   pub few-items : p .items ≤ state-limit
   pub names-within : offsetAt s 0 (p .names) ≤ p .at
-  pub names-end : p .stage ≤ 1 → offsetAt s 0 (p .names) ≡ p .at
+  pub names-end : p .stage ≤ names-met → offsetAt s 0 (p .names) ≡ p .at
   pub last-end : p .last + p .width ≡ offsetAt s 0 (p .names)
   pub last-is : lastOr [] (fieldsAt s 0 (p .names)) ≡ take (p .width) (drop (p .last) s)
   pub items-end : offsetAt s (p .start) (p .items) ≡ p .at
-  pub no-items : p .stage ≤ 2 → p .items ≡ 0
-  pub some-items : 3 ≤ p .stage → 1 ≤ p .items
+  pub no-items : p .stage ≤ class-met → p .items ≡ 0
+  pub some-items : items-met ≤ p .stage → 1 ≤ p .items
 
 -- a sound place whose next field does not run past the end
 pub record Whole (s : List ℕ) (p : Place) : Type 0 where
@@ -74,18 +75,18 @@ Stepped s p fault grown (step.Refused k) = Faulty fault k
 -- the field at a place, judged as a name, a class, a row or a state
 abbrev pub NameStep : List ℕ → Place → Step → Type 0
 NameStep s p r =
-    Stepped s p (nameFault (fileOf s p) (bodyAt s (p .at))) (withField (fileOf s p) 1 (bodyAt s (p .at))) r
+    Stepped s p (nameFault (fileOf s p) (bodyAt s (p .at))) (withField (fileOf s p) name-mark (bodyAt s (p .at))) r
 
 abbrev pub ClassStep : List ℕ → Place → Step → Type 0
-ClassStep s p r = Stepped s p (classFault (bodyAt s (p .at))) (withField (fileOf s p) 2 (bodyAt s (p .at))) r
+ClassStep s p r = Stepped s p (classFault (bodyAt s (p .at))) (withField (fileOf s p) class-mark (bodyAt s (p .at))) r
 
 abbrev pub RowStep : List ℕ → Place → Step → Type 0
 RowStep s p r =
-    Stepped s p (rowFault (fileOf s p) (bodyAt s (p .at))) (withField (fileOf s p) 3 (bodyAt s (p .at))) r
+    Stepped s p (rowFault (fileOf s p) (bodyAt s (p .at))) (withField (fileOf s p) row-mark (bodyAt s (p .at))) r
 
 abbrev pub StateStep : List ℕ → Place → Step → Type 0
 StateStep s p r =
-    Stepped s p (stateFault (fileOf s p) (bodyAt s (p .at))) (withField (fileOf s p) 4 (bodyAt s (p .at))) r
+    Stepped s p (stateFault (fileOf s p) (bodyAt s (p .at))) (withField (fileOf s p) state-mark (bodyAt s (p .at))) r
 
 -- the field at a place, judged by its mark
 abbrev pub FieldStep : FileKind → List ℕ → Place → Step → Type 0
@@ -117,7 +118,7 @@ answerOf s (fields.Refused k) = refused k
 pub record Finished (s : List ℕ) (p : Place) : Type 0 where
   pub sound : Sound s p
   pub at-end : p .at ≡ length s
-  pub met : p .stage ≡ 3
+  pub met : p .stage ≡ items-met
 
 -- the place of an accepted file is finished, and a refusal is not 0
 abbrev pub Kept : List ℕ → Fields → Type 0

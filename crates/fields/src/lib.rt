@@ -1,30 +1,30 @@
 // The reader of books and tables: fields in file order, each judged by the refusals that concern it, nothing copied. What is accepted
 // stays where it is, and a Place says where: specs/Places has the file that a place stands for.
-pub mod limits;
 pub mod offsets;
 
+use base::limits::CLASS_MARK;
+use base::limits::CLASS_MET;
+use base::limits::CONTEXT_KIND;
+use base::limits::CUT_OFF;
+use base::limits::ITEMS_MET;
+use base::limits::MISPLACED;
+use base::limits::NAME_DUE;
+use base::limits::NAME_MARK;
+use base::limits::NAMES_MET;
+use base::limits::ROW_MARK;
+use base::limits::STATE_MARK;
+use base::limits::UNFINISHED;
 use judging::classes::class_fault;
 use judging::names::name_fault;
 use judging::rows::row_fault;
 use judging::states::state_fault;
-use limits::CLASS_MARK;
-use limits::CLASS_MET;
-use limits::CUT_OFF;
-use limits::ITEMS_MET;
-use limits::MISPLACED;
-use limits::NAME_DUE;
-use limits::NAME_MARK;
-use limits::NAMES_MET;
-use limits::ROW_MARK;
-use limits::STATE_MARK;
-use limits::UNFINISHED;
 use offsets::body;
 use offsets::body_len;
 use offsets::next_field;
 ghost use mathlib.Core.Path.{_≡_};
 ghost use Prim.Native.Nat.{_≤_, _<_};
 ghost use lib.ListN.{length};
-ghost use Rattle.model.specs.Limits.{state-limit};
+ghost use Rattle.base.specs.Limits.{state-limit, names-met, class-met};
 ghost use Rattle.fields.specs.Places.{withItem, Sound, Whole, NameStep, ClassStep, RowStep, StateStep, FieldStep, Turned};
 ghost use Rattle.fields.specs.Places.{settingsOf, ReadAs, TableReadAs};
 
@@ -57,7 +57,7 @@ pub struct Settings {
 
 // The settings of document 01: context, k = 2, h = 1.
 pub const STANDARD: Settings = Settings {
-    kind: 0,
+    kind: CONTEXT_KIND,
     first: 2,
     second: 1,
 };
@@ -77,7 +77,7 @@ pub enum Fields {
 // A name field, where a name may come: the place after it, or what refuses it.
 fn name_field(s: &[u8], p: Place) -> Step
     requires { ⌜ Whole (now s) p ⌝ }
-    requires { ⌜ p .stage ≤ 1 ⌝ }
+    requires { ⌜ p .stage ≤ names-met ⌝ }
     ensures { λ r. ⌜ NameStep (now (s .entry)) p r ⌝ }
 {
     let at = p.at;
@@ -106,7 +106,7 @@ fn name_field(s: &[u8], p: Place) -> Step
 // A class field, where the class may come: the place after it, or what refuses it.
 fn class_field(s: &[u8], p: Place) -> Step
     requires { ⌜ Whole (now s) p ⌝ }
-    requires { ⌜ p .stage ≤ 2 ⌝ }
+    requires { ⌜ p .stage ≤ class-met ⌝ }
     ensures { λ r. ⌜ ClassStep (now (s .entry)) p r ⌝ }
 {
     let at = p.at;

@@ -1,19 +1,17 @@
 // Keys of arcs for passes against them: names by whether the seen set grows.
-use cells::numbers;
+use base::limits::NAME_LIMIT;
+use base::numbers;
 ghost use mathlib.Core.Path.{_≡_};
 ghost use mathlib.Core.Bool.{true, false};
 ghost use Prim.Native.Nat.{_^_, _<_};
 ghost use lib.Bits.{bitOr};
 ghost use lib.ListN.{length};
-ghost use Rattle.model.specs.Limits.{name-limit};
+ghost use Rattle.base.specs.Limits.{name-limit};
 ghost use Rattle.indexed.specs.Trees.{Arrays};
 ghost use Rattle.indexed.specs.Passes.{SeenSets, KeysWhere};
 ghost use Rattle.functions.specs.Parts.{keyWhere, KeyAt};
 
-// A key of this or more is none.
-const NAME_LIMIT: u8 = 64;
-
-// The keys of one arc among the arcs that enlarge the seen set, and among the others; 64, no key, at one of the two.
+// The keys of one arc among the arcs that enlarge the seen set, and among the others; NAME_LIMIT, no key, at one of the two.
 pub struct Keys {
     pub enlarging: u8,
     pub others: u8,

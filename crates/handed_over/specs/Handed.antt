@@ -6,7 +6,7 @@ use mathlib.Core.Bool.{true}
 use mathlib.Core.List.{List}
 use Prim.Native.Nat.{ℕ}
 use lib.ListN.{take}
-use Rattle.model.specs.Lists.{hasRow}
+use Rattle.base.specs.Lists.{hasRow}
 use Rattle.model.specs.Fields.{Settings, Allowed, File}
 use Rattle.model.specs.Tables.{admits}
 use Rattle.model.specs.Classes.{Word, InClass}

@@ -9,7 +9,7 @@ use Prim.Native.Nat.{ℕ, _+_, _^_, _<_, _≤_}
 use lib.Dec.{eqb}
 use lib.Bits.{bitOr}
 use lib.ListN.{length, getD}
-use Rattle.model.specs.Limits.{name-limit, state-limit}
+use Rattle.base.specs.Limits.{name-limit, state-limit}
 use Rattle.indexed.specs.Trees.{SameSuffix, up}
 use Rattle.indexed.specs.Partitions.{Refines, Labelled, ForkClosed, ContextClosed, EndsClosed, BackClosed, sum}
 

@@ -10,7 +10,7 @@ use native.Mathlib.Omega.{arith}
 use lib.Dec.{leb}
 use lib.ListN.{length, getD, take, length-append}
 use lib.Seq.{take-at}
-use Rattle.model.specs.Limits.{row-limit}
+use Rattle.base.specs.Limits.{row-limit}
 use Rattle.model.specs.Fields.{Class, ClassOk, File, unread, book, readWith, withField, classOk, settingsOk, allBelow}
 use Rattle.model.specs.Tables.{fieldBytes, nameFields}
 use Rattle.model.proofs.FieldLaws.{RowFits, Fitting, a-name, a-class, a-row, a-state, fitting, class-parts}
@@ -18,7 +18,7 @@ use Rattle.model.proofs.Turns.{read-keeps}
 use Rattle.model.proofs.StateBodies.{Bytes}
 use Rattle.model.proofs.Rewriting.{bytes-of}
 use Rattle.model.proofs.Books.{tells-allBelow}
-use Rattle.model.proofs.Places.{nth-in}
+use Rattle.base.proofs.Places.{nth-in}
 use Rattle.fields.specs.Offsets.{bodyAt, nextAt, offsetAt, fieldsAt}
 use Rattle.fields.specs.Places.{fileOf}
 use Rattle.fields.specs.declared.Place.{Place}
@@ -202,6 +202,6 @@ module _ (s : List ℕ) (p : Place) (at : BookAt s p) (bytes : (i : ℕ) → i <
             omega (
               arith,
               length-names s p (at .read .kept .sound),
-              tells-allBelow (length (fileOf s p .names)) row .fact (keeps .rows-below row m) (getD row i 0) (nth-in row i h),
+              tells-allBelow (length (fileOf s p .names)) row .fact (keeps .rows-below row m) (getD row i 0) (nth-in 0 row i h),
             );
       }

@@ -8,14 +8,14 @@ use native.Mathlib.Omega.{arith}
 use borrow.Author.Tests.{le-ltb}
 use lib.Dec.{leb}
 use lib.ListN.{length, length-append}
-use Rattle.model.specs.Limits.{state-limit, tree-too-large, output-too-short, when}
+use Rattle.base.specs.Limits.{state-limit, tree-too-large, output-too-short, when}
 use Rattle.model.specs.Fields.{File}
 use Rattle.model.specs.Tables.{nameFields, classField, stateFields, tableBytes}
 use Rattle.model.specs.Joinings.{treeOf}
 use Rattle.model.specs.Quotients.{bookStates, bookTable}
 use Rattle.model.specs.Calls.{over, treeFault, joinsOf}
 use Rattle.model.proofs.CallLaws.{call-refused, call-one-short, call-one-wrote}
-use Rattle.model.proofs.Tests.{same-tests, tells-leb}
+use Rattle.base.proofs.Tests.{same-tests, tells-leb}
 use Rattle.inference.specs.Books.{frontBytes}
 use Rattle.inference.specs.Results.{refused-with, inferring, Infers}
 

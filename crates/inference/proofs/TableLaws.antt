@@ -14,7 +14,7 @@ use Rattle.model.specs.Tables.{State, stateFields}
 use Rattle.model.specs.Classes.{Word}
 use Rattle.model.specs.Joinings.{treeOf}
 use Rattle.model.specs.Quotients.{statesOf, bookStates, bookTable}
-use Rattle.model.specs.Limits.{output-too-short}
+use Rattle.base.specs.Limits.{output-too-short}
 use Rattle.model.specs.Calls.{over, joinsOf}
 use Rattle.model.proofs.Notions.{Fits}
 use Rattle.model.proofs.Trees.{treeOf-tree}

@@ -4,7 +4,7 @@ use mathlib.Core.Path.{_≡_}
 use mathlib.Core.List.{List, _++_}
 use Prim.Native.Nat.{ℕ, _+_, _≤_}
 use lib.ListN.{length}
-use Rattle.model.specs.Limits.{state-limit}
+use Rattle.base.specs.Limits.{state-limit}
 use Rattle.model.specs.Fields.{Class, class-of, Settings, Allowed, File, book}
 use Rattle.model.specs.Classes.{Word}
 use Rattle.model.specs.Tables.{nameFields, classField}

@@ -2,6 +2,9 @@
 // written before it is known that the table fits.
 pub mod classes;
 
+use base::limits::OUTPUT_TOO_SHORT;
+use base::limits::STATE_LIMIT;
+use base::limits::TREE_TOO_LARGE;
 use fields::Place;
 use prefix_tree::Tree;
 use prefix_tree::add_rows;
@@ -13,16 +16,11 @@ ghost use mathlib.Core.Path.{_≡_};
 ghost use Prim.Native.Nat.{_+_, _≤_};
 ghost use lib.Dec.{leb};
 ghost use lib.ListN.{length};
-ghost use Rattle.model.specs.Limits.{input-limit, work-bytes};
+ghost use Rattle.base.specs.Limits.{input-limit, work-bytes};
 ghost use Rattle.fields.specs.Places.{fileOf};
 ghost use Rattle.writing.specs.Writing.{Put};
 ghost use Rattle.inference.specs.Books.{BookAt, rowsAt, classAt, namesEnd, frontBytes, TreeIn, JoinedBy};
 ghost use Rattle.inference.specs.Results.{Infers, refused-with};
-
-// The refusals of an accepted book.
-pub const TREE_TOO_LARGE: u8 = 10;
-
-pub const OUTPUT_TOO_SHORT: u8 = 13;
 
 // How many bytes a class field takes.
 const CLASS_BYTES: usize = 6;
@@ -84,10 +82,10 @@ fn write_joined(
     requires { ⌜ JoinedBy (classAt place) (rowsAt (now book) place) (now parents) (now names) (now groups) ⌝ }
     ensures { λ r. ⌜ Infers (fileOf (now (book .entry)) place) (now (out .entry)) (now (out .exit)) r ⌝ }
 {
-    let mut next = [0u64; 512];
-    let mut accepting = [0u8; 512];
-    let mut met = [0u16; 512];
-    let mut numbers = [0u16; 512];
+    let mut next = [0u64; STATE_LIMIT];
+    let mut accepting = [0u8; STATE_LIMIT];
+    let mut met = [0u16; STATE_LIMIT];
+    let mut numbers = [0u16; STATE_LIMIT];
     let automaton = prepare(
         parents,
         names,
@@ -130,7 +128,7 @@ fn join_and_write(
     ensures { λ r. ⌜ Infers (fileOf (now (book .entry)) place) (now (out .entry)) (now (out .exit)) r ⌝ }
 {
     let n = parents.len();
-    let mut groups = [0u16; 512];
+    let mut groups = [0u16; STATE_LIMIT];
     classes::join_by_class(
         place.kind,
         place.first,
@@ -158,9 +156,9 @@ pub fn infer(book: &[u8], place: Place, work: &mut [u8], out: &mut [u8]) -> Infe
     requires { ⌜ BookAt (now book) place × (length (now book) ≤ input-limit) × (work-bytes ≤ length (now work)) ⌝ }
     ensures { λ r. ⌜ Infers (fileOf (now (book .entry)) place) (now (out .entry)) (now (out .exit)) r ⌝ }
 {
-    let mut parents = [0u16; 512];
-    let mut names = [0u8; 512];
-    let mut accepts = [0u8; 512];
+    let mut parents = [0u16; STATE_LIMIT];
+    let mut names = [0u8; STATE_LIMIT];
+    let mut accepts = [0u8; STATE_LIMIT];
     let tree = add_rows(
         book,
         place.start,

@@ -9,10 +9,10 @@ use borrow.Author.Tests.{lt-ltb, le-ltb, le-leb, lt-leb, eq-eqb, ne-eqb}
 use lib.Dec.{ltb, leb·suc-suc}
 use lib.ListN.{length, getD, drop, drop-of-length-le}
 use lib.Seq.{drop-cons}
-use Rattle.model.specs.Lists.{all, before, lastOr}
+use Rattle.base.specs.Lists.{all, before, lastOr}
 use Rattle.model.specs.Fields.{File, startsName, continuesName, nameOk, above, nameFault}
 use Rattle.judging.specs.Judged.{NameJudged}
-use Rattle.model.specs.Limits.{name-limit, name-bytes, bad-name, name-order, too-many}
+use Rattle.base.specs.Limits.{name-limit, name-bytes, bad-name, name-order, too-many}
 
 pub all-stop : (p : ℕ → Bool) (s : List ℕ) (i : ℕ) → i < length s → p (getD s i 0) ≡ false → all p (drop i s) ≡ false
 unfolding all

@@ -9,7 +9,7 @@ use lib.ListN.{length, getD, drop, drop-of-length-le}
 use lib.Seq.{drop-cons}
 use Rattle.model.specs.Fields.{File, allBelow, rowOk, rowFault}
 use Rattle.judging.specs.Judged.{RowJudged}
-use Rattle.model.specs.Limits.{book-rows, too-many, bad-row}
+use Rattle.base.specs.Limits.{book-rows, too-many, bad-row}
 
 pub below-stop : (n : ℕ) (s : List ℕ) (i : ℕ) → i < length s → n ≤ getD s i 0 → allBelow n (drop i s) ≡ false
 unfolding allBelow

@@ -11,7 +11,7 @@ use lib.ListN.{length, getD, drop, drop-of-length-le, length-drop}
 use lib.Seq.{drop-cons, drop-drop}
 use Rattle.model.specs.Fields.{File, arcsOk, stateOk, stateFault}
 use Rattle.judging.specs.Judged.{StateJudged}
-use Rattle.model.specs.Limits.{state-limit, too-many, bad-state}
+use Rattle.base.specs.Limits.{state-limit, too-many, bad-state}
 
 -- what is left to test from offset i on, where the next arc's name is `next` or above: as in arcsOk, for some fuel that suffices
 pub record ArcsLeft (n : ℕ) (s : List ℕ) (next i : ℕ) : Type 0 where

@@ -4,7 +4,7 @@ use mathlib.Core.Path.{_≡_}
 use mathlib.Core.List.{List, []}
 use Prim.Native.Nat.{ℕ}
 use lib.ListN.{length}
-use Rattle.model.specs.Lists.{lastOr}
+use Rattle.base.specs.Lists.{lastOr}
 use Rattle.model.specs.Fields.{File, nameFault, rowFault, stateFault}
 
 -- `fault` is what refuses one more name in a file of `count` names that ends in the name `last`, empty where there is none

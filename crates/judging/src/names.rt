@@ -1,12 +1,12 @@
 // Names: which bytes they have, their order, and the refusals 5, 6 and 7.
-use crate::limits::BAD_NAME;
-use crate::limits::NAME_BYTES;
-use crate::limits::NAME_LIMIT;
-use crate::limits::NAME_ORDER;
-use crate::limits::TOO_MANY;
+use base::limits::BAD_NAME;
+use base::limits::NAME_BYTES;
+use base::limits::NAME_LIMIT;
+use base::limits::NAME_ORDER;
+use base::limits::TOO_MANY;
 ghost use mathlib.Core.Path.{_≡_};
 ghost use Rattle.model.specs.Fields.{startsName, continuesName, nameOk};
-ghost use Rattle.model.specs.Lists.{before};
+ghost use Rattle.base.specs.Lists.{before};
 ghost use Rattle.judging.specs.Judged.{NameJudged};
 
 // Whether a name may begin with this byte.

@@ -1,8 +1,8 @@
 // Rows and their refusals, 7 and 9.
-use crate::limits::BAD_ROW;
-use crate::limits::BOOK_ROWS;
-use crate::limits::ROW_LIMIT;
-use crate::limits::TOO_MANY;
+use base::limits::BAD_ROW;
+use base::limits::BOOK_ROWS;
+use base::limits::ROW_LIMIT;
+use base::limits::TOO_MANY;
 ghost use mathlib.Core.Path.{_≡_};
 ghost use Rattle.model.specs.Fields.{allBelow, rowOk};
 ghost use Rattle.judging.specs.Judged.{RowJudged};

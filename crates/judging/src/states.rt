@@ -1,7 +1,7 @@
 // State fields of tables and their refusals, 7 and 11.
-use crate::limits::BAD_STATE;
-use crate::limits::STATE_LIMIT;
-use crate::limits::TOO_MANY;
+use base::limits::BAD_STATE;
+use base::limits::STATE_LIMIT;
+use base::limits::TOO_MANY;
 ghost use mathlib.Core.Path.{_≡_};
 ghost use Rattle.model.specs.Fields.{stateOk};
 ghost use Rattle.judging.specs.Judged.{StateJudged};

@@ -8,27 +8,21 @@ use native.Mathlib.Omega.{arith}
 use lib.Dec.{leb}
 use lib.ListN.{length, getD, length-append}
 use borrow.Author.Tests.{leb-true}
-use Rattle.model.specs.Lists.{all}
-use Rattle.model.specs.Limits.{name-bytes}
+use Rattle.base.specs.Lists.{all}
+use Rattle.base.specs.Limits.{name-bytes}
 use Rattle.model.specs.Fields.{Settings, Allowed, nameOk, startsName, continuesName}
 use Rattle.model.specs.Tables.{Arc, State}
 use Rattle.model.specs.Listing.{decimal, arcText, stateLine, stateLines, listing, refusalText}
 use Rattle.model.specs.Calls.{bookOf}
 use Rattle.model.specs.Claims.{Accepted}
 use Rattle.model.proofs.Books.{NamesOk, accepted-book}
+use Rattle.model.proofs.WrittenLengths.{name-length}
 use Rattle.model.proofs.Writable.{Writable, arcCount}
 use Rattle.writing.proofs.Digits.{decimal-length}
 
 -- every name is within its limit
 abbrev pub NamesShort : List (List ℕ) → Type 0
 NamesShort names = (i : ℕ) → length (getD names i []) ≤ name-bytes
-
-name-length : (n : List ℕ) → nameOk n ≡ true → length n ≤ name-bytes
-unfolding nameOk
-name-length [] ok = omega arith
-name-length (b ∷ bs) ok =
-    let n = length (b ∷ bs) in
-    leb-true n name-bytes (and-eq-true-iff (leb n name-bytes) (startsName b && all continuesName bs) .0 ok .0)
 
 pub names-short : (names more : List (List ℕ)) → NamesOk names more → NamesShort more
 names-short names [] ok i = omega arith

@@ -12,6 +12,7 @@ ghost use mathlib.Core.Path.{_≡_};
 ghost use mathlib.Core.List.{flatMap};
 ghost use Prim.Native.Nat.{_+_, _≤_, _<_};
 ghost use lib.ListN.{length};
+ghost use Rattle.base.specs.Limits.{number-limit};
 ghost use Rattle.model.specs.Tables.{arc};
 ghost use Rattle.model.specs.Listing.{arcText};
 ghost use Rattle.fields.specs.Offsets.{offsetAt};
@@ -50,7 +51,7 @@ fn put_name(table: &[u8], place: Place, n: u8, text: &mut [u8], at: usize) -> us
 // An arc with this name and target.
 fn put_arc(table: &[u8], place: Place, name: u8, target: usize, text: &mut [u8], at: usize) -> usize
     requires { ⌜ Sound (now table) place ⌝ }
-    requires { ⌜ target < 65536 ⌝ }
+    requires { ⌜ target < number-limit ⌝ }
     requires { ⌜ Fits (now text) at (arcText (namesAt (now table) place) (arc name target)) ⌝ }
     ensures { λ r. ⌜ Puts (now (text .entry)) (now (text .exit)) at
         (arcText (namesAt (now (table .entry)) place) (arc name target)) r ⌝ }

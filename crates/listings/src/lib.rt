@@ -4,7 +4,7 @@
 mod arcs;
 mod words;
 
-use cells::numbers::wide8;
+use base::numbers::wide8;
 use fields::Place;
 use fields::offsets::next_field;
 use tables::accepts;
@@ -15,6 +15,7 @@ use words::put_first_line;
 use writing::copy_in;
 use writing::decimals::put_decimal;
 ghost use Prim.Native.Nat.{_<_};
+ghost use Rattle.base.specs.Limits.{number-limit};
 ghost use Rattle.model.specs.Listing.{stateLine, stateLines, listing, refusalText};
 ghost use Rattle.model.specs.Calls.{tableOf, tableStates};
 ghost use Rattle.fields.specs.Places.{Sound};
@@ -32,7 +33,7 @@ fn put_state_line(
 ) -> usize
     requires { ⌜ Sound (now table) place ⌝ }
     requires { ⌜ StateField (now table) from ⌝ }
-    requires { ⌜ i < 65536 ⌝ }
+    requires { ⌜ i < number-limit ⌝ }
     requires { ⌜ Fits (now text) at (stateLine (namesAt (now table) place) i (stateAt (now table) from)) ⌝ }
     ensures { λ r. ⌜ Puts (now (text .entry)) (now (text .exit)) at
         (stateLine (namesAt (now (table .entry)) place) i (stateAt (now (table .entry)) from)) r ⌝ }
@@ -66,7 +67,7 @@ fn put_states(table: &[u8], place: Place, text: &mut [u8], at: usize) -> usize
 // The listing of a table as read, at the front of the text; its length.
 pub fn list_table(table: &[u8], place: Place, joins: usize, text: &mut [u8]) -> usize
     requires { ⌜ TableRead (now table) place ⌝ }
-    requires { ⌜ joins < 65536 ⌝ }
+    requires { ⌜ joins < number-limit ⌝ }
     requires { ⌜ Fits (now text) 0 (listing (tableOf (now table) .names) (tableStates (now table)) joins) ⌝ }
     ensures { λ r. ⌜ Puts (now (text .entry)) (now (text .exit)) 0
         (listing (tableOf (now (table .entry)) .names) (tableStates (now (table .entry))) joins) r ⌝ }

@@ -5,6 +5,7 @@ ghost use mathlib.Core.Path.{_≡_};
 ghost use mathlib.Core.Bool.{cond};
 ghost use mathlib.Core.List.{[], _∷_};
 ghost use Prim.Native.Nat.{_<_};
+ghost use Rattle.base.specs.Limits.{number-limit};
 ghost use Rattle.listings.specs.Texts.{Fits, Puts, firstLine};
 
 // Between a line's parts, at its end, and between an arc's name and target.
@@ -32,8 +33,8 @@ pub fn put_byte(text: &mut [u8], at: usize, byte: u8) -> usize
 
 // `states N joins M`, at the front.
 pub fn put_first_line(states: usize, joins: usize, text: &mut [u8]) -> usize
-    requires { ⌜ states < 65536 ⌝ }
-    requires { ⌜ joins < 65536 ⌝ }
+    requires { ⌜ states < number-limit ⌝ }
+    requires { ⌜ joins < number-limit ⌝ }
     requires { ⌜ Fits (now text) 0 (firstLine states joins) ⌝ }
     ensures { λ r. ⌜ Puts (now (text .entry)) (now (text .exit)) 0 (firstLine states joins) r ⌝ }
 {

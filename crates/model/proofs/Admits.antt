@@ -11,13 +11,13 @@ use lib.Dec.{eqb, eqb·suc-zero}
 use lib.ListN.{length, getD}
 use borrow.Author.Tests.{eq-eqb, ne-eqb}
 use Rattle.model.specs.Classes.{Word}
-use Rattle.model.specs.Lists.{indexIn}
+use Rattle.base.specs.Lists.{indexIn}
 use Rattle.model.specs.Tables.{Arc, arc, State, no-state, targetIn, Walk, walk-at, walkFrom, walk, reachedState, admits}
-use Rattle.model.specs.Joinings.{Transition, transition, transitionsOf, groupAt, groupAccepts}
+use Rattle.model.specs.Joinings.{Transition, transition, transitionsOf, groupAt, groupAccepts, Deterministic}
 use Rattle.model.specs.Quotients.{arcsOutOf, metGroups, renumbered, stateOf, statesOf}
-use Rattle.model.proofs.Tests.{Tells, tells-and, tells-by, tells-eqb, tells-itself, eq-dec}
-use Rattle.model.proofs.Places.{map-at-index}
-use Rattle.model.proofs.Notions.{Tree, Fits, Walks, Deterministic}
+use Rattle.base.proofs.Tests.{Tells, tells-and, tells-by, tells-eqb, tells-itself, eq-dec}
+use Rattle.base.proofs.Places.{map-at-index}
+use Rattle.model.proofs.Notions.{Tree, Fits, Walks}
 use Rattle.model.proofs.Transitions.{walks-unique}
 use Rattle.model.proofs.Arcs.{arcsOutOf-in, in-arcsOutOf}
 use Rattle.model.proofs.FirstMet.{met-root, root-met, met-closed}

@@ -10,12 +10,12 @@ use Prim.Native.Nat.{ℕ, suc, _≤_, _<_}
 use native.Mathlib.Omega.{arith}
 use lib.Dec.{leb}
 use lib.ListN.{length, length-append}
-use Rattle.model.specs.Limits.{row-limit}
+use Rattle.base.specs.Limits.{row-limit}
 use Rattle.model.specs.Fields.{Class, ClassOk, Settings, Allowed, File, unread, book, readBook, readWith, withField}
 use Rattle.model.specs.Fields.{classOk, allBelow}
 use Rattle.model.specs.Calls.{bookOf, treeFault, bookFault}
 use Rattle.model.specs.Claims.{Accepted}
-use Rattle.model.proofs.Tests.{Tells, tells-by, tells-and, tells-ltb}
+use Rattle.base.proofs.Tests.{Tells, tells-by, tells-and, tells-ltb}
 use Rattle.model.proofs.FieldLaws.{NameFits, RowFits, Fitting, a-name, a-class, a-row, a-state, fitting}
 use Rattle.model.proofs.FieldLaws.{first-of, class-parts}
 use Rattle.model.proofs.Turns.{read-keeps}

@@ -9,9 +9,9 @@ use borrow.Author.Tests.{eq-eqb, ne-eqb, eqb-true, ltb-false, lt-ltb, le-ltb}
 use lib.Dec.{eqb, ltb, eqb·suc-zero}
 use lib.ListN.{length, getD, take, drop, length-append}
 use lib.Seq.{take-append-seam}
-use Rattle.model.specs.Limits.{when, firstOf, input-limit, work-bytes, bad-sizes, output-too-short}
+use Rattle.base.specs.Limits.{when, firstOf, input-limit, work-bytes, bad-sizes, output-too-short}
 use Rattle.model.specs.Calls.{Call, tooShort, over, fronts, faultWith, unless, seenAs, Gives, Refuses, sizesFault, tableFault}
-use Rattle.model.proofs.Tests.{false-or}
+use Rattle.base.proofs.Tests.{false-or}
 use Rattle.model.proofs.FieldLaws.{first-of, when-none}
 
 -- ---- refusals

@@ -9,7 +9,7 @@ use native.Mathlib.Omega.{arith}
 use lib.Dec.{ltb}
 use lib.ListN.{length}
 use borrow.Author.Tests.{ltb-false, le-ltb}
-use Rattle.model.specs.Limits.{state-limit, input-limit, work-bytes, when, bad-sizes, tree-too-large}
+use Rattle.base.specs.Limits.{state-limit, input-limit, work-bytes, when, bad-sizes, tree-too-large}
 use Rattle.model.specs.Fields.{Settings, Allowed, File, file, Class, Read, readBook, readTable, accepted-file}
 use Rattle.model.specs.Tables.{State, stateBody, statesIn, isFirstMet, tableBytes}
 use Rattle.model.specs.Classes.{Word}
@@ -18,8 +18,8 @@ use Rattle.model.specs.Quotients.{statesOf, bookStates, bookTable, table
 use Rattle.model.specs.Calls.{bookOf, treeFault, bookFault, sizesFault, tableOf, tableFault, tableStates}
 use Rattle.model.specs.Claims.{Accepted, allAmong, SameBook, DefiningJoining, Demand-3}
 use Rattle.model.specs.Claims.{Same-bytes, Reads-back, Demands}
-use Rattle.model.proofs.Lists.{same-length}
-use Rattle.model.proofs.Tests.{tells-hasRow, tells-all, or-false}
+use Rattle.base.proofs.Lists.{same-length}
+use Rattle.base.proofs.Tests.{tells-hasRow, tells-all, or-false}
 use Rattle.model.proofs.Notions.{_▸_}
 use Rattle.model.proofs.Trees.{treeOf-tree, node-begins-row, same-nodes}
 use Rattle.model.proofs.Ends.{joined-is-full-joining}

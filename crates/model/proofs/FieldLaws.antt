@@ -9,11 +9,11 @@ use native.Mathlib.Omega.{arith}
 use lib.Dec.{eqb, leb}
 use lib.ListN.{length, getD}
 use borrow.Author.Tests.{leb-false, lt-leb, eqb-true}
-use Rattle.model.specs.Limits.{name-limit, book-rows, state-limit, when, firstOf, misplaced}
-use Rattle.model.specs.Limits.{bad-name, name-order, too-many, bad-class, bad-row, bad-state}
+use Rattle.base.specs.Limits.{name-limit, book-rows, state-limit, when, firstOf, misplaced}
+use Rattle.base.specs.Limits.{bad-name, name-order, too-many, bad-class, bad-row, bad-state}
 use Rattle.model.specs.Fields.{File, FileKind, book, table, mayCome, byMark, nameOk, above, classOk, rowOk, stateOk}
 use Rattle.model.specs.Fields.{ClassOk, settingsOk, classFrom, nameFault, classFault, rowFault, stateFault, fieldFault}
-use Rattle.model.proofs.Tests.{tells-eqb, tells-leb, tells-and, tells-or}
+use Rattle.base.proofs.Tests.{tells-eqb, tells-leb, tells-and, tells-or}
 
 -- no refusal of two
 pub first-of : (a b : ℕ) → firstOf a b ≡ 0 → (a ≡ 0) × (b ≡ 0)

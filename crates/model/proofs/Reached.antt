@@ -12,11 +12,11 @@ use lib.ListN.{length, getD, drop, drop-of-length-le}
 use lib.Seq.{drop-cons}
 use borrow.Author.Tests.{eqb-true, ltb-true}
 use Rattle.model.specs.Classes.{Word}
-use Rattle.model.specs.Tables.{Arc, State, no-state, targetIn, metByArcs, metByStates, isFirstMet}
+use Rattle.model.specs.Tables.{Arc, State, no-state, targetIn, metByArcs, metByStates, isFirstMet, Ascending}
 use Rattle.model.specs.Sources.{Reaches, AllReached}
-use Rattle.model.proofs.Tests.{decided, tells-ltb}
+use Rattle.base.proofs.Tests.{decided, tells-ltb}
 use Rattle.model.proofs.Notions.{_▸_}
-use Rattle.model.proofs.Arcs.{Ascending, ascending-low}
+use Rattle.model.proofs.Arcs.{ascending-low}
 use Rattle.model.proofs.Admits.{targetIn-here, targetIn-there}
 use Rattle.model.proofs.TableWalks.{reaches-append, steps-reaches}
 

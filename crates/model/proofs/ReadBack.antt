@@ -8,7 +8,7 @@ use Prim.Native.Nat.{ℕ, zero, suc, _+_, _/_, _%_, _≤_, _<_}
 use native.Mathlib.Omega.{arith}
 use lib.ListN.{length, length-append}
 use borrow.Author.Tests.{le-leb}
-use Rattle.model.specs.Limits.{state-limit}
+use Rattle.base.specs.Limits.{state-limit}
 use Rattle.model.specs.Fields.{Class, ClassOk, File, file, table, Read, accepted-file, readFrom, fieldFault, withField, stateOk}
 use Rattle.model.specs.Tables.{State, fieldBytes, nameFields, classField, stateBody, stateFields, tableBytes}
 use Rattle.model.proofs.FieldLaws.{NameFits, StateFits, fits-name, fits-class, fits-state}

@@ -6,7 +6,7 @@ use mathlib.Core.List.{List, [], _∷_, _++_, map, List·Memᴰ as In, List·Mem
 use Prim.Native.Nat.{ℕ, suc, _≤_, _<_}
 use native.Mathlib.Omega.{arith}
 use lib.ListN.{length, length-append}
-use Rattle.model.specs.Limits.{name-limit, state-limit, when, firstOf, bad-numbering}
+use Rattle.base.specs.Limits.{name-limit, state-limit, when, firstOf, bad-numbering}
 use Rattle.model.specs.Fields.{Settings, Allowed, standard, file, readTable, readWith, accepted-file}
 use Rattle.model.specs.Tables.{State, fieldBytes, nameFields, classField, stateFields, stateBody, tableBytes}
 use Rattle.model.specs.Tables.{isFirstMet}

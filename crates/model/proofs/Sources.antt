@@ -6,7 +6,7 @@ use mathlib.Core.List.{List, [], _∷_, _++_}
 use Prim.Native.Nat.{ℕ, _≤_}
 use native.Mathlib.Omega.{arith}
 use lib.Seq.{take-all}
-use Rattle.model.specs.Lists.{any, all, numbersFrom, same, hasRow}
+use Rattle.base.specs.Lists.{any, all, numbersFrom, same, hasRow}
 use Rattle.model.specs.Fields.{Class}
 use Rattle.model.specs.Tables.{State, targetIn, walkFrom, walk, reachedState, admits}
 use Rattle.model.specs.Classes.{Word, putName, seenSet, fOf, TailsEqual, Contextual, Distinguishable}

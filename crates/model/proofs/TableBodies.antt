@@ -10,12 +10,11 @@ use native.Mathlib.Omega.{arith}
 use borrow.Author.Tests.{leb-true, ltb-true, lt-ltb}
 use lib.Dec.{ltb, leb}
 use lib.ListN.{length, getD, drop, length-append}
-use Rattle.model.specs.Limits.{name-limit, bad-numbering, when, firstOf}
+use Rattle.base.specs.Limits.{name-limit, bad-numbering, when, firstOf}
 use Rattle.model.specs.Fields.{File, unread, standard, table, withField, arcsOk, stateOk, readTable, readWith}
-use Rattle.model.specs.Tables.{Arc, no-state, arcsIn, stateIn, statesIn, isFirstMet}
+use Rattle.model.specs.Tables.{Arc, no-state, arcsIn, stateIn, statesIn, isFirstMet, Ascending}
 use Rattle.model.specs.Calls.{sizesFault, tableOf, tableStates, tableFault}
 use Rattle.model.specs.Sources.{AllReached}
-use Rattle.model.proofs.Arcs.{Ascending}
 use Rattle.model.proofs.FieldLaws.{Fitting, a-name, a-class, a-row, a-state, fitting, first-of, when-not}
 use Rattle.model.proofs.Turns.{read-keeps}
 use Rattle.model.proofs.Reached.{all-reached}

@@ -10,7 +10,7 @@ use lib.ListN.{length, getD, List·getD-eq-default}
 use Rattle.model.specs.Classes.{Word, TailsEqual}
 use Rattle.model.specs.Tables.{State, no-state, targetIn, Walk, walk-at, walkFrom, walk, reachedState, admits}
 use Rattle.model.specs.Sources.{AdmittedBy, Reaches, AdmittedFrom, SameTails}
-use Rattle.model.proofs.Tests.{Tells, tells-and, tells-eqb, tells-itself, tells-ltb, decided}
+use Rattle.base.proofs.Tests.{Tells, tells-and, tells-eqb, tells-itself, tells-ltb, decided}
 use Rattle.model.proofs.Admits.{walk-stops, walk-goes}
 
 -- the arcs by the names of the word lead from p to q

@@ -7,9 +7,9 @@ use mathlib.Core.List.{List·Memᴰ·tail as there, List·Memᴰ·not-nil, List�
 use mathlib.Core.List.{tail-eq-of-cons-eq, cons≢nil}
 use Prim.Native.Nat.{ℕ}
 use Rattle.model.specs.Classes.{Word}
-use Rattle.model.specs.Lists.{lastOr}
-use Rattle.model.specs.Joinings.{Transition, transition, transitionsInto, transitionsOf, groupAt}
-use Rattle.model.proofs.Notions.{Tree, Fits, Walks, _▸_, Deterministic}
+use Rattle.base.specs.Lists.{lastOr}
+use Rattle.model.specs.Joinings.{Transition, transition, transitionsInto, transitionsOf, groupAt, Deterministic}
+use Rattle.model.proofs.Notions.{Tree, Fits, Walks, _▸_}
 use Rattle.model.proofs.Groups.{group-in}
 
 -- ---- a word that is not empty, as a word with one name more

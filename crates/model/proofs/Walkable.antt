@@ -11,14 +11,14 @@ use native.Mathlib.Omega.{arith}
 use lib.Dec.{eqb}
 use lib.ListN.{length, getD, take}
 use lib.Seq.{take-length}
-use Rattle.model.specs.Lists.{all, filterBy, numbersFrom, hasRow}
+use Rattle.base.specs.Lists.{all, filterBy, numbersFrom, hasRow}
 use Rattle.model.specs.Tables.{Arc, arc, State, no-state, targetIn, Walk, walkFrom, walk, reachedState, admits}
 use Rattle.model.specs.Classes.{Word}
 use Rattle.model.specs.Claims.{allAmong}
-use Rattle.model.proofs.Tests.{decided, same-tests, tells-itself, tells-eqb, tells-ltb, tells-and, tells-all}
-use Rattle.model.proofs.Tests.{tells-hasRow}
-use Rattle.model.proofs.Lists.{in-flatMap, in-filterBy}
-use Rattle.model.proofs.Places.{in-numbersFrom}
+use Rattle.base.proofs.Tests.{decided, same-tests, tells-itself, tells-eqb, tells-ltb, tells-and, tells-all}
+use Rattle.base.proofs.Tests.{tells-hasRow}
+use Rattle.base.proofs.Lists.{in-flatMap, in-filterBy}
+use Rattle.base.proofs.Places.{in-numbersFrom}
 use Rattle.model.proofs.Admits.{walk-stops, walk-goes}
 
 -- the words of n names that can be walked from a state

@@ -9,8 +9,8 @@ use Prim.Native.Nat.{ℕ, suc, _-_, _≤_}
 use native.Mathlib.Omega.{arith}
 use lib.Dec.{eqb, leb}
 use lib.ListN.{length}
-use Rattle.model.specs.Limits.{setting-limit}
-use Rattle.model.specs.Lists.{any, anyTwo, all, filterBy, numbersFrom, isIn, indexIn, same, hasRow, before, lastOr}
+use Rattle.base.specs.Limits.{setting-limit}
+use Rattle.base.specs.Lists.{any, anyTwo, all, filterBy, numbersFrom, isIn, indexIn, same, hasRow, before, lastOr}
 use Rattle.model.specs.Fields.{Class, class-of, ClassOk, standard, settingsOk}
 use Rattle.model.specs.Fields.{nameOk, allBelow, above, nameFault, classFault, rowFault, stateFault, stateOk, arcsOk}
 use Rattle.model.specs.Fields.{fieldFault, withField, readFrom, readWith}
@@ -30,10 +30,10 @@ use Rattle.model.specs.Claims.{allAmong}
 use Rattle.model.specs.Listing.{digits, arcText, stateLine, stateLines, listing, refusalText, listingFault, listingOf}
 use Rattle.model.specs.WorkedDays.{sameRows, rowsOfLength, shortRows, acceptingIn, remarkHolds, isFile, dayHolds}
 use Rattle.model.specs.WorkedDays.{exampleHolds, daysHold, Day, Q3, finiteDays, TellsDefault, DaysClaimed}
-use Rattle.model.proofs.Tests.{Tells, decided, tells-itself, tells-eqb, tells-leb, tells-and, tells-or, tells-not}
-use Rattle.model.proofs.Tests.{tells-same, tells-all}
-use Rattle.model.proofs.Lists.{in-flatMap, in-filterBy}
-use Rattle.model.proofs.Places.{in-numbersFrom}
+use Rattle.base.proofs.Tests.{Tells, decided, tells-itself, tells-eqb, tells-leb, tells-and, tells-or, tells-not}
+use Rattle.base.proofs.Tests.{tells-same, tells-all}
+use Rattle.base.proofs.Lists.{in-flatMap, in-filterBy}
+use Rattle.base.proofs.Places.{in-numbersFrom}
 use Rattle.model.proofs.Walkable.{walkable, walkableTo, onlyThese, admits-only}
 
 -- ---- what computes

@@ -8,8 +8,8 @@ use native.Mathlib.Omega.{arith}
 use lib.Dec.{leb}
 use lib.ListN.{length, length-append}
 use borrow.Author.Tests.{leb-true}
-use Rattle.model.specs.Lists.{all}
-use Rattle.model.specs.Limits.{name-limit, name-bytes}
+use Rattle.base.specs.Lists.{all}
+use Rattle.base.specs.Limits.{name-limit, name-bytes}
 use Rattle.model.specs.Fields.{nameOk, startsName, continuesName}
 use Rattle.model.specs.Tables.{State, fieldBytes, nameFields, stateFields, stateBody}
 use Rattle.model.proofs.Writable.{arcCount}
@@ -26,7 +26,7 @@ unfolding fieldBytes
 field-length mark body = omega arith
 
 -- a name is within its limit
-name-length : (n : List ℕ) → nameOk n ≡ true → length n ≤ name-bytes
+pub name-length : (n : List ℕ) → nameOk n ≡ true → length n ≤ name-bytes
 unfolding nameOk
 name-length [] ok = omega arith
 name-length (b ∷ bs) ok =

@@ -7,8 +7,8 @@ use mathlib.Core.List.{List, [], _∷_, _++_}
 use Prim.Native.Nat.{ℕ, _-_, _<_}
 use lib.Dec.{eqb, ltb}
 use lib.ListN.{length, drop, replicate}
-use Rattle.model.specs.Limits.{state-limit, input-limit, work-bytes, when, firstOf}
-use Rattle.model.specs.Limits.{bad-sizes, bad-row, tree-too-large, bad-numbering, output-too-short}
+use Rattle.base.specs.Limits.{state-limit, input-limit, work-bytes, when, firstOf}
+use Rattle.base.specs.Limits.{bad-sizes, bad-row, tree-too-large, bad-numbering, output-too-short}
 use Rattle.model.specs.Fields.{File, Settings, readBook, readTable, rowOk}
 use Rattle.model.specs.Tables.{State, statesIn, tableBytes, isFirstMet}
 use Rattle.model.specs.Classes.{Word}

@@ -5,8 +5,8 @@ use mathlib.Core.Bool.{Bool, true}
 use mathlib.Core.List.{List}
 use Prim.Native.Nat.{ℕ, _<_, _≤_}
 use lib.ListN.{length, getD}
-use Rattle.model.specs.Limits.{work-bytes}
-use Rattle.model.specs.Lists.{all, hasRow}
+use Rattle.base.specs.Limits.{work-bytes}
+use Rattle.base.specs.Lists.{all, hasRow}
 use Rattle.model.specs.Fields.{File, Settings, Allowed}
 use Rattle.model.specs.Tables.{admits}
 use Rattle.model.specs.Classes.{Word, InClass}

@@ -6,11 +6,13 @@ use mathlib.Core.List.{List, [], _∷_, _++_}
 use Prim.Native.Nat.{ℕ, zero, suc, _+_, _*_}
 use lib.Dec.{eqb, ltb, leb}
 use lib.ListN.{length, getD, take, drop}
-use Rattle.model.specs.Lists.{all, before, lastOr}
-use Rattle.model.specs.Limits.{name-limit, name-bytes, book-rows, row-limit, state-limit, setting-limit, when, firstOf}
-use Rattle.model.specs.Limits.{cut-off, misplaced, unfinished, bad-name, name-order, too-many, bad-class, bad-row, bad-state}
+use Rattle.base.specs.Lists.{all, before, lastOr}
+use Rattle.base.specs.Limits.{name-limit, name-bytes, book-rows, row-limit, state-limit, setting-limit, when, firstOf}
+use Rattle.base.specs.Limits.{name-mark, class-mark, row-mark, state-mark, name-due, names-met, class-met, items-met}
+use Rattle.base.specs.Limits.{context-kind, seen-set-kind, last-names-kind}
+use Rattle.base.specs.Limits.{cut-off, misplaced, unfinished, bad-name, name-order, too-many, bad-class, bad-row, bad-state}
 
--- a class: kind 0 context, with k and h; 1 seen set; 2 last names, with j
+-- a class: its kind and its settings, k and h of a context or j of last names
 pub record Class : Type 0 where
   pub kind : ℕ
   pub first : ℕ
@@ -27,8 +29,8 @@ contextOk k h = (leb 1 k && leb k setting-limit) && (leb 1 h && leb h k)
 -- the settings that go with a kind
 abbrev pub settingsOk : ℕ → ℕ → ℕ → Bool
 settingsOk kind x y =
-    (eqb kind 0 && contextOk x y)
-    || ((eqb kind 1 && (eqb x 0 && eqb y 0)) || (eqb kind 2 && (leb x setting-limit && eqb y 0)))
+    (eqb kind context-kind && contextOk x y)
+    || ((eqb kind seen-set-kind && (eqb x 0 && eqb y 0)) || (eqb kind last-names-kind && (leb x setting-limit && eqb y 0)))
 
 -- a class that a class field may hold
 abbrev pub ClassOk : Class → Type 0
@@ -44,7 +46,7 @@ Allowed settings = ClassOk (settings .default-class)
 
 -- the settings of document 01: context, k = 2, h = 1
 abbrev pub standard : Settings
-standard = record { default-class = class-of 0 2 1 }
+standard = record { default-class = class-of context-kind 2 1 }
 
 -- a class field's bytes: kind and two settings
 abbrev pub classOk : List ℕ → Bool
@@ -96,8 +98,7 @@ book = false
 abbrev pub table : FileKind
 table = true
 
--- a file as read so far: its place in the order (0 a name is due, 1 names met, 2 the class met, 3 rows or states met), its
--- names, its class, and its items: a book's rows or a table's state fields
+-- a file as read so far: the stage of reading, its names, its class, and its items: a book's rows or a table's state fields
 pub record File : Type 0 where
   pub stage : ℕ
   pub names : List (List ℕ)
@@ -110,13 +111,14 @@ file stage names class items = record { stage = stage; names = names; class-is =
 
 -- a file of which nothing is read yet; a book that names no class keeps the one given here
 abbrev pub unread : Class → File
-unread class = file 0 [] class []
+unread class = file name-due [] class []
 
--- which mark may come next: 01 name, 02 class (at most one in a book, exactly one in a table), 03 row, 04 state
+-- which mark may come next: a class comes at most once in a book, and exactly once in a table
 abbrev pub mayCome : FileKind → ℕ → ℕ → Bool
 mayCome kind stage mark =
-    (eqb mark 1 && leb stage 1)
-    || ((eqb mark 2 && eqb stage 1) || cond kind (eqb mark 4 && leb 2 stage) (eqb mark 3 && leb 1 stage))
+    (eqb mark name-mark && leb stage names-met)
+    || ((eqb mark class-mark && eqb stage names-met)
+    || cond kind (eqb mark state-mark && leb class-met stage) (eqb mark row-mark && leb names-met stage))
 
 -- the name stands above the last one before it, if there is one
 unfoldable pub above : List (List ℕ) → List ℕ → Bool
@@ -150,9 +152,10 @@ stateFault f body =
     firstOf (when (leb state-limit (length (f .items))) too-many)
     (when (not (stateOk (length (f .names)) body)) bad-state)
 
--- the mark decides how a field is read: one choice for each of 01 to 04, the last also for every other mark
+-- the mark decides how a field is read: one choice for each mark, the last also for every number that is none
 abbrev pub byMark : {A : Type 0} → ℕ → A → A → A → A → A
-byMark mark name class row state = cond (eqb mark 1) name (cond (eqb mark 2) class (cond (eqb mark 3) row state))
+byMark mark name class row state =
+    cond (eqb mark name-mark) name (cond (eqb mark class-mark) class (cond (eqb mark row-mark) row state))
 
 -- a field judged by the refusals that concern it, in ascending number
 unfoldable pub fieldFault : FileKind → File → ℕ → List ℕ → ℕ
@@ -163,10 +166,10 @@ fieldFault kind f mark body =
 -- the file with one field more
 unfoldable pub withField : File → ℕ → List ℕ → File
 withField f mark body =
-    let item = file 3 (f .names) (f .class-is) (f .items ++ (body ∷ [])) in
+    let item = file items-met (f .names) (f .class-is) (f .items ++ (body ∷ [])) in
     byMark mark
-    (file 1 (f .names ++ (body ∷ [])) (f .class-is) (f .items))
-    (file 2 (f .names) (classFrom body) (f .items))
+    (file names-met (f .names ++ (body ∷ [])) (f .class-is) (f .items))
+    (file class-met (f .names) (classFrom body) (f .items))
     item
     item
 
@@ -201,7 +204,7 @@ afterField s = drop (3 + statedLength s) s
 
 -- the end of the input: a row or a state must have come
 abbrev pub atEnd : File → Read
-atEnd f = cond (eqb (f .stage) 3) (accepted-file f) (refused unfinished)
+atEnd f = cond (eqb (f .stage) items-met) (accepted-file f) (refused unfinished)
 
 -- fields read one after the other, the first failure being the result (the first argument counts down and is more than the
 -- number of bytes)

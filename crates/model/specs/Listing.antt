@@ -5,7 +5,7 @@ use mathlib.Core.List.{List, [], _∷_, _++_, flatMap}
 use Prim.Native.Nat.{ℕ, zero, suc, _+_, _/_, _%_}
 use lib.Dec.{eqb, ltb}
 use lib.ListN.{length, getD}
-use Rattle.model.specs.Limits.{input-limit, bad-sizes, when, firstOf}
+use Rattle.base.specs.Limits.{input-limit, bad-sizes, when, firstOf}
 use Rattle.model.specs.Fields.{File, Settings}
 use Rattle.model.specs.Tables.{Arc, State}
 use Rattle.model.specs.Quotients.{bookStates}

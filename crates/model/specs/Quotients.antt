@@ -5,7 +5,7 @@ use mathlib.Core.List.{List, [], _∷_, _++_, map}
 use Prim.Native.Nat.{ℕ, zero, suc}
 use lib.Dec.{eqb, ltb}
 use lib.ListN.{length, getD}
-use Rattle.model.specs.Lists.{isIn, indexIn}
+use Rattle.base.specs.Lists.{isIn, indexIn}
 use Rattle.model.specs.Fields.{File}
 use Rattle.model.specs.Tables.{Arc, arc, State, state, tableBytes}
 use Rattle.model.specs.Classes.{Word}

@@ -9,7 +9,7 @@ use mathlib.Core.List.{List, [], _∷_, _++_, map, flatMap, List·Memᴰ as In}
 use Prim.Native.Nat.{ℕ, zero, suc}
 use lib.Dec.{eqb}
 use lib.ListN.{length, getD}
-use Rattle.model.specs.Lists.{all, filterBy, numbersFrom, same, hasRow}
+use Rattle.base.specs.Lists.{all, filterBy, numbersFrom, same, hasRow}
 use Rattle.model.specs.Fields.{Class, class-of, Settings, Allowed, standard, File, readTable}
 use Rattle.model.specs.Tables.{State, no-state, isFirstMet, walk, admits, outcome, longestBeginning, nextNames, nextCount}
 use Rattle.model.specs.Classes.{Word}

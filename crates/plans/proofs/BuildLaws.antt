@@ -6,7 +6,7 @@ use mathlib.Core.List.{List, [], _∷_}
 use Prim.Native.Nat.{ℕ, _≤_, _<_}
 use native.Mathlib.Omega.{arith}
 use lib.ListN.{length}
-use Rattle.model.specs.Limits.{firstOf, input-limit, state-limit, bad-sizes}
+use Rattle.base.specs.Limits.{firstOf, input-limit, state-limit, bad-sizes}
 use Rattle.model.specs.Fields.{Settings, Allowed, File, readBook}
 use Rattle.model.specs.Fields as fields
 use Rattle.model.specs.Joinings.{treeOf, joinedGroups}

@@ -8,7 +8,7 @@ use borrow.Author.Tests.{leb-true}
 use lib.Dec.{eqb, leb}
 use lib.ListN.{length, take, drop, length-take, take-append-drop}
 use lib.Seq.{take-append-seam}
-use Rattle.model.specs.Limits.{when, row-limit, bad-row, output-too-short}
+use Rattle.base.specs.Limits.{when, row-limit, bad-row, output-too-short}
 use Rattle.model.specs.Fields.{File, allBelow, rowOk}
 use Rattle.model.specs.Tables.{longestBeginning, walk}
 use Rattle.model.specs.Claims.{AllBytes}

@@ -10,12 +10,11 @@ use lib.Count.{ones}
 use lib.ListN.{length, getD}
 use lib.Seq.{length-take-le}
 use Rattle.model.specs.Tables as model
-use Rattle.model.specs.Tables.{Arc, State, no-state, stateIn, nameSet, walk, reachedState, outcome}
+use Rattle.model.specs.Tables.{Arc, State, no-state, stateIn, nameSet, walk, reachedState, outcome, Ascending}
 use Rattle.model.specs.Tables.{longestBeginning, nextNames, nextCount}
 use Rattle.model.specs.Calls.{tableStates}
-use Rattle.model.proofs.Arcs.{Ascending}
 use Rattle.fields.specs.Offsets.{bodyAt}
-use Rattle.cells.specs.Cells.{cellAt}
+use Rattle.base.specs.Cells.{cellAt}
 use Rattle.tables.specs.Accepting.{StateField, Ready}
 use Rattle.tables.specs.Walking.{WalkedAs}
 use Rattle.tables.specs.declared.Walk.{Walk}

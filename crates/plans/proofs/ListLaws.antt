@@ -7,7 +7,7 @@ use Prim.Native.Nat.{ℕ, _≤_, _<_}
 use native.Mathlib.Omega.{arith}
 use borrow.Author.Tests.{le-ltb}
 use lib.ListN.{length, take}
-use Rattle.model.specs.Limits.{work-bytes, output-too-short}
+use Rattle.base.specs.Limits.{work-bytes, output-too-short}
 use Rattle.model.specs.Fields.{Settings, Allowed, Read, readTable}
 use Rattle.model.specs.Tables.{State}
 use Rattle.model.specs.Quotients.{bookTable}

@@ -8,7 +8,7 @@ use native.Mathlib.Omega.{arith}
 use borrow.Author.Tests.{le-ltb, eq-eqb, ne-eqb}
 use lib.Dec.{eqb, ltb}
 use lib.ListN.{length, getD}
-use Rattle.model.specs.Limits.{when, firstOf, input-limit, work-bytes, bad-sizes}
+use Rattle.base.specs.Limits.{when, firstOf, input-limit, work-bytes, bad-sizes}
 use Rattle.model.specs.Fields.{Settings, Allowed}
 use Rattle.model.specs.Calls.{tooShort, faultWith, over, sizesFault, bookOf, bookFault, buildFault}
 use Rattle.model.specs.Listing.{bookListing, refusalText, listingFault, listingOf}

@@ -1,11 +1,11 @@
 // A book's table built, before the working area is cleared.
 use crate::Built;
 use crate::rewriting::refused;
+use base::limits::BAD_SIZES;
 use fields::Fields;
 use fields::Settings;
 use fields::read_with;
 use inference::infer;
-use judging::limits::BAD_SIZES;
 use judging::sizes::sizes_bad;
 ghost use mathlib.Core.List.{[], _∷_};
 ghost use Rattle.model.specs.Fields.{Allowed};

@@ -8,7 +8,7 @@ pub mod printing;
 mod rewriting;
 mod walking;
 
-use cells::clear;
+use base::cells::clear;
 use fields::STANDARD;
 ghost use Rattle.model.specs.Fields.{standard};
 ghost use Rattle.plans.specs.Says.{BuildSays, RewriteSays, WalkSays, WalkedSays, ListSays};

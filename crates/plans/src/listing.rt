@@ -2,8 +2,8 @@
 // which holds nothing more by then and takes every listing; from there it is copied to the text, where it fits.
 use crate::Written;
 use crate::building;
-use crate::limits::OUTPUT_TOO_SHORT;
 use crate::limits::TABLE_BYTES;
+use base::limits::OUTPUT_TOO_SHORT;
 use fields::Fields;
 use fields::Settings;
 use fields::read_table;
@@ -13,7 +13,7 @@ ghost use mathlib.Core.Path.{_≡_};
 ghost use mathlib.Core.List.{[], _∷_};
 ghost use Prim.Native.Nat.{_≤_, _<_};
 ghost use lib.ListN.{length};
-ghost use Rattle.model.specs.Limits.{work-bytes};
+ghost use Rattle.base.specs.Limits.{work-bytes, number-limit};
 ghost use Rattle.model.specs.Fields.{Allowed, readTable};
 ghost use Rattle.model.specs.Listing.{listing};
 ghost use Rattle.model.specs.Calls.{Gives, tableOf, tableStates};
@@ -24,7 +24,7 @@ ghost use Rattle.plans.specs.Says.{not-written, copying, listingBook};
 // The listing of a table that was accepted, at the front of the text; its length.
 fn list_accepted(table: &[u8], joins: usize, text: &mut [u8]) -> usize
     requires { ⌜ readTable (now table) .number ≡ 0 ⌝ }
-    requires { ⌜ joins < 65536 ⌝ }
+    requires { ⌜ joins < number-limit ⌝ }
     requires { ⌜ Fits (now text) 0 (listing (tableOf (now table) .names) (tableStates (now table)) joins) ⌝ }
     ensures { λ r. ⌜ Puts (now (text .entry)) (now (text .exit)) 0
         (listing (tableOf (now (table .entry)) .names) (tableStates (now (table .entry))) joins) r ⌝ }

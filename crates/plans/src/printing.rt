@@ -1,7 +1,7 @@
 // The text that the listing program prints for a book: its listing, or `refused` and the refusal's number.
 use crate::limits::LISTING_BYTES;
-use crate::limits::WORK_BYTES;
 use crate::list_book;
+use base::limits::WORK_BYTES;
 use listings::refusal_text;
 ghost use Rattle.model.specs.Fields.{standard};
 ghost use Rattle.plans.specs.Says.{PrintSays};

@@ -1,6 +1,6 @@
 // A table rewritten, before the working area is cleared: an accepted table is copied, since it is written to the same bytes.
 use crate::Built;
-use crate::limits::OUTPUT_TOO_SHORT;
+use base::limits::OUTPUT_TOO_SHORT;
 use tables::Accepted;
 use tables::open_table;
 use writing::copy_in;

@@ -1,8 +1,11 @@
 // A row walked over a table: the table is judged wholly, then the row.
 use crate::Walked;
-use cells::cell;
-use cells::clear;
-use judging::limits::BAD_ROW;
+use base::cells::cell;
+use base::cells::clear;
+use base::limits::ADMITTED;
+use base::limits::BAD_ROW;
+use base::limits::ON_THE_WAY;
+use base::limits::STOPS;
 use judging::rows::row_ok;
 use tables::Accepted;
 use tables::accepts;
@@ -14,17 +17,10 @@ ghost use mathlib.Core.Bool.{cond};
 ghost use mathlib.Core.List.{[]};
 ghost use Prim.Native.Nat.{_≤_};
 ghost use lib.ListN.{length};
-ghost use Rattle.model.specs.Limits.{row-limit};
+ghost use Rattle.base.specs.Limits.{row-limit, admitted, on-the-way, stops};
 ghost use Rattle.model.specs.Calls.{Gives, tableStates};
 ghost use Rattle.tables.specs.Accepting.{Ready};
 ghost use Rattle.plans.specs.Says.{walked-as, walked-over, walking, WalkedSays};
-
-// How a walk ends.
-pub const ADMITTED: u8 = 1;
-
-pub const ON_THE_WAY: u8 = 2;
-
-pub const STOPS: u8 = 3;
 
 // A refused walk.
 fn refused(refusal: u8) -> Walked
@@ -41,7 +37,7 @@ fn refused(refusal: u8) -> Walked
 
 // How a walk ends that stopped before the row's end or not, in a state that accepts or not.
 fn outcome_of(stopped: bool, accepting: bool) -> u8
-    ensures { λ r. ⌜ r ≡ cond stopped 3 (cond accepting 1 2) ⌝ }
+    ensures { λ r. ⌜ r ≡ cond stopped stops (cond accepting admitted on-the-way) ⌝ }
 {
     if stopped {
         return STOPS;

@@ -8,12 +8,12 @@ use Prim.Native.Nat.{ℕ, zero, suc, _+_, _<_, _≤_}
 use native.Mathlib.Omega.{arith}
 use lib.ListN.{length, getD, set}
 use lib.Seq.{getD-set-same, getD-set-other, getD-take, length-take-le}
-use Rattle.model.specs.Limits.{name-limit, state-limit}
+use Rattle.base.specs.Limits.{name-limit, state-limit}
 use Rattle.model.specs.Classes.{Word}
 use Rattle.model.specs.Joinings.{treeOf}
-use Rattle.model.proofs.Tests.{eq-dec}
-use Rattle.cells.specs.Cells.{cellAt, withCell}
-use Rattle.cells.proofs.CellLaws.{cell-same, cell-other}
+use Rattle.base.proofs.Tests.{eq-dec}
+use Rattle.base.specs.Cells.{cellAt, withCell}
+use Rattle.base.proofs.CellLaws.{cell-same, cell-other}
 use Rattle.prefix_tree.specs.Growth.{Store, store, Sized, Grown, IsChild, NoChild, appended, longer, TreeBuilt}
 use Rattle.prefix_tree.proofs.WordLaws.{at-in, in-at, snoc-not-nil, snoc-left, snoc-last, below-or-last, snoc-old, snoc-new}
 use Rattle.prefix_tree.proofs.WordLaws.{snoc-length}

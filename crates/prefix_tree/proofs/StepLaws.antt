@@ -10,7 +10,7 @@ use native.Mathlib.Omega.{arith}
 use borrow.Author.Tests.{lt-ltb, le-ltb}
 use lib.ListN.{length, getD, take, set, length-set}
 use lib.Seq.{take-suc, take-all}
-use Rattle.model.specs.Limits.{name-limit, state-limit, tree-too-large, when}
+use Rattle.base.specs.Limits.{name-limit, state-limit, tree-too-large, when}
 use Rattle.model.specs.Classes.{Word}
 use Rattle.model.specs.Joinings.{beginnings, withStates, withRows, treeOf}
 use Rattle.model.specs.Calls.{treeFault}

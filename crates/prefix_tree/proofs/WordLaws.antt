@@ -10,7 +10,7 @@ use native.Mathlib.Omega.{arith}
 use lib.ListN.{length, getD, length-append, List·getD-append}
 use lib.Seq.{getD-append-seam}
 use Rattle.model.specs.Classes.{Word}
-use Rattle.model.proofs.Tests.{eq-dec}
+use Rattle.base.proofs.Tests.{eq-dec}
 
 pub at-in : (nodes : List Word) (v : ℕ) → v < length nodes → In (getD nodes v []) nodes
 at-in [] v h = let z : ⊥ = omega arith in absurd z

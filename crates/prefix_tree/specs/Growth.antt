@@ -7,12 +7,12 @@ use mathlib.Core.Bool.{cond}
 use mathlib.Core.List.{List, [], _∷_, _++_, List·Memᴰ as In}
 use Prim.Native.Nat.{ℕ, _<_, _≤_}
 use lib.ListN.{length, getD, take, set}
-use Rattle.model.specs.Lists.{hasRow}
-use Rattle.model.specs.Limits.{name-limit, state-limit, work-bytes, tree-too-large}
+use Rattle.base.specs.Lists.{hasRow}
+use Rattle.base.specs.Limits.{name-limit, state-limit, work-bytes, tree-too-large}
 use Rattle.model.specs.Classes.{Word}
 use Rattle.model.specs.Joinings.{beginnings, withStates, treeOf}
 use Rattle.model.specs.Calls.{treeFault}
-use Rattle.cells.specs.Cells.{cellAt, withCell}
+use Rattle.base.specs.Cells.{cellAt, withCell}
 use Rattle.indexed.specs.Trees.{TreeArrays, AcceptsArray}
 use Rattle.prefix_tree.specs.declared.Found.{Found}
 use Rattle.prefix_tree.specs.declared.Went.{Went}

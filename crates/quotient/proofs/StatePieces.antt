@@ -10,17 +10,18 @@ use lib.Count.{ones, trailingZeros}
 use lib.Dec.{eqb}
 use lib.ListN.{length, getD, drop, length-append, length-map, drop-of-length-le}
 use lib.Seq.{drop-cons}
-use Rattle.model.specs.Limits.{name-limit, when}
-use Rattle.model.specs.Lists.{indexIn}
+use Rattle.base.specs.Limits.{name-limit, when}
+use Rattle.base.specs.Lists.{indexIn}
 use Rattle.model.specs.Classes.{Word}
 use Rattle.model.specs.Tables.{Arc, arc, State, state, fieldBytes, arcBytes, stateBody, stateFields}
 use Rattle.model.specs.Joinings.{treeOf, transitionsOf, groupAccepts}
 use Rattle.model.specs.Quotients.{arcsOutOf, metGroups, renumbered, stateOf, statesOf}
 use Rattle.model.proofs.Arcs.{arcsOutOf-in}
 use Rattle.model.proofs.FirstMet.{met-closed, met-few}
-use Rattle.model.proofs.Places.{nth-in}
+use Rattle.base.proofs.Places.{nth-in}
+use Rattle.model.proofs.StateBodies.{accepts-read}
 use Rattle.model.proofs.Trees.{treeOf-tree}
-use Rattle.cells.specs.Cells.{cellAt}
+use Rattle.base.specs.Cells.{cellAt}
 use Rattle.writing.specs.Writing.{stateHead, arcPart}
 use Rattle.writing.proofs.Pieces.{state-bytes, state-bytes-length, arc-bytes-cons}
 use Rattle.quotient.specs.Gathered.{ArcsAt, Gathered}
@@ -109,17 +110,13 @@ pub record StateParts (work : List ℕ) (row set accepts : ℕ) (numbers bytes :
   pub bytes-are : bytes ≡ stateHead (eqb accepts 1) (ones set) ++ rest
   pub arcs-left : ArcsToWrite work row set numbers rest
 
-byte-test : (b : Bool) → eqb (when b 1) 1 ≡ b
-byte-test true = refl
-byte-test false = refl
-
 pub state-parts :
     {work : List ℕ} {row set accepts : ℕ} {numbers bytes : List ℕ} → StateToWrite work row set accepts numbers bytes →
     StateParts work row set accepts numbers bytes
 state-parts {work} {row} {set} {accepts} {numbers} {bytes} r =
     let arcs = renumbered (r .every) (r .arcs) in
     let test : r .accepting ≡ eqb accepts 1 =
-    sym (byte-test (r .accepting)) ∙ ap (λ (k : ℕ). eqb k 1) (sym (r .accepts-is)) in
+    sym (accepts-read (r .accepting)) ∙ ap (λ (k : ℕ). eqb k 1) (sym (r .accepts-is)) in
     let size : length arcs ≡ ones set =
     renumbered-length (r .every) (r .arcs) ∙ sym (arcs-counted (r .arcs) (r .at-row)) in
     record {
@@ -244,7 +241,7 @@ module _ (rows : List Word) (groups work next accepting met numbers : List ℕ) 
       let counted : count ≡ length every = ready .numbered .counted in
       let g-is : g ≡ getD every i 0 = e ∙ met-nth every (ready .numbered) i h in
       let g-low : g < length (treeOf rows) = omega (arith, met-low every (ready .numbered) i h) in
-      let g-met : In g every = subst (λ (x : ℕ). In x every) (sym g-is) (nth-in every i (omega arith)) in
+      let g-met : In g every = subst (λ (x : ℕ). In x every) (sym g-is) (nth-in 0 every i (omega arith)) in
       let arcs = arcsOutOf g (transitionsOf (treeOf rows) groups) in
       record {
         size = length (treeOf rows);

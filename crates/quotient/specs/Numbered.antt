@@ -5,8 +5,8 @@ use mathlib.Core.Bool.{cond}
 use mathlib.Core.List.{List, [], _∷_, _++_, List·Memᴰ as In}
 use Prim.Native.Nat.{ℕ, _<_, _≤_}
 use lib.ListN.{length, getD, take}
-use Rattle.model.specs.Limits.{state-limit}
-use Rattle.model.specs.Lists.{isIn, indexIn}
+use Rattle.base.specs.Limits.{state-limit}
+use Rattle.base.specs.Lists.{isIn, indexIn}
 use Rattle.model.specs.Tables.{Arc}
 use Rattle.model.specs.Quotients.{metWith}
 use Rattle.quotient.specs.Gathered.{ArcsAt}

@@ -1,8 +1,8 @@
 // The states' fields, written front to back from the arcs gathered and the numbers given.
-use crate::sets;
-use cells::cell;
-use cells::numbers::narrow8;
-use cells::numbers::wide16;
+use base::cells::cell;
+use base::numbers::narrow8;
+use base::numbers::wide16;
+use base::sets;
 use writing::put_arc;
 use writing::put_state;
 ghost use mathlib.Core.Path.{_≡_};
@@ -11,7 +11,7 @@ ghost use Prim.Native.Nat.{ℕ, _+_, _<_, _≤_};
 ghost use lib.ListN.{length, getD};
 ghost use Rattle.model.specs.Classes.{Word};
 ghost use Rattle.model.specs.Joinings.{treeOf};
-ghost use Rattle.model.specs.Limits.{state-limit, work-bytes};
+ghost use Rattle.base.specs.Limits.{state-limit, work-bytes};
 ghost use Rattle.model.specs.Quotients.{statesOf};
 ghost use Rattle.model.specs.Tables.{stateFields};
 ghost use Rattle.writing.specs.Writing.{Put};

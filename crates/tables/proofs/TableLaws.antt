@@ -9,19 +9,20 @@ use native.Mathlib.Omega.{arith}
 use borrow.Author.Tests.{ltb-true, ltb-false, eq-eqb, ne-eqb}
 use lib.Dec.{ltb}
 use lib.ListN.{length, getD, drop, length-map, List·getD-map}
-use Rattle.model.specs.Limits.{when, firstOf, work-bytes, bad-sizes}
+use Rattle.base.specs.Limits.{when, firstOf, work-bytes, bad-sizes}
 use Rattle.model.specs.Fields.{File, Read, readTable}
 use Rattle.model.specs.Tables.{State, no-state, stateIn, statesIn, metByArcs, metByStates, isFirstMet}
 use Rattle.model.specs.Calls.{Refuses, tableOf, tableStates, tableFault}
 use Rattle.model.proofs.CallLaws.{SizesBad, refuses-first, sizes-refuse, sizes-pass}
+use Rattle.base.proofs.Places.{nth-in}
 use Rattle.model.proofs.TableBodies.{bodies-ok}
 use Rattle.fields.specs.Offsets.{bodyAt, nextAt, offsetAt, fieldsAt}
 use Rattle.fields.specs.Places.{TableReadAs}
 use Rattle.fields.specs.declared.Place.{Place}
 use Rattle.fields.specs.declared.Fields.the-variants as read
 use Rattle.fields.proofs.OffsetLaws.{offset-suc, field-within, length-fields, field-at}
-use Rattle.cells.specs.Cells.{cellAt, withCell}
-use Rattle.cells.proofs.CellLaws.{length-withCell, cell-same, cell-other-row}
+use Rattle.base.specs.Cells.{cellAt, withCell}
+use Rattle.base.proofs.CellLaws.{length-withCell, cell-same, cell-other-row}
 use Rattle.tables.specs.Arcs.{StateOk}
 use Rattle.tables.specs.Accepting.{readFault, TableRead, StateField, AcceptedAs, OpenedAs}
 use Rattle.tables.specs.declared.Accepted.{Accepted}
@@ -29,11 +30,6 @@ use Rattle.tables.specs.declared.Accepted.the-variants.{Table, Refused}
 use Rattle.tables.proofs.MetLaws.{states-stop, states-go, states-end, first-met-some}
 
 -- ---- where each state's field stands
-
-nth-in : (xs : List (List ℕ)) (i : ℕ) → i < length xs → In (getD xs i []) xs
-nth-in [] i h = let z : ⊥ = omega arith in absurd z
-nth-in (x ∷ xs) zero h = here refl
-nth-in (x ∷ xs) (suc i) h = there (nth-in xs i (omega arith))
 
 module _ (s : List ℕ) (p : Place) (t : TableRead s p) where
   items-are : fieldsAt s (p .start) (p .items) ≡ tableOf s .items
@@ -58,7 +54,7 @@ module _ (s : List ℕ) (p : Place) (t : TableRead s p) where
             subst StateOk (field-at s (p .start) (p .items) i h)
             (bodies-ok s (t .no-refusal) (getD (fieldsAt s (p .start) (p .items)) i [])
             (subst (λ (l : List (List ℕ)). In (getD (fieldsAt s (p .start) (p .items)) i []) l) items-are
-            (nth-in (fieldsAt s (p .start) (p .items)) i place)));
+            (nth-in [] (fieldsAt s (p .start) (p .items)) i place)));
       }
 
   -- and means the i-th state
@@ -98,13 +94,9 @@ fault-12 : (s : List ℕ) → readTable s .number ≡ 0 → isFirstMet (tableSta
 unfolding readFault
 fault-12 s e f = rw (e, f)
 
-first-of-some : (a b : ℕ) → 0 < a → firstOf a b ≡ a
-first-of-some zero b h = let z : ⊥ = omega arith in absurd z
-first-of-some (suc a) b h = refl
-
 pub fault-fields : (s : List ℕ) (k : ℕ) → readTable s .number ≡ k → 0 < k → readFault s ≡ k
 unfolding readFault
-fault-fields s k e h = rw e (first-of-some k (when (not (isFirstMet (tableStates s))) 12) h)
+fault-fields s k e h = refuses-first (when (not (isFirstMet (tableStates s))) 12) (record { is = e; some = h }) .is
 
 module _ (s : List ℕ) (p : Place) (t : TableRead s p) (lent work : List ℕ) (at met i : ℕ) (now : Passing s p lent work at met i) where
   -- the place of state i's field

@@ -14,7 +14,7 @@ use Rattle.model.specs.Tables as model
 use Rattle.model.specs.Tables.{State, no-state, stateIn, targetIn, walk-at, walkFrom}
 use Rattle.model.specs.Calls.{tableStates}
 use Rattle.fields.specs.Offsets.{bodyAt}
-use Rattle.cells.specs.Cells.{cellAt}
+use Rattle.base.specs.Cells.{cellAt}
 use Rattle.tables.specs.Accepting.{Ready}
 use Rattle.tables.specs.Walking.{targetOf, MovedTo, WalkedAs}
 use Rattle.tables.specs.declared.Walk.{Walk}

@@ -5,14 +5,14 @@ use mathlib.Core.Bool.{true, not}
 use mathlib.Core.List.{List}
 use Prim.Native.Nat.{ℕ, _≤_, _<_}
 use lib.ListN.{length, getD}
-use Rattle.model.specs.Limits.{when, firstOf, bad-numbering, state-limit, work-bytes}
+use Rattle.base.specs.Limits.{when, firstOf, bad-numbering, state-limit, work-bytes}
 use Rattle.model.specs.Fields.{readTable}
 use Rattle.model.specs.Tables.{stateIn, isFirstMet, no-state}
 use Rattle.model.specs.Calls.{tableOf, tableStates, tableFault}
 use Rattle.fields.specs.Offsets.{bodyAt, nextAt, offsetAt}
 use Rattle.fields.specs.Places.{fileOf, Sound}
 use Rattle.fields.specs.declared.Place.{Place}
-use Rattle.cells.specs.Cells.{cellAt}
+use Rattle.base.specs.Cells.{cellAt}
 use Rattle.tables.specs.Arcs.{StateOk}
 use Rattle.tables.specs.declared.Accepted.{Accepted}
 use Rattle.tables.specs.declared.Accepted.the-variants as answer

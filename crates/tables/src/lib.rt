@@ -2,26 +2,24 @@
 // lent area, and a walk finds its state's field by that offset.
 pub mod arcs;
 
-use cells::cell;
-use cells::set_cell;
+use base::cells::cell;
+use base::cells::set_cell;
+use base::limits::BAD_NUMBERING;
+use base::limits::BAD_SIZES;
 use fields::Fields;
 use fields::Place;
 use fields::offsets::body;
 use fields::offsets::next_field;
-use judging::limits::BAD_SIZES;
 use judging::sizes::sizes_bad;
 ghost use mathlib.Core.Path.{_≡_};
 ghost use Prim.Native.Nat.{_≤_, _<_};
 ghost use lib.ListN.{length};
-ghost use Rattle.model.specs.Limits.{input-limit, work-bytes, row-limit};
+ghost use Rattle.base.specs.Limits.{input-limit, work-bytes, row-limit};
 ghost use Rattle.model.specs.Tables.{stateIn, nameSet};
 ghost use Rattle.model.specs.Calls.{tableStates};
 ghost use Rattle.fields.specs.Offsets.{bodyAt};
 ghost use Rattle.tables.specs.Accepting.{TableRead, AcceptedAs, OpenedAs, StateField, Ready};
 ghost use Rattle.tables.specs.Walking.{SteppedAs, WalkedAs};
-
-// The refusal of a table whose states are not numbered first-met.
-pub const BAD_NUMBERING: u8 = 12;
 
 // A table's answer: where its parts stand, or its first refusal, which is not 0.
 pub enum Accepted {

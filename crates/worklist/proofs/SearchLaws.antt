@@ -6,11 +6,11 @@ use mathlib.Core.List.{List}
 use Prim.Native.Nat.{ℕ, zero, suc, _+_, _<_, _≤_}
 use native.Mathlib.Omega.{arith}
 use lib.ListN.{getD}
-use Rattle.model.specs.Limits.{state-limit}
-use Rattle.model.proofs.Tests.{decided, eq-dec, tells-leb}
+use Rattle.base.specs.Limits.{state-limit}
+use Rattle.base.proofs.Tests.{decided, eq-dec, tells-leb, le-or-lt}
 use Rattle.indexed.specs.Trees.{Arrays}
 use Rattle.indexed.specs.Partitions.{Share}
-use Rattle.indexed.proofs.Keys.{number-at}
+use Rattle.base.proofs.Places.{number-at}
 use Rattle.worklist.specs.Lists.{Next, Sorted}
 use Rattle.worklist.specs.Forks.{ForkLists}
 use Rattle.worklist.specs.Searches.{Past, ShareAfter}
@@ -42,10 +42,6 @@ next-later n keys rows g k k′ at higher reached next =
       least = λ u w is inside listed from. next .least u w is inside listed (omega arith);
     }
 
--- one number is no higher than another, or above it
-le-or-gt : (x y : ℕ) → (x ≤ y) ⊎ (y < x)
-le-or-gt x y = ⊎-elim inl (λ (no : x ≤ y → ⊥). inr (omega arith)) (decided (tells-leb x y))
-
 -- one list followed past a name
 module _
     {n : ℕ} {names rows links heads : List ℕ} {g : ℕ} (sorted : Sorted n names rows links heads) (low : g < state-limit)
@@ -62,7 +58,7 @@ module _
       (λ (higher : name < getD names u 0). subst (Next n names rows g (suc m)) (sym (past .stays higher))
       (next-later n names rows g k (suc m) (suc u) (omega arith)
       (λ v is. omega (arith, same-at names u v (omega arith), later higher)) next))
-      (le-or-gt (getD names u 0) name)
+      (le-or-lt (getD names u 0) name)
 
   -- the end is no farther, and nearer past the arc
   past-less : getD names u 0 ≤ name → left names at < left names (suc u)
@@ -71,7 +67,7 @@ module _
   past-left : left names at ≤ left names (suc u)
   past-left =
       ⊎-elim (λ (lower : getD names u 0 ≤ name). omega (arith, past-less lower))
-      (λ (higher : name < getD names u 0). omega (arith, ap (left names) (past .stays higher))) (le-or-gt (getD names u 0) name)
+      (λ (higher : name < getD names u 0). omega (arith, ap (left names) (past .stays higher))) (le-or-lt (getD names u 0) name)
 
 -- lists x and y followed up to one name: each pair of arcs of theirs that has one name, after which i names lead on, is still to
 -- come
@@ -142,7 +138,7 @@ module _
               ⊎-elim
               (λ (passed : getD names c 0 ≤ m).
               absurd (apart (only-pair c d hc hd in-x in-y (omega arith) (omega (arith, after .alike)) after)))
-              (λ (later : m < getD names c 0). omega arith) (le-or-gt (getD names c 0) m);
+              (λ (later : m < getD names c 0). omega arith) (le-or-lt (getD names c 0) m);
         }
       where
         sorted : Sorted n names (lists .rows) links heads
@@ -157,7 +153,7 @@ module _
         (λ (gt : getD names w 0 < getD names u 0).
         walking-past apart (getD names w 0) (at-w .reached w refl) (omega arith) (omega arith) (λ h. absurd (omega arith))
         (λ h. refl))
-        (le-or-gt (getD names u 0) (getD names w 0))
+        (le-or-lt (getD names u 0) (getD names w 0))
 
     pub walking-less : left names p′ + left names q′ < left names p + left names q
     walking-less =
@@ -166,7 +162,7 @@ module _
         omega (arith, past-less sorted x-low at-u past-u le, past-left sorted y-low at-w past-w, same-p, same-q))
         (λ (gt : getD names w 0 < getD names u 0).
         omega (arith, past-left sorted x-low at-u past-u, past-less sorted y-low at-w past-w (omega arith), same-p, same-q))
-        (le-or-gt (getD names u 0) (getD names w 0))
+        (le-or-lt (getD names u 0) (getD names w 0))
       where
         sorted : Sorted n names (lists .rows) links heads
         sorted = lists .kind .sorted

@@ -5,7 +5,7 @@ pub mod decimals;
 ghost use mathlib.Core.Path.{_≡_};
 ghost use Prim.Native.Nat.{_+_, _≤_, _<_};
 ghost use lib.ListN.{length};
-ghost use Rattle.model.specs.Limits.{when};
+ghost use Rattle.base.specs.Limits.{when, number-limit};
 ghost use Rattle.model.specs.Fields.{class-of};
 ghost use Rattle.model.specs.Tables.{classField};
 ghost use Rattle.writing.specs.Writing.{Put, stateHead, arcPart};
@@ -61,7 +61,7 @@ pub fn put_state(out: &mut [u8], at: usize, accepting: bool, arcs: usize) -> usi
 // An arc of a state field.
 pub fn put_arc(out: &mut [u8], at: usize, name: u8, target: usize) -> usize
     requires { ⌜ at + 3 ≤ length (now out) ⌝ }
-    requires { ⌜ target < 65536 ⌝ }
+    requires { ⌜ target < number-limit ⌝ }
     ensures { λ r. ⌜ Put (now (out .entry)) (now (out .exit)) at (arcPart name target) 3 r ⌝ }
 {
     out[at] = name;

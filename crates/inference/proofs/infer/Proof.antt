@@ -6,7 +6,7 @@ use native.Mathlib.Omega.{arith}
 use lib.ListN.{length}
 use lib.Seq.{length-take-le}
 use borrow.Author.Needs.{needs}
-use Rattle.model.specs.Limits.{state-limit, work-bytes}
+use Rattle.base.specs.Limits.{state-limit, work-bytes}
 use Rattle.model.specs.Classes.{Word}
 use Rattle.model.specs.Calls.{treeFault}
 use Rattle.fields.specs.Places.{fileOf}

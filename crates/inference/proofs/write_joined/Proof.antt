@@ -8,7 +8,7 @@ use borrow.Author.Tests.{leb-true, not-true, not-false}
 use lib.Dec.{leb}
 use lib.ListN.{length, getD}
 use borrow.Author.Needs.{needs}
-use Rattle.model.specs.Limits.{state-limit, input-limit}
+use Rattle.base.specs.Limits.{state-limit, input-limit}
 use Rattle.model.specs.Fields.{File}
 use Rattle.model.specs.Classes.{Word}
 use Rattle.fields.specs.Places.{fileOf}

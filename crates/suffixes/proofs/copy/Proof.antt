@@ -4,7 +4,7 @@ use Prim.Native.Nat.{ℕ, _-_, _<_, _≤_}
 use native.Mathlib.Omega.{arith}
 use lib.ListN.{length, getD, length-set}
 use lib.Seq.{ext-getD}
-use Rattle.indexed.proofs.Fills.{fill-more}
+use Rattle.base.proofs.Fills.{fill-more}
 use Rattle.suffixes.proofs.copy.Statement.{statement}
 use Rattle.suffixes.proofs.copy.Tie as tie
 

@@ -5,7 +5,7 @@ use mathlib.Core.List.{List}
 use Prim.Native.Nat.{ℕ, _+_, _-_}
 use native.Mathlib.Omega.{arith}
 use Rattle.model.specs.Tables.{stateIn, metByArcs}
-use Rattle.cells.specs.Cells.{withCell}
+use Rattle.base.specs.Cells.{withCell}
 use Rattle.tables.specs.Arcs.{StateOk}
 use Rattle.tables.specs.Accepting.{StateField}
 use Rattle.tables.proofs.TableLaws.{Passing, passing-begins, field-here, passing-goes, passing-stops, passing-refused}

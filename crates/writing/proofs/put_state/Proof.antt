@@ -3,7 +3,7 @@ use native.Mathlib.Omega.{arith}
 use lib.ListN.{length-set}
 use mathlib.Core.List.{[], _∷_, _++_}
 use Prim.Native.Nat.{_+_, _*_}
-use Rattle.model.specs.Limits.{when}
+use Rattle.base.specs.Limits.{when}
 use Rattle.model.specs.Tables.{twoBytes}
 use Rattle.writing.proofs.WritingLaws.{stores-put}
 use borrow.Author.Needs.{needs}
