@@ -1,6 +1,6 @@
 /*
- * Books and tables written and read field by field, for C99 and C++. Nothing but this file is needed for it, nothing is allocated, and
- * no byte outside the buffers that are handed in is read or written.
+ * Books and tables written and read field by field, for C99 and C++. There is nothing to link, nothing is allocated, and no byte
+ * outside the buffers that are handed in is read or written.
  *
  * A book is written name by name, then its class, then row by row:
  *
@@ -62,7 +62,7 @@ static inline plans_writer plans_write_to(uint8_t *bytes, size_t size)
     return to;
 }
 
-/* Writes one field, and returns 1; or 0 where it does not fit, where the content is over 65,535 bytes, and after another overflow. */
+/* Writes one field, and returns 1; or 0 where it does not fit, where its content is over 65,535 bytes, and after an overflow. */
 static inline int plans_write_field(plans_writer *to, uint8_t mark, const void *content, size_t length)
 {
     size_t room = to->size - to->length;
@@ -112,8 +112,8 @@ static inline plans_reader plans_read_from(const uint8_t *bytes, size_t length)
 }
 
 /*
- * Reads the next field, and returns 1; or 0 where no whole field is left. `at` tells the two cases of 0 apart: it is `length` at the
- * end of the bytes, and less where a field is cut off. The field is left as it was where 0 is returned.
+ * Reads the next field, and returns 1; or 0 where no whole field is left, and `field` is as it was. `at` tells the two cases of 0
+ * apart: it is `length` at the end of the bytes, and less where a field is cut off.
  */
 static inline int plans_read_field(plans_reader *from, plans_field *field)
 {
