@@ -1,5 +1,6 @@
 # Targets: see `make help`. The toolchain is the Rattle kit; its command is rt.
 .DEFAULT_GOAL := help
+.DELETE_ON_ERROR:
 .PHONY: help run test check lib listing install uninstall header example book text picture images test-book test-outside test-c test-install seeded-fault fuzz bench bench-search fmt
 
 help:
