@@ -1,6 +1,7 @@
 # Targets: see `make help`. The toolchain is the Rattle kit; its command is rt.
 .DEFAULT_GOAL := help
 .DELETE_ON_ERROR:
+.NOTPARALLEL:
 .PHONY: help run test check lib listing install uninstall header example book text picture images test-book test-outside test-c test-install seeded-fault fuzz bench bench-search fmt
 
 help:
@@ -67,8 +68,8 @@ $(SOURCES): always
 
 # The kit is asked for only where there is something to prove, so that what is built can be installed without it.
 $(LIBRARY): $(SOURCES)
+	@echo "make: proving the library, which is not built from these sources yet; from nothing that takes some minutes" >&2
 	@$(KIT)
-	@echo "make: proving the library; from nothing that takes some minutes" >&2
 	@scripts/proving rt check handed_over >&2
 	@scripts/quietly rt staticlib plans
 
@@ -82,8 +83,8 @@ $(SHARED): $(LIBRARY) VERSION scripts/plans.map
 listing: $(LISTING)
 
 $(LISTING): $(SOURCES)
+	@echo "make: proving the listing program, which is not built from these sources yet; from nothing that takes some minutes" >&2
 	@$(KIT)
-	@echo "make: proving the listing program; from nothing that takes some minutes" >&2
 	@scripts/proving rt check listing >&2
 	@touch $(LISTING)
 
