@@ -5,7 +5,6 @@ use mathlib.Core.Bool.{true, false}
 use mathlib.Core.List.{List, [], _∷_}
 use Prim.Native.Nat.{ℕ, _≤_, _<_}
 use native.Mathlib.Omega.{arith}
-use borrow.Author.Tests.{ltb-false}
 use lib.Dec.{ltb}
 use lib.ListN.{length}
 use Rattle.base.specs.Limits.{when, firstOf, input-limit, work-bytes, state-limit, bad-sizes, tree-too-large}
@@ -15,7 +14,7 @@ use Rattle.model.specs.Joinings.{treeOf, joinedGroups}
 use Rattle.model.specs.Quotients.{bookStates, bookTable}
 use Rattle.model.specs.Calls.{Gives, faultWith, bookOf, bookFault, buildFault, joinsOf}
 use Rattle.model.specs.Claims.{Accepted}
-use Rattle.model.proofs.FieldLaws.{first-of, when-none}
+use Rattle.model.proofs.FieldLaws.{first-of}
 use Rattle.model.proofs.CallLaws.{refuses-first, refuses-then, refuses-none, call-refused, seen-as, refusal-is, answer-by, answered}
 use Rattle.model.proofs.CallLaws.{SizesBad, sizes-refuse, sizes-pass, table-sizes, one-wrote, FrontOf, front-of}
 use Rattle.model.proofs.Trees.{treeOf-tree}
