@@ -1,5 +1,5 @@
--- Laws of lists that have nothing to do with plans: membership in mapped, flattened and filtered lists, lists without repeats,
--- and the pigeonhole law. Assumes nothing.
+-- Laws of lists that have nothing to do with plans: membership in mapped, flattened and filtered lists, the last element,
+-- lists without repeats, and the pigeonhole law. Assumes nothing.
 use mathlib.Core.Path.{_≡_, refl, sym, ap, _∙_, subst}
 use mathlib.Core.Logic.{_⊎_, inl, inr, ⊎-elim}
 use mathlib.Core.Bool.{Bool, true, false, cond, false≢true}
@@ -9,7 +9,7 @@ use mathlib.Core.List.{Memᴰ·cast, Memᴰ·of-map, Memᴰ·append-left, Memᴰ
 use Prim.Native.Nat.{suc, _≤_, _<_}
 use native.Mathlib.Omega.{arith}
 use lib.ListN.{length}
-use Rattle.base.specs.Lists.{filterBy}
+use Rattle.base.specs.Lists.{filterBy, lastOr}
 
 module _ {A B : Type 0} where
   -- an element of a mapped list is what an element became
@@ -59,6 +59,12 @@ module _ {A : Type 0} where
           ⊎-elim (λ p. (here p, subst (λ z. test z ≡ true) (sym p) e)) (λ r. (there (again r .0), again r .1))
           (List·Memᴰ·cases-cons n)
       go false e again n = (there (again n .0), again n .1)
+
+  -- the last element of a list with one more at its end
+  pub lastOr-snoc : (d : A) (xs : List A) (x : A) → lastOr d (xs ++ (x ∷ [])) ≡ x
+  unfolding lastOr
+  lastOr-snoc d [] x = refl
+  lastOr-snoc d (y ∷ xs) x = lastOr-snoc y xs x
 
   -- no element stands twice
   abbrev pub Distinct : List A → Type 0

@@ -16,7 +16,7 @@ pub fn cell(work: &[u8], row: usize, column: usize) -> usize
 {
     let high = 128 * row + 2 * column;
     let low = high + 1;
-    256 * numbers::wide8(work[high]) + numbers::wide8(work[low])
+    numbers::two_bytes(work[high], work[low])
 }
 
 // Writes a value into the cell in a row and a column; every other cell keeps its value.

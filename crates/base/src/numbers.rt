@@ -1,6 +1,7 @@
-// A number at another width: its value is the same. So that callers read arrays of u8 and u16 without casts of their own.
+// A number at another width: its value is the same. So that callers read arrays of u8 and u16 without casts of their own. And numbers
+// of two bytes.
 ghost use mathlib.Core.Path.{_≡_};
-ghost use Prim.Native.Nat.{_<_};
+ghost use Prim.Native.Nat.{_+_, _*_, _<_};
 ghost use Rattle.base.specs.Limits.{number-limit};
 
 // A byte as a usize.
@@ -15,6 +16,13 @@ pub fn wide16(x: u16) -> usize
     ensures { λ r. ⌜ r ≡ x ⌝ }
 {
     x as usize
+}
+
+// Two bytes as a number, the high one first.
+pub fn two_bytes(high: u8, low: u8) -> usize
+    ensures { λ r. ⌜ (r ≡ 256 * high + low) × (r < number-limit) ⌝ }
+{
+    256 * wide8(high) + wide8(low)
 }
 
 // A number below 256 as a byte.

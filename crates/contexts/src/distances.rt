@@ -5,8 +5,8 @@ use base::numbers::narrow8;
 use base::numbers::wide16;
 ghost use Prim.Native.Nat.{_<_, _≤_};
 ghost use lib.ListN.{length};
+ghost use Rattle.base.specs.Limits.{setting-limit};
 ghost use Rattle.contexts.specs.Distances.{Spread, SpreadAt, SpreadFrom, Marking, MarkedAt, MarkedBelow, Lowering, Lowered};
-ghost use Rattle.contexts.specs.Distances.{distance-limit};
 
 // The group of v has distance 0 if it has grown: v was not in the group of its label.
 fn mark_at(before: &[u16], groups: &[u16], dist: &mut [u8; STATE_LIMIT], v: usize)
@@ -86,7 +86,7 @@ pub fn distances(
 )
     requires marking { ⌜ Marking (length (now groups)) (now before) (now groups) (now dist) ⌝ }
     requires lowering { ⌜ Lowering (length (now groups)) (now parents) (now groups) (now dist) ⌝ }
-    requires limit { ⌜ j ≤ distance-limit ⌝ }
+    requires limit { ⌜ j ≤ setting-limit ⌝ }
     ensures { λ _.
         ⌜ Spread (length (now (groups .entry))) j (now (parents .entry)) (now (before .entry)) (now (groups .entry))
         (now (dist .exit)) ⌝ }

@@ -5,6 +5,7 @@ use crate::ahead::names_ahead;
 use crate::chains::link_arcs;
 use crate::chains::link_far;
 use crate::distances::distances;
+use base::limits::SETTING_LIMIT;
 use base::limits::STATE_LIMIT;
 use base::numbers::wide16;
 use partition::forest;
@@ -242,7 +243,7 @@ pub fn sweep(
         (now (groups .exit)) (now (arclinks .exit)) (now (archeads .exit)) (now (firsts .exit)) (now (seconds .exit)) 0 ⌝ }
 {
     let j = m - 1;
-    let mut dist = [8u8; STATE_LIMIT];
+    let mut dist = [SETTING_LIMIT; STATE_LIMIT];
     distances(j, parents, before, groups, &mut dist);
     suffixes::copy(groups, before);
     let mut next = [0u64; STATE_LIMIT];

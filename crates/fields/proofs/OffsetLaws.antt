@@ -6,7 +6,6 @@ use Prim.Native.Nat.{ℕ, zero, suc, _+_, _*_, _-_, _≤_, _<_}
 use native.Mathlib.Omega.{arith}
 use lib.ListN.{length, getD, take, drop, length-take, length-drop}
 use lib.Seq.{getD-drop, drop-drop}
-use Rattle.base.specs.Lists.{lastOr}
 use Rattle.fields.specs.Offsets.{lengthAt, bodyAt, nextAt, offsetAt, fieldsAt}
 
 -- the stated length, as two bytes at their offsets
@@ -57,8 +56,3 @@ pub fields-more : (s : List ℕ) (a n : ℕ) → fieldsAt s a (suc n) ≡ fields
 unfolding fieldsAt offsetAt
 fields-more s a zero = refl
 fields-more s a (suc n) = ap (λ (l : List (List ℕ)). bodyAt s a ∷ l) (fields-more s (nextAt s a) n)
-
-pub last-more : (d : List ℕ) (xs : List (List ℕ)) (x : List ℕ) → lastOr d (xs ++ (x ∷ [])) ≡ x
-unfolding lastOr
-last-more d [] x = refl
-last-more d (y ∷ xs) x = last-more y xs x

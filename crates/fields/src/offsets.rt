@@ -1,22 +1,16 @@
 // Going through the fields of an accepted file by their offsets, without copying.
+use base::numbers::two_bytes;
 ghost use mathlib.Core.Path.{_≡_};
-ghost use Prim.Native.Nat.{_+_, _≤_, _<_};
+ghost use Prim.Native.Nat.{_+_, _≤_};
 ghost use lib.ListN.{length};
 ghost use Rattle.fields.specs.Offsets.{lengthAt, bodyAt, nextAt};
-
-// A byte as an index.
-fn wide(x: u8) -> usize
-    ensures { λ r. ⌜ (r ≡ x) × (r < 256) ⌝ }
-{
-    x as usize
-}
 
 // How many bytes the field at this offset says that it has after its mark and length.
 pub fn body_len(s: &[u8], at: usize) -> usize
     requires { ⌜ at + 3 ≤ length (now s) ⌝ }
     ensures { λ r. ⌜ r ≡ lengthAt (now (s .entry)) at ⌝ }
 {
-    256 * wide(s[at + 1]) + wide(s[at + 2])
+    two_bytes(s[at + 1], s[at + 2])
 }
 
 // Where the field at this offset ends, which is where the next one begins.

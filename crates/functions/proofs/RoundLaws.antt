@@ -2,7 +2,7 @@
 -- already where the ends join nothing. Assumes nothing.
 use mathlib.Core.Path.{_≡_, sym, ap, subst, subst₂}
 use mathlib.Core.List.{List}
-use Prim.Native.Nat.{ℕ, _<_}
+use Prim.Native.Nat.{ℕ}
 use lib.ListN.{length, getD}
 use Rattle.base.specs.Lists.{numbersFrom}
 use Rattle.indexed.specs.Trees.{Arrays}

@@ -1,7 +1,6 @@
 // The set of names seen on the way to each state, as 64 bits.
 use base::numbers;
 use base::sets::with_name;
-ghost use mathlib.Core.Path.{_≡_};
 ghost use Prim.Native.Nat.{_<_};
 ghost use lib.ListN.{length};
 ghost use Rattle.indexed.specs.Trees.{Arrays};

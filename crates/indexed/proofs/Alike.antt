@@ -8,7 +8,6 @@ use Prim.Native.Nat.{ℕ, _+_, _-_, _≤_}
 use native.Mathlib.Omega.{arith}
 use lib.Dec.{eqb}
 use lib.ListN.{length, length-append}
-use lib.Seq.{drop-append-add}
 use Rattle.model.specs.Fields.{Class, class-of}
 use Rattle.model.specs.Classes.{Word, lastNames, fOf}
 use Rattle.model.specs.Joinings.{treeOf, joinedGroups}

@@ -3,8 +3,8 @@
 use mathlib.Core.Path.{_≡_, refl, sym, ap, _∙_, subst}
 use mathlib.Core.Bool.{Bool, true, false, cond}
 use mathlib.Core.List.{List, [], _∷_}
-use Prim.Native.Nat.{ℕ, zero, suc, _+_, _<_, _≤_}
-use native.Mathlib.Nat.{add-zero, not-suc-le-zero}
+use Prim.Native.Nat.{ℕ, zero, suc, _<_, _≤_}
+use native.Mathlib.Nat.{not-suc-le-zero}
 use native.Mathlib.Omega.{arith}
 use lib.Dec.{eqb}
 use lib.ListN.{length, getD, length-map}
@@ -12,7 +12,7 @@ use borrow.Author.Tests.{eqb-true, eqb-false}
 use Rattle.base.specs.Limits.{name-limit}
 use Rattle.base.specs.Lists.{numbersFrom}
 use Rattle.indexed.specs.Trees.{Arrays}
-use Rattle.base.proofs.Places.{number-at, length-numbersFrom, nth-number}
+use Rattle.base.proofs.Places.{number-at}
 use Rattle.indexed.specs.Partitions.{Refines, Labelled, KeyClosed, ForkClosed, sum}
 use Rattle.indexed.specs.Passes.{relabelled}
 

@@ -1,16 +1,11 @@
 -- How long listings are: an arc takes at most 39 bytes, a state 8 more, the first line 25; so the listing of a book takes at most
 -- 32,768, and a refusal's text at most 14. Assumes nothing.
-use mathlib.Core.Path.{_≡_}
-use mathlib.Core.Bool.{true, _&&_, and-eq-true-iff}
 use mathlib.Core.List.{List, [], _∷_, _++_, flatMap}
 use Prim.Native.Nat.{ℕ, zero, suc, _+_, _*_, _≤_}
 use native.Mathlib.Omega.{arith}
-use lib.Dec.{leb}
 use lib.ListN.{length, getD, length-append}
-use borrow.Author.Tests.{leb-true}
-use Rattle.base.specs.Lists.{all}
 use Rattle.base.specs.Limits.{name-bytes}
-use Rattle.model.specs.Fields.{Settings, Allowed, nameOk, startsName, continuesName}
+use Rattle.model.specs.Fields.{Settings, Allowed}
 use Rattle.model.specs.Tables.{Arc, State}
 use Rattle.model.specs.Listing.{decimal, arcText, stateLine, stateLines, listing, refusalText}
 use Rattle.model.specs.Calls.{bookOf}

@@ -4,8 +4,8 @@ use crate::words::TO;
 use crate::words::put_byte;
 use fields::Place;
 use fields::offsets::body;
-use fields::offsets::body_len;
 use fields::offsets::next_field;
+use tables::arcs::target_at;
 use writing::copy_in;
 use writing::decimals::put_decimal;
 ghost use mathlib.Core.Path.{_≡_};
@@ -17,7 +17,6 @@ ghost use Rattle.model.specs.Tables.{arc};
 ghost use Rattle.model.specs.Listing.{arcText};
 ghost use Rattle.fields.specs.Offsets.{offsetAt};
 ghost use Rattle.fields.specs.Places.{Sound};
-ghost use Rattle.tables.specs.Arcs.{IsTarget};
 ghost use Rattle.tables.specs.Accepting.{StateField};
 ghost use Rattle.listings.specs.Texts.{Fits, Puts, namesAt, nameAt, stateAt};
 
@@ -60,14 +59,6 @@ fn put_arc(table: &[u8], place: Place, name: u8, target: usize, text: &mut [u8],
     next = put_name(table, place, name, text, next);
     next = put_byte(text, next, TO);
     put_decimal(text, next, target)
-}
-
-// The target of the arc at an offset: two bytes after its name, as a field's length stands after its mark.
-fn target_at(state: &[u8], i: usize) -> usize
-    requires { ⌜ i + 3 ≤ length (now state) ⌝ }
-    ensures { λ r. ⌜ IsTarget (now (state .entry)) i r ⌝ }
-{
-    body_len(state, i)
 }
 
 // The arcs of the state whose field stands at `from`.

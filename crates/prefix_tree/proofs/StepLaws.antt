@@ -20,7 +20,8 @@ use Rattle.prefix_tree.specs.Growth.{Store, store, Sized, Grown, IsChild
 use Rattle.prefix_tree.specs.Growth.{Stepped, StepTooMany, RowAdded, RowTooMany, RowBelow, RowsBelow}
 use Rattle.prefix_tree.specs.Growth.{numberOf, countOf, TreeBuilt, TreeOf}
 use Rattle.prefix_tree.specs.declared.Tree.{Tree}
-use Rattle.prefix_tree.proofs.WordLaws.{at-in, snoc-new, snoc-length}
+use Rattle.base.proofs.Places.{nth-in}
+use Rattle.prefix_tree.proofs.WordLaws.{snoc-new, snoc-length}
 use Rattle.prefix_tree.proofs.TreeLaws.{withState-there, withState-new, walked, walked-none, walked-more, walked-longer}
 use Rattle.prefix_tree.proofs.TreeLaws.{treeOf-more, treeOf-longer}
 use Rattle.prefix_tree.proofs.GrowthLaws.{child-word, child-met, child-new, appended-grown, marked-grown, begun-grown, grown-built}
@@ -107,7 +108,7 @@ walking-begins row count s some few sizes =
       work-kept = refl;
       grown =
           λ nodes rows g.
-          rw (walked-none nodes row (Memᴰ·cast (sym (g .root)) (at-in nodes 0 (omega (arith, g .size))))) (g, g .root);
+          rw (walked-none nodes row (Memᴰ·cast (sym (g .root)) (nth-in [] nodes 0 (omega (arith, g .size))))) (g, g .root);
     }
 
 module _ (row : Word) (count : ℕ) (s₀ s : Store) (n state i : ℕ) (w : Walking row count s₀ s n state i) (more : i < length row) where
@@ -215,7 +216,7 @@ module _ (book : List ℕ) (start items : ℕ) (work₀ : List ℕ) (s : Store) 
   pub adding-below : RowsBelow (fieldsAt book start items) → RowBelow (bodyAt book at)
   adding-below below =
       rw (a .at-is, ← field-at book start items i more)
-      (below (getD (fieldsAt book start items) i []) (at-in (fieldsAt book start items) i (omega (arith, length-fields book start items))))
+      (below (getD (fieldsAt book start items) i []) (nth-in [] (fieldsAt book start items) i (omega (arith, length-fields book start items))))
 
   tree-next : treeOf (fieldsAt book start (suc i)) ≡ withStates (treeOf (fieldsAt book start i)) (beginnings (bodyAt book at))
   tree-next =

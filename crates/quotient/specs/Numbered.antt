@@ -11,7 +11,7 @@ use Rattle.model.specs.Tables.{Arc}
 use Rattle.model.specs.Quotients.{metWith}
 use Rattle.quotient.specs.Gathered.{ArcsAt}
 
--- of n groups these are met, in this order: each has its place as number, and every other group 512
+-- of n groups these are met, in this order: each has its place as number, and every other group `state-limit`
 pub record MetAs (n : ℕ) (met numbers : List ℕ) (count : ℕ) (seen : List ℕ) : Type 0 where
   pub few : n ≤ state-limit
   pub met-size : n ≤ length met

@@ -1,6 +1,6 @@
 // One state's field, over its bytes after mark and length: whether it accepts, the names of its arcs as a set, the target of an
 // arc, and the check of first-met numbering. Every function here requires that the field passed the reader's test.
-use base::numbers::wide8;
+use base::numbers::two_bytes;
 use base::sets::with_name;
 ghost use mathlib.Core.Path.{_≡_};
 ghost use Prim.Native.Nat.{_+_, _≤_, _<_};
@@ -10,11 +10,11 @@ ghost use Rattle.model.specs.Tables.{stateIn, metByArcs, targetIn, nameSet};
 ghost use Rattle.tables.specs.Arcs.{StateOk, IsTarget, metWith};
 
 // The target of the arc at an offset, high byte first.
-fn target_at(state: &[u8], i: usize) -> usize
+pub fn target_at(state: &[u8], i: usize) -> usize
     requires { ⌜ i + 3 ≤ length (now state) ⌝ }
     ensures { λ r. ⌜ IsTarget (now (state .entry)) i r ⌝ }
 {
-    256 * wide8(state[i + 1]) + wide8(state[i + 2])
+    two_bytes(state[i + 1], state[i + 2])
 }
 
 // How many states are met after an arc to a state met already, or to the next new one.

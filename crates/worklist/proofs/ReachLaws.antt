@@ -1,14 +1,12 @@
 -- Laws of a partition reached with pairs pending in the queue, whatever closed means: none pending yet, two groups made one, pairs
 -- added that every closed partition joins, the first pair taken, and none left. Assumes nothing.
-use mathlib.Core.Path.{_≡_, refl, sym, subst, subst₂}
+use mathlib.Core.Path.{_≡_, sym, subst, subst₂}
 use mathlib.Core.Logic.{_⊎_, inl, inr}
-use mathlib.Core.Bool.{Bool, true, false}
+use mathlib.Core.Bool.{Bool}
 use mathlib.Core.List.{List}
 use Prim.Native.Nat.{ℕ, suc, _<_, _≤_}
 use native.Mathlib.Omega.{arith}
-use lib.Dec.{ltb}
 use lib.ListN.{getD}
-use borrow.Author.Tests.{ltb-true, ltb-false}
 use Rattle.base.proofs.Tests.{eq-dec, le-or-lt}
 use Rattle.indexed.specs.Partitions.{Refines, Labelled}
 use Rattle.partition.specs.Joins.{JoinedTwo}

@@ -1,13 +1,13 @@
 -- Laws of the search on two lists of arcs: both are followed by ascending name, and every pair of arcs of one name after which
 -- enough names lead on is still to come; at the end of a list there is none. Assumes nothing.
 use mathlib.Core.Path.{_≡_, refl, sym, ap, _∙_, subst, subst₂}
-use mathlib.Core.Logic.{_⊎_, inl, inr, ⊎-elim}
+use mathlib.Core.Logic.{_⊎_, ⊎-elim}
 use mathlib.Core.List.{List}
 use Prim.Native.Nat.{ℕ, zero, suc, _+_, _<_, _≤_}
 use native.Mathlib.Omega.{arith}
 use lib.ListN.{getD}
 use Rattle.base.specs.Limits.{state-limit}
-use Rattle.base.proofs.Tests.{decided, eq-dec, tells-leb, le-or-lt}
+use Rattle.base.proofs.Tests.{eq-dec, le-or-lt}
 use Rattle.indexed.specs.Trees.{Arrays}
 use Rattle.indexed.specs.Partitions.{Share}
 use Rattle.base.proofs.Places.{number-at}

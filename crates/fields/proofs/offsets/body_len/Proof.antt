@@ -1,49 +1,37 @@
 -- `offsets::body_len` meets its contract. Assumes nothing.
-use native.Mathlib.Omega.{arith}
+use mathlib.Core.Path.{sym, _∙_}
 use Rattle.fields.proofs.OffsetLaws.{length-at}
 use borrow.Author.Needs.{needs}
 use Rattle.fields.proofs.offsets.body_len.Statement.{statement}
 use Rattle.fields.proofs.offsets.body_len.Tie as tie
 
-add-wide : tie.Need-add-wide
-add-wide c = search needs
+add-two-bytes : tie.Need-add-two-bytes
+add-two-bytes c = search needs
 
-shared-slice-read-wide : tie.Need-shared-slice-read-wide
-shared-slice-read-wide c = search needs
+shared-slice-read-two-bytes : tie.Need-shared-slice-read-two-bytes
+shared-slice-read-two-bytes c = search needs
 
-wide-requires : tie.Need-wide-requires
-wide-requires c κs = search needs
+add-two-bytes-2 : tie.Need-add-two-bytes-2
+add-two-bytes-2 c = search needs
 
-mul-result : tie.Need-mul-result
-mul-result c = omega arith
+shared-slice-read-two-bytes-2 : tie.Need-shared-slice-read-two-bytes-2
+shared-slice-read-two-bytes-2 c = search needs
 
-add-wide-2 : tie.Need-add-wide-2
-add-wide-2 c = search needs
-
-shared-slice-read-wide-2 : tie.Need-shared-slice-read-wide-2
-shared-slice-read-wide-2 c = search needs
-
-wide-requires-2 : tie.Need-wide-requires-2
-wide-requires-2 c κs = search needs
-
-add-result : tie.Need-add-result
-add-result c = omega arith
+two-bytes-requires : tie.Need-two-bytes-requires
+two-bytes-requires c κs = search needs
 
 returns : tie.Need-returns
 returns c =
-    let at = c .before .before .before .before .before .args in
+    let at = c .before .before .before .before .args in
     cc (length-at (at .s .now) (at .at))
 
 pub body-len-spec : {M : Type 1} → statement M
 body-len-spec =
     tie.close
     (tie.spec
-    add-wide
-    shared-slice-read-wide
-    wide-requires
-    mul-result
-    add-wide-2
-    shared-slice-read-wide-2
-    wide-requires-2
-    add-result
+    add-two-bytes
+    shared-slice-read-two-bytes
+    add-two-bytes-2
+    shared-slice-read-two-bytes-2
+    two-bytes-requires
     returns)
