@@ -1,13 +1,13 @@
 // The arcs of a state's line: each a space, its name, `>`, its target.
 use crate::words::SPACE;
 use crate::words::TO;
-use crate::words::put_byte;
 use fields::Place;
 use fields::offsets::body;
 use fields::offsets::body_len;
 use fields::offsets::next_field;
 use writing::copy_in;
 use writing::decimals::put_decimal;
+use writing::put_byte;
 ghost use mathlib.Core.Path.{_≡_};
 ghost use mathlib.Core.List.{flatMap};
 ghost use Prim.Native.Nat.{_+_, _≤_, _<_};
@@ -18,7 +18,8 @@ ghost use Rattle.fields.specs.Offsets.{offsetAt};
 ghost use Rattle.fields.specs.Places.{Sound};
 ghost use Rattle.tables.specs.Arcs.{IsTarget};
 ghost use Rattle.tables.specs.Accepting.{StateField};
-ghost use Rattle.listings.specs.Texts.{Fits, Puts, namesAt, nameAt, stateAt};
+ghost use Rattle.writing.specs.Writing.{Fits, Put};
+ghost use Rattle.listings.specs.Texts.{namesAt, nameAt, stateAt};
 
 // Where the n-th name's field begins, names being the first fields of a table.
 fn name_offset(table: &[u8], n: u8) -> usize
@@ -38,7 +39,7 @@ fn name_offset(table: &[u8], n: u8) -> usize
 fn put_name(table: &[u8], place: Place, n: u8, text: &mut [u8], at: usize) -> usize
     requires { ⌜ Sound (now table) place ⌝ }
     requires { ⌜ Fits (now text) at (nameAt (now table) place n) ⌝ }
-    ensures { λ r. ⌜ Puts (now (text .entry)) (now (text .exit)) at (nameAt (now (table .entry)) place n) r ⌝ }
+    ensures { λ r. ⌜ Put (now (text .entry)) (now (text .exit)) at (nameAt (now (table .entry)) place n) r ⌝ }
 {
     if place.names <= n {
         return at;
@@ -52,7 +53,7 @@ fn put_arc(table: &[u8], place: Place, name: u8, target: usize, text: &mut [u8],
     requires { ⌜ Sound (now table) place ⌝ }
     requires { ⌜ target < 65536 ⌝ }
     requires { ⌜ Fits (now text) at (arcText (namesAt (now table) place) (arc name target)) ⌝ }
-    ensures { λ r. ⌜ Puts (now (text .entry)) (now (text .exit)) at
+    ensures { λ r. ⌜ Put (now (text .entry)) (now (text .exit)) at
         (arcText (namesAt (now (table .entry)) place) (arc name target)) r ⌝ }
 {
     let mut next = put_byte(text, at, SPACE);
@@ -74,7 +75,7 @@ pub fn put_arcs(table: &[u8], place: Place, from: usize, text: &mut [u8], at: us
     requires { ⌜ Sound (now table) place ⌝ }
     requires { ⌜ StateField (now table) from ⌝ }
     requires { ⌜ Fits (now text) at (flatMap (arcText (namesAt (now table) place)) (stateAt (now table) from .arcs)) ⌝ }
-    ensures { λ r. ⌜ Puts (now (text .entry)) (now (text .exit)) at
+    ensures { λ r. ⌜ Put (now (text .entry)) (now (text .exit)) at
         (flatMap (arcText (namesAt (now (table .entry)) place)) (stateAt (now (table .entry)) from .arcs)) r ⌝ }
 {
     let state = body(table, from);

@@ -9,7 +9,8 @@ use Rattle.fields.specs.Offsets.{bodyAt, nextAt}
 use Rattle.fields.proofs.OffsetLaws.{length-fields}
 use Rattle.fields.proofs.Parts.{name-at, name-within}
 use Rattle.writing.proofs.WritingLaws.{put-none}
-use Rattle.listings.specs.Texts.{Fits, Puts, namesAt, nameAt}
+use Rattle.writing.specs.Writing.{Fits, Put}
+use Rattle.listings.specs.Texts.{namesAt, nameAt}
 use Rattle.listings.proofs.arcs.put_name.Statement.{statement}
 use Rattle.listings.proofs.arcs.put_name.Tie as tie
 
@@ -19,7 +20,7 @@ returns c =
     let s = args .table .now in
     let many : length (namesAt s (args .place)) ≤ args .n = omega (arith, length-fields s 0 (args .place .names)) in
     let none : nameAt s (args .place) (args .n) ≡ [] = List·getD-eq-default (namesAt s (args .place)) [] many in
-    subst (λ (bytes : List ℕ). Puts (args .text .now) (args .text .now) (args .at) bytes (args .at)) (sym none)
+    subst (λ (bytes : List ℕ). Put (args .text .now) (args .text .now) (args .at) bytes (args .at)) (sym none)
     (put-none (args .text .now) (args .at))
 
 name-offset-requires : tie.Need-name-offset-requires
@@ -65,7 +66,7 @@ unfolding start-of
 returns-2 c =
     let copied = c .before .before .copy-in in
     let args = start-of (c .before .before .before) .args in
-    subst (λ (bytes : List ℕ). Puts (args .text .now) (copied .last .0) (args .at) bytes (copied .result))
+    subst (λ (bytes : List ℕ). Put (args .text .now) (copied .last .0) (args .at) bytes (copied .result))
     (name-is (c .before .before .before)) (copied .ensures)
 
 pub put-name-spec : {M : Type 1} → statement M
