@@ -8,7 +8,7 @@ use borrow.Author.Tests.{le-leb, lt-leb, eq-eqb, ne-eqb}
 use lib.Dec.{leb}
 use lib.ListN.{getD}
 use Rattle.model.specs.Fields.{FileKind, File, mayCome, nameFault, classFault, rowFault, stateFault, fieldFault, withField}
-use Rattle.fields.specs.Offsets.{bodyAt}
+use Rattle.judging.specs.Offsets.{bodyAt}
 use Rattle.fields.specs.Places.{fileOf, Stepped, NameStep, ClassStep, RowStep, StateStep, FieldStep}
 use Rattle.fields.specs.declared.Place.{Place}
 use Rattle.fields.specs.declared.Step.{Step}

@@ -12,11 +12,11 @@ use lib.ListN.{length, getD, take, drop}
 use Rattle.model.specs.Lists.{lastOr}
 use Rattle.model.specs.Limits.{name-limit, book-rows, state-limit, when, firstOf}
 use Rattle.model.specs.Fields.{File, nameOk, above, settingsOk, classOk, nameFault, classFault, rowFault, stateFault, withField}
-use Rattle.fields.specs.Offsets.{lengthAt, bodyAt, nextAt, offsetAt, fieldsAt}
+use Rattle.judging.specs.Offsets.{lengthAt, bodyAt, nextAt, offsetAt, fieldsAt}
 use Rattle.judging.specs.Judged.{NameJudged, RowJudged, StateJudged}
 use Rattle.fields.specs.Places.{fileOf, withItem, Sound, Whole, Grown, Faulty}
 use Rattle.fields.specs.declared.Place.{Place}
-use Rattle.fields.proofs.OffsetLaws.{body-at, length-body, offset-suc, length-fields, fields-more, last-more}
+use Rattle.judging.proofs.OffsetLaws.{body-at, length-body, offset-suc, length-fields, fields-more, last-more}
 
 -- no fault, so none of the tests found one
 no-when : (b : Bool) (n : ℕ) → when b (suc n) ≡ 0 → b ≡ false

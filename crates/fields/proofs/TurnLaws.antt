@@ -13,7 +13,7 @@ use lib.Seq.{getD-drop, drop-drop}
 use Rattle.model.specs.Fields.{FileKind, File, refused, atEnd, fieldFault, withField, runsPast, bodyOf, afterField, statedLength}
 use Rattle.model.specs.Fields.{Class, readFrom, readWith}
 use Rattle.model.specs.Lists.{lastOr}
-use Rattle.fields.specs.Offsets.{lengthAt, bodyAt, nextAt, offsetAt, fieldsAt}
+use Rattle.judging.specs.Offsets.{lengthAt, bodyAt, nextAt, offsetAt, fieldsAt}
 use Rattle.fields.specs.Places.{fileOf, Sound, FieldStep, Turned, Goes, Refuses, Finished, ReadAs}
 use Rattle.fields.specs.declared.Place.{Place}
 use Rattle.fields.specs.declared.Step.{Step}

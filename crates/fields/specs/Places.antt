@@ -8,7 +8,7 @@ use Rattle.model.specs.Lists.{lastOr}
 use Rattle.model.specs.Limits.{name-limit, state-limit}
 use Rattle.model.specs.Fields.{Class, class-of, File, file, FileKind, Read, refused, accepted-file, readFrom, readWith, nameFault}
 use Rattle.model.specs.Fields.{classFault, rowFault, stateFault, fieldFault, withField}
-use Rattle.fields.specs.Offsets.{bodyAt, nextAt, offsetAt, fieldsAt}
+use Rattle.judging.specs.Offsets.{bodyAt, nextAt, offsetAt, fieldsAt}
 use Rattle.fields.specs.declared.Place.{Place}
 use Rattle.fields.specs.declared.Step.{Step}
 use Rattle.fields.specs.declared.Fields.{Fields}

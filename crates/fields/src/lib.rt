@@ -1,10 +1,12 @@
 // The reader of books and tables: fields in file order, each judged by the refusals that concern it, nothing copied. What is accepted
 // stays where it is, and a Place says where: specs/Places has the file that a place stands for.
 pub mod limits;
-pub mod offsets;
 
 use judging::classes::class_fault;
 use judging::names::name_fault;
+use judging::offsets::body;
+use judging::offsets::body_len;
+use judging::offsets::next_field;
 use judging::rows::row_fault;
 use judging::states::state_fault;
 use limits::CLASS_MARK;
@@ -18,9 +20,6 @@ use limits::NAMES_MET;
 use limits::ROW_MARK;
 use limits::STATE_MARK;
 use limits::UNFINISHED;
-use offsets::body;
-use offsets::body_len;
-use offsets::next_field;
 ghost use mathlib.Core.Path.{_≡_};
 ghost use Prim.Native.Nat.{_≤_, _<_};
 ghost use lib.ListN.{length};

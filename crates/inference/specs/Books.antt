@@ -10,7 +10,7 @@ use Rattle.model.specs.Fields.{Class, class-of, settingsOk, book}
 use Rattle.model.specs.Classes.{Word}
 use Rattle.model.specs.Joinings.{treeOf, joinedGroups}
 use Rattle.model.specs.Quotients.{statesOf}
-use Rattle.fields.specs.Offsets.{fieldsAt}
+use Rattle.judging.specs.Offsets.{fieldsAt}
 use Rattle.fields.specs.Places.{ReadAs}
 use Rattle.fields.specs.declared.Place.{Place}
 use Rattle.fields.specs.declared.Fields.the-variants.{Accepted}

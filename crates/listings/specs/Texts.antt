@@ -1,22 +1,18 @@
 -- What a listing is made of: its first line, and the names and states that it is of, by their place in the table. Assumes nothing.
-use mathlib.Core.List.{List, [], _++_}
+use mathlib.Core.List.{List, _++_}
 use Prim.Native.Nat.{ℕ}
-use lib.ListN.{getD}
 use Rattle.model.specs.Tables.{State, stateIn}
 use Rattle.model.specs.Listing.{decimal, newline, states-word, joins-word}
-use Rattle.fields.specs.Offsets.{bodyAt, fieldsAt}
+use Rattle.judging.specs.Offsets.{bodyAt, fieldsAt}
 use Rattle.fields.specs.declared.Place.{Place}
 
 -- `states N joins M`
 unfoldable pub firstLine : ℕ → ℕ → List ℕ
 firstLine states joins = states-word ++ (decimal states ++ (joins-word ++ (decimal joins ++ newline)))
 
--- the names of the file at a place, and the n-th of them, empty where there is none
+-- the names of the file at a place
 abbrev pub namesAt : List ℕ → Place → List (List ℕ)
 namesAt s p = fieldsAt s 0 (p .names)
-
-abbrev pub nameAt : List ℕ → Place → ℕ → List ℕ
-nameAt s p n = getD (namesAt s p) n []
 
 -- the state whose field stands at an offset
 abbrev pub stateAt : List ℕ → ℕ → State

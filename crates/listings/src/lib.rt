@@ -6,7 +6,7 @@ mod words;
 
 use cells::numbers::wide8;
 use fields::Place;
-use fields::offsets::next_field;
+use judging::offsets::next_field;
 use tables::accepts;
 use words::NEWLINE;
 use words::SPACE;

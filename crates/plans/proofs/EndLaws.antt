@@ -14,7 +14,7 @@ use Rattle.model.specs.Tables.{Arc, State, no-state, stateIn, nameSet, walk, re
 use Rattle.model.specs.Tables.{longestBeginning, nextNames, nextCount}
 use Rattle.model.specs.Calls.{tableStates}
 use Rattle.model.proofs.Arcs.{Ascending}
-use Rattle.fields.specs.Offsets.{bodyAt}
+use Rattle.judging.specs.Offsets.{bodyAt}
 use Rattle.cells.specs.Cells.{cellAt}
 use Rattle.tables.specs.Accepting.{StateField, Ready}
 use Rattle.tables.specs.Walking.{WalkedAs}

@@ -15,11 +15,11 @@ use Rattle.model.specs.Tables.{State, no-state, stateIn, statesIn, metByArcs, m
 use Rattle.model.specs.Calls.{Refuses, tableOf, tableStates, tableFault}
 use Rattle.model.proofs.CallLaws.{SizesBad, refuses-first, sizes-refuse, sizes-pass}
 use Rattle.model.proofs.TableBodies.{bodies-ok}
-use Rattle.fields.specs.Offsets.{bodyAt, nextAt, offsetAt, fieldsAt}
+use Rattle.judging.specs.Offsets.{bodyAt, nextAt, offsetAt, fieldsAt}
 use Rattle.fields.specs.Places.{ReadAs}
 use Rattle.fields.specs.declared.Place.{Place}
 use Rattle.fields.specs.declared.Fields.the-variants as read
-use Rattle.fields.proofs.OffsetLaws.{offset-suc, field-within, length-fields, field-at}
+use Rattle.judging.proofs.OffsetLaws.{offset-suc, field-within, length-fields, field-at}
 use Rattle.cells.specs.Cells.{cellAt, withCell}
 use Rattle.cells.proofs.CellLaws.{length-withCell, cell-same, cell-other-row}
 use Rattle.tables.specs.Arcs.{StateOk}

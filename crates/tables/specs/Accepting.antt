@@ -9,7 +9,7 @@ use Rattle.model.specs.Limits.{when, firstOf, bad-numbering, state-limit, work-
 use Rattle.model.specs.Fields.{table, readFields}
 use Rattle.model.specs.Tables.{stateIn, isFirstMet, no-state}
 use Rattle.model.specs.Calls.{tableOf, tableStates, tableFault}
-use Rattle.fields.specs.Offsets.{bodyAt, nextAt, offsetAt}
+use Rattle.judging.specs.Offsets.{bodyAt, nextAt, offsetAt}
 use Rattle.fields.specs.Places.{fileOf, Sound}
 use Rattle.fields.specs.declared.Place.{Place}
 use Rattle.cells.specs.Cells.{cellAt}
