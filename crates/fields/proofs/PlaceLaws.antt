@@ -10,22 +10,22 @@ use borrow.Author.Tests.{leb-false, eqb-true, not-false}
 use lib.Dec.{leb, eqb}
 use lib.ListN.{length, getD, take, drop}
 use Rattle.model.specs.Lists.{lastOr}
-use Rattle.model.specs.Limits.{name-limit, book-rows, state-limit, when, firstOf}
-use Rattle.model.specs.Fields.{File, nameOk, above, settingsOk, classOk, nameFault, classFault, rowFault, stateFault, withField}
+use Rattle.model.specs.Limits.{name-limit, book-rows, state-limit, bad-row, bad-state, when, firstOf}
+use Rattle.model.specs.Calls.{Refuses}
+use Rattle.model.specs.Fields.{File, nameOk, above, settingsOk, classOk, rowOk, stateOk, nameFault, classFault, rowFault, stateFault}
+use Rattle.model.specs.Fields.{withField}
 use Rattle.judging.specs.Offsets.{lengthAt, bodyAt, nextAt, offsetAt, fieldsAt}
-use Rattle.judging.specs.Judged.{NameJudged, RowJudged, StateJudged}
-use Rattle.fields.specs.Places.{fileOf, withItem, Sound, Whole, Grown, Faulty}
+use Rattle.judging.specs.Judged.{NameJudged, ItemJudged}
+use Rattle.judging.proofs.ItemLaws.{items-left}
+use Rattle.fields.specs.Places.{fileOf, withItem, Sound, Whole, Grown, StepBy}
 use Rattle.fields.specs.declared.Place.{Place}
+use Rattle.fields.specs.declared.Step.{Step}
 use Rattle.judging.proofs.OffsetLaws.{body-at, length-body, offset-suc, length-fields, fields-more, last-more}
 
 -- no fault, so none of the tests found one
 no-when : (b : Bool) (n : ℕ) → when b (suc n) ≡ 0 → b ≡ false
 no-when true n e = let z : ⊥ = omega (arith, e) in absurd z
 no-when false n e = refl
-
-first-none : (a b : ℕ) → firstOf a b ≡ 0 → a ≡ 0
-first-none zero b e = refl
-first-none (suc a) b e = e
 
 second-none : (a b : ℕ) → firstOf a b ≡ 0 → b ≡ 0
 second-none zero b e = e
@@ -40,13 +40,13 @@ names-left f b e =
     leb-false name-limit (length (f .names))
     (no-when (leb name-limit (length (f .names))) 6 (second-none (when (not (above (f .names) b)) 6) last later))
 
-pub rows-left : (f : File) (b : List ℕ) → rowFault f b ≡ 0 → length (f .items) < book-rows
+pub rows-few : (f : File) (b : List ℕ) → rowFault f b ≡ 0 → length (f .items) < state-limit
 unfolding rowFault
-rows-left f b e = leb-false book-rows (length (f .items)) (no-when (leb book-rows (length (f .items))) 6 (first-none _ _ e))
+rows-few f b e = omega (arith, items-left book-rows rowOk bad-row f b e)
 
-pub states-left : (f : File) (b : List ℕ) → stateFault f b ≡ 0 → length (f .items) < state-limit
+pub states-few : (f : File) (b : List ℕ) → stateFault f b ≡ 0 → length (f .items) < state-limit
 unfolding stateFault
-states-left f b e = leb-false state-limit (length (f .items)) (no-when (leb state-limit (length (f .items))) 6 (first-none _ _ e))
+states-few f b e = items-left state-limit stateOk bad-state f b e
 
 pub class-bytes : (b : List ℕ) → classFault b ≡ 0 → length b ≡ 3
 unfolding classFault
@@ -186,33 +186,16 @@ module _ (s : List ℕ) (p : Place) (whole : Whole s p) where
         some-items = λ _. omega arith;
       }
 
-  row-grows : rowFault (fileOf s p) (bodyAt s (p .at)) ≡ 0
-      → Grown s p (rowFault (fileOf s p) (bodyAt s (p .at))) (withField (fileOf s p) 3 (bodyAt s (p .at)))
-      (withItem p (nextAt s (p .at)))
+  -- the place after an item that nothing refuses
+  pub item-goes : (q : Place) (next fault : ℕ) → q ≡ withItem p next → next ≡ nextAt s (p .at) → fault ≡ 0 → p .items < state-limit
+      → Grown s p fault (withField (fileOf s p) 3 (bodyAt s (p .at))) q
   unfolding withField
-  row-grows e =
-      record {
-        no-fault = e;
-        sound = item-sound (omega (arith, rows-left (fileOf s p) (bodyAt s (p .at)) e, length-fields s (p .start) (p .items)));
-        file-is = rw items-more;
-        after = refl;
-      }
-
-  state-grows : stateFault (fileOf s p) (bodyAt s (p .at)) ≡ 0
-      → Grown s p (stateFault (fileOf s p) (bodyAt s (p .at))) (withField (fileOf s p) 4 (bodyAt s (p .at)))
-      (withItem p (nextAt s (p .at)))
-  unfolding withField
-  state-grows e =
-      record {
-        no-fault = e;
-        sound = item-sound (omega (arith, states-left (fileOf s p) (bodyAt s (p .at)) e, length-fields s (p .start) (p .items)));
-        file-is = rw items-more;
-        after = refl;
-      }
+  item-goes q next fault m n e few =
+      rw (m, n) (record { no-fault = e; sound = item-sound few; file-is = rw items-more; after = refl })
 
 -- a fault that is not 0 is a refusal
-faulty : (fault number : ℕ) → fault ≡ number → (number ≡ 0 → ⊥) → Faulty fault number
-faulty fault number e n = record { is = e; some = omega arith }
+pub refuses-some : (fault number : ℕ) → fault ≡ number → (number ≡ 0 → ⊥) → Refuses fault number
+refuses-some fault number e n = record { is = e; some = omega arith }
 
 -- What the code has at hand after judging a field: the field's bytes, its fault, where the next field begins. Of a name:
 module _ (s : List ℕ) (p : Place) (whole : Whole s p) (name : List ℕ) (fault : ℕ) (bytes : name ≡ bodyAt s (p .at))
@@ -224,8 +207,8 @@ module _ (s : List ℕ) (p : Place) (whole : Whole s p) (name : List ℕ) (fault
       rw q (whole .sound .last-is) in
       subst (λ (b : List ℕ). nameFault (fileOf s p) b ≡ fault) bytes (judged .is (fileOf s p) last (length-fields s 0 (p .names)))
 
-  pub name-refused : (fault ≡ 0 → ⊥) → Faulty (nameFault (fileOf s p) (bodyAt s (p .at))) fault
-  name-refused n = faulty (nameFault (fileOf s p) (bodyAt s (p .at))) fault name-fault-is n
+  pub name-refused : (fault ≡ 0 → ⊥) → Refuses (nameFault (fileOf s p) (bodyAt s (p .at))) fault
+  name-refused n = refuses-some (nameFault (fileOf s p) (bodyAt s (p .at))) fault name-fault-is n
 
   pub name-goes : (next : ℕ) → next ≡ nextAt s (p .at) → p .stage ≤ 1 → fault ≡ 0
       → Grown s p (nameFault (fileOf s p) (bodyAt s (p .at))) (withField (fileOf s p) 1 (bodyAt s (p .at)))
@@ -238,47 +221,26 @@ module _ (s : List ℕ) (p : Place) (whole : Whole s p) (class : List ℕ) (faul
   class-fault-is : classFault (bodyAt s (p .at)) ≡ fault
   class-fault-is = rw bytes at (sym judged)
 
-  pub class-refused : (fault ≡ 0 → ⊥) → Faulty (classFault (bodyAt s (p .at))) fault
-  class-refused n = faulty (classFault (bodyAt s (p .at))) fault class-fault-is n
+  pub class-refused : (fault ≡ 0 → ⊥) → Refuses (classFault (bodyAt s (p .at))) fault
+  class-refused n = refuses-some (classFault (bodyAt s (p .at))) fault class-fault-is n
 
   pub class-goes : (next : ℕ) → next ≡ nextAt s (p .at) → p .stage ≤ 2 → fault ≡ 0
       → Grown s p (classFault (bodyAt s (p .at))) (withField (fileOf s p) 2 (bodyAt s (p .at))) (classPlace p next class)
   class-goes next n h e = rw (n, bytes) (class-grows s p whole h (class-fault-is ∙ e))
 
--- of a row:
-module _ (s : List ℕ) (p : Place) (whole : Whole s p) (row : List ℕ) (fault : ℕ) (bytes : row ≡ bodyAt s (p .at))
-    (judged : RowJudged (p .names) (p .items) row fault) where
-  row-fault-is : rowFault (fileOf s p) (bodyAt s (p .at)) ≡ fault
-  row-fault-is =
-      subst (λ (b : List ℕ). rowFault (fileOf s p) b ≡ fault) bytes
+-- of an item, a row or a state, by what judges it:
+module _ (judge : File → List ℕ → ℕ) (s : List ℕ) (p : Place) (item : List ℕ) (fault : ℕ) (bytes : item ≡ bodyAt s (p .at))
+    (judged : ItemJudged judge (p .names) (p .items) item fault) where
+  item-fault-is : judge (fileOf s p) (bodyAt s (p .at)) ≡ fault
+  item-fault-is =
+      subst (λ (b : List ℕ). judge (fileOf s p) b ≡ fault) bytes
       (judged .is (fileOf s p) (length-fields s 0 (p .names)) (length-fields s (p .start) (p .items)))
 
-  pub row-refused : (fault ≡ 0 → ⊥) → Faulty (rowFault (fileOf s p) (bodyAt s (p .at))) fault
-  row-refused n = faulty (rowFault (fileOf s p) (bodyAt s (p .at))) fault row-fault-is n
+  -- where nothing refuses it there is room for it
+  pub item-room : ((f : File) (b : List ℕ) → judge f b ≡ 0 → length (f .items) < state-limit) → fault ≡ 0 → p .items < state-limit
+  item-room few e =
+      omega (arith, few (fileOf s p) (bodyAt s (p .at)) (item-fault-is ∙ e), length-fields s (p .start) (p .items))
 
-  pub row-fewer : fault ≡ 0 → p .items < state-limit
-  row-fewer e =
-      omega (arith, rows-left (fileOf s p) (bodyAt s (p .at)) (row-fault-is ∙ e), length-fields s (p .start) (p .items))
-
-  pub row-goes : (q : Place) (next : ℕ) → q ≡ withItem p next → next ≡ nextAt s (p .at) → fault ≡ 0
-      → Grown s p (rowFault (fileOf s p) (bodyAt s (p .at))) (withField (fileOf s p) 3 (bodyAt s (p .at))) q
-  row-goes q next m n e = rw (m, n) (row-grows s p whole (row-fault-is ∙ e))
-
--- of a state:
-module _ (s : List ℕ) (p : Place) (whole : Whole s p) (state : List ℕ) (fault : ℕ) (bytes : state ≡ bodyAt s (p .at))
-    (judged : StateJudged (p .names) (p .items) state fault) where
-  state-fault-is : stateFault (fileOf s p) (bodyAt s (p .at)) ≡ fault
-  state-fault-is =
-      subst (λ (b : List ℕ). stateFault (fileOf s p) b ≡ fault) bytes
-      (judged .is (fileOf s p) (length-fields s 0 (p .names)) (length-fields s (p .start) (p .items)))
-
-  pub state-refused : (fault ≡ 0 → ⊥) → Faulty (stateFault (fileOf s p) (bodyAt s (p .at))) fault
-  state-refused n = faulty (stateFault (fileOf s p) (bodyAt s (p .at))) fault state-fault-is n
-
-  pub state-fewer : fault ≡ 0 → p .items < state-limit
-  state-fewer e =
-      omega (arith, states-left (fileOf s p) (bodyAt s (p .at)) (state-fault-is ∙ e), length-fields s (p .start) (p .items))
-
-  pub state-goes : (q : Place) (next : ℕ) → q ≡ withItem p next → next ≡ nextAt s (p .at) → fault ≡ 0
-      → Grown s p (stateFault (fileOf s p) (bodyAt s (p .at))) (withField (fileOf s p) 4 (bodyAt s (p .at))) q
-  state-goes q next m n e = rw (m, n) (state-grows s p whole (state-fault-is ∙ e))
+  -- what is found of its fault is found of what judges it; a row and a state are added to a file in one way
+  pub item-step : (r : Step) → StepBy (λ _ _. fault) 3 s p r → StepBy judge 3 s p r
+  item-step r h = rw item-fault-is h

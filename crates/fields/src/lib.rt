@@ -24,8 +24,8 @@ ghost use mathlib.Core.Path.{_≡_};
 ghost use Prim.Native.Nat.{_≤_, _<_};
 ghost use lib.ListN.{length};
 ghost use Rattle.model.specs.Limits.{state-limit};
-ghost use Rattle.model.specs.Fields.{class-of, default-class};
-ghost use Rattle.fields.specs.Places.{withItem, Sound, Whole, NameStep, ClassStep, RowStep, StateStep, FieldStep, Turned, ReadAs};
+ghost use Rattle.model.specs.Fields.{class-of, default-class, nameFault, classFault, rowFault, stateFault};
+ghost use Rattle.fields.specs.Places.{withItem, Sound, Whole, StepBy, FieldStep, Turned, ReadAs};
 
 // How far reading has come, and where what was read stands.
 pub struct Place {
@@ -63,7 +63,7 @@ pub enum Fields {
 fn name_field(s: &[u8], p: Place) -> Step
     requires { ⌜ Whole (now s) p ⌝ }
     requires { ⌜ p .stage ≤ 1 ⌝ }
-    ensures { λ r. ⌜ NameStep (now (s .entry)) p r ⌝ }
+    ensures { λ r. ⌜ StepBy nameFault 1 (now (s .entry)) p r ⌝ }
 {
     let at = p.at;
     let last = p.last;
@@ -92,7 +92,7 @@ fn name_field(s: &[u8], p: Place) -> Step
 fn class_field(s: &[u8], p: Place) -> Step
     requires { ⌜ Whole (now s) p ⌝ }
     requires { ⌜ p .stage ≤ 2 ⌝ }
-    ensures { λ r. ⌜ ClassStep (now (s .entry)) p r ⌝ }
+    ensures { λ r. ⌜ StepBy (λ _. classFault) 2 (now (s .entry)) p r ⌝ }
 {
     let at = p.at;
     let class = body(s, at);
@@ -134,32 +134,36 @@ fn with_item(p: Place, next: usize) -> Place
     }
 }
 
-// A row field, where a row may come: the place after it, or what refuses it.
-fn row_field(s: &[u8], p: Place) -> Step
+// An item, a row or a state, where one may come and this refuses it, 0 for nothing: the place after it, or its refusal.
+fn item_field(s: &[u8], p: Place, fault: u8) -> Step
     requires { ⌜ Whole (now s) p ⌝ }
-    ensures { λ r. ⌜ RowStep (now (s .entry)) p r ⌝ }
+    requires { ⌜ (fault ≡ 0 → p .items < state-limit) ⌝ }
+    ensures { λ r. ⌜ StepBy (λ _ _. fault) 3 (now (s .entry)) p r ⌝ }
 {
-    let at = p.at;
-    let fault = row_fault(p.names, p.items, body(s, at));
     if fault != 0 {
         return Step::Refused(fault);
     }
+    let at = p.at;
     let next = next_field(s, at);
     Step::Go(with_item(p, next))
+}
+
+// A row field, where a row may come: the place after it, or what refuses it.
+fn row_field(s: &[u8], p: Place) -> Step
+    requires { ⌜ Whole (now s) p ⌝ }
+    ensures { λ r. ⌜ StepBy rowFault 3 (now (s .entry)) p r ⌝ }
+{
+    let at = p.at;
+    item_field(s, p, row_fault(p.names, p.items, body(s, at)))
 }
 
 // A state field, where a state may come: the place after it, or what refuses it.
 fn state_field(s: &[u8], p: Place) -> Step
     requires { ⌜ Whole (now s) p ⌝ }
-    ensures { λ r. ⌜ StateStep (now (s .entry)) p r ⌝ }
+    ensures { λ r. ⌜ StepBy stateFault 4 (now (s .entry)) p r ⌝ }
 {
     let at = p.at;
-    let fault = state_fault(p.names, p.items, body(s, at));
-    if fault != 0 {
-        return Step::Refused(fault);
-    }
-    let next = next_field(s, at);
-    Step::Go(with_item(p, next))
+    item_field(s, p, state_fault(p.names, p.items, body(s, at)))
 }
 
 // A field that does not run past the end: its mark decides how it is read, and a mark not allowed at this place is refused.

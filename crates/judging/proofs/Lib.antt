@@ -1,6 +1,7 @@
 -- Laws that the functions' proofs share: of fields by their offsets; of the tests of names, rows and state fields over what is left to
--- read. Later crates use OffsetLaws and StateLaws. Assumes nothing.
+-- read; of what refuses an item. Later crates use OffsetLaws, ItemLaws and StateLaws. Assumes nothing.
 pub mod OffsetLaws
 pub mod NameLaws
+pub mod ItemLaws
 pub mod RowLaws
 pub mod StateLaws
