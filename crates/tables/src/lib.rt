@@ -13,7 +13,7 @@ use judging::sizes::sizes_bad;
 ghost use mathlib.Core.Path.{_≡_};
 ghost use Prim.Native.Nat.{_≤_, _<_};
 ghost use lib.ListN.{length};
-ghost use Rattle.model.specs.Limits.{input-limit, work-bytes, row-limit};
+ghost use Rattle.model.specs.Limits.{row-limit};
 ghost use Rattle.model.specs.Tables.{stateIn, nameSet};
 ghost use Rattle.model.specs.Calls.{sizesFault, tableStates};
 ghost use Rattle.judging.specs.Offsets.{bodyAt};
