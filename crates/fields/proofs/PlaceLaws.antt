@@ -1,62 +1,32 @@
 -- The places of the reader: where nothing refuses a field, the place after it is sound and stands for the file with that field. One
 -- law for each of a name, a class and an item, that is a row or a state. Assumes nothing.
 use mathlib.Core.Path.{_≡_, refl, sym, _∙_, subst}
-use mathlib.Core.Bool.{Bool, true, false, not, _&&_}
 use mathlib.Core.List.{List, [], _∷_, _++_}
-use Prim.Native.Nat.{ℕ, zero, suc, _+_, _-_, _≤_, _<_}
+use Prim.Native.Nat.{ℕ, _+_, _-_, _≤_, _<_}
 use native.Mathlib.Numerals.{add-one}
 use native.Mathlib.Omega.{arith}
-use borrow.Author.Tests.{leb-false, eqb-true, not-false}
-use lib.Dec.{leb, eqb}
 use lib.ListN.{length, getD, take, drop}
 use Rattle.model.specs.Lists.{lastOr}
-use Rattle.model.specs.Limits.{name-limit, book-rows, state-limit, bad-row, bad-state, when, firstOf}
+use Rattle.model.specs.Limits.{name-limit, state-limit}
 use Rattle.model.specs.Calls.{Refuses}
-use Rattle.model.specs.Fields.{File, nameOk, above, settingsOk, classOk, rowOk, stateOk, nameFault, classFault, rowFault, stateFault}
-use Rattle.model.specs.Fields.{withField}
+use Rattle.model.specs.Fields.{File, nameFault, classFault, rowFault, stateFault, withField}
+use Rattle.model.proofs.FieldLaws.{name-fits, class-fits, class-parts, row-fits, state-fits}
 use Rattle.judging.specs.Offsets.{lengthAt, bodyAt, nextAt, offsetAt, fieldsAt}
 use Rattle.judging.specs.Judged.{NameJudged, ItemJudged}
-use Rattle.judging.proofs.ItemLaws.{items-left}
 use Rattle.fields.specs.Places.{fileOf, withItem, Sound, Whole, Grown, StepBy}
 use Rattle.fields.specs.declared.Place.{Place}
 use Rattle.fields.specs.declared.Step.{Step}
 use Rattle.judging.proofs.OffsetLaws.{body-at, length-body, offset-suc, length-fields, fields-more, last-more}
 
--- no fault, so none of the tests found one
-no-when : (b : Bool) (n : ℕ) → when b (suc n) ≡ 0 → b ≡ false
-no-when true n e = let z : ⊥ = omega (arith, e) in absurd z
-no-when false n e = refl
+-- where nothing refuses one more row or state, there are fewer than the limit of both; a class has three bytes
+pub rows-left : (f : File) (b : List ℕ) → rowFault f b ≡ 0 → length (f .items) < state-limit
+rows-left f b e = omega (arith, row-fits f b e .few)
 
-second-none : (a b : ℕ) → firstOf a b ≡ 0 → b ≡ 0
-second-none zero b e = e
-second-none (suc a) b e = let z : ⊥ = omega (arith, e) in absurd z
-
--- where nothing refuses one more name, row or state, there are fewer than the limit; a class has three bytes
-pub names-left : (f : File) (b : List ℕ) → nameFault f b ≡ 0 → length (f .names) < name-limit
-unfolding nameFault
-names-left f b e =
-    let last = when (leb name-limit (length (f .names))) 7 in
-    let later = second-none (when (not (nameOk b)) 5) (firstOf (when (not (above (f .names) b)) 6) last) e in
-    leb-false name-limit (length (f .names))
-    (no-when (leb name-limit (length (f .names))) 6 (second-none (when (not (above (f .names) b)) 6) last later))
-
-pub rows-few : (f : File) (b : List ℕ) → rowFault f b ≡ 0 → length (f .items) < state-limit
-unfolding rowFault
-rows-few f b e = omega (arith, items-left book-rows rowOk bad-row f b e)
-
-pub states-few : (f : File) (b : List ℕ) → stateFault f b ≡ 0 → length (f .items) < state-limit
-unfolding stateFault
-states-few f b e = items-left state-limit stateOk bad-state f b e
+pub states-left : (f : File) (b : List ℕ) → stateFault f b ≡ 0 → length (f .items) < state-limit
+states-left f b e = state-fits f b e .few
 
 pub class-bytes : (b : List ℕ) → classFault b ≡ 0 → length b ≡ 3
-unfolding classFault
-class-bytes b e =
-    let good : classOk b ≡ true = not-false (classOk b) (no-when (not (classOk b)) 7 e) in
-    eqb-true (length b) 3 (and-left (eqb (length b) 3) (settingsOk (getD b 0 0) (getD b 1 0) (getD b 2 0)) good)
-  where
-    and-left : (x y : Bool) → (x && y) ≡ true → x ≡ true
-    and-left true y g = refl
-    and-left false y g = g
+class-bytes b e = class-parts b (class-fits b e) .0
 
 -- the place after one name more, which ends where the field at `next` begins
 abbrev pub namePlace : Place → ℕ → ℕ → Place
@@ -136,7 +106,7 @@ module _ (s : List ℕ) (p : Place) (whole : Whole s p) where
   name-grows h e =
       record {
         no-fault = e;
-        sound = name-sound h (omega (arith, names-left (fileOf s p) (bodyAt s (p .at)) e, length-fields s 0 (p .names)));
+        sound = name-sound h (omega (arith, name-fits (fileOf s p) (bodyAt s (p .at)) e .few, length-fields s 0 (p .names)));
         file-is = rw (names-more h, no-items-yet (omega arith));
         after = refl;
       }

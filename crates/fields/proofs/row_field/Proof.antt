@@ -1,6 +1,6 @@
 -- `row_field` meets its contract: the laws of PlaceLaws at what the code has at hand. Assumes nothing.
 use Rattle.model.specs.Fields.{rowFault}
-use Rattle.fields.proofs.PlaceLaws.{rows-few, item-room, item-step}
+use Rattle.fields.proofs.PlaceLaws.{rows-left, item-room, item-step}
 use borrow.Author.Needs.{needs}
 use Rattle.fields.proofs.row_field.Statement.{statement}
 use Rattle.fields.proofs.row_field.Tie as tie
@@ -18,7 +18,7 @@ item-field-requires c κs =
     let fault = c .row-fault in
     let room =
     item-room rowFault (start .args .s .now) (start .args .p) (bytes .result .now) (fault .result) (bytes .ensures) (fault .ensures)
-    rows-few in
+    rows-left in
     (start .pre, room)
 
 returns : tie.Need-returns

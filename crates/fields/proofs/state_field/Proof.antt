@@ -1,6 +1,6 @@
 -- `state_field` meets its contract: the laws of PlaceLaws at what the code has at hand. Assumes nothing.
 use Rattle.model.specs.Fields.{stateFault, withField}
-use Rattle.fields.proofs.PlaceLaws.{states-few, item-room, item-step}
+use Rattle.fields.proofs.PlaceLaws.{states-left, item-room, item-step}
 use borrow.Author.Needs.{needs}
 use Rattle.fields.proofs.state_field.Statement.{statement}
 use Rattle.fields.proofs.state_field.Tie as tie
@@ -18,7 +18,7 @@ item-field-requires c κs =
     let fault = c .state-fault in
     let room =
     item-room stateFault (start .args .s .now) (start .args .p) (bytes .result .now) (fault .result) (bytes .ensures) (fault .ensures)
-    states-few in
+    states-left in
     (start .pre, room)
 
 returns : tie.Need-returns
