@@ -134,7 +134,7 @@ fn with_item(p: Place, next: usize) -> Place
     }
 }
 
-// An item, a row or a state, where one may come and this refuses it, 0 for nothing: the place after it, or its refusal.
+// An item, that is a row or a state, as judged: the place after it, or the fault, which is what refuses it (0 for nothing).
 fn item_field(s: &[u8], p: Place, fault: u8) -> Step
     requires { ⌜ Whole (now s) p ⌝ }
     requires { ⌜ (fault ≡ 0 → p .items < state-limit) ⌝ }

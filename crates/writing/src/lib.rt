@@ -78,7 +78,7 @@ pub fn put_class(out: &mut [u8], at: usize, kind: u8, first: u8, second: u8) -> 
     put_field(out, at, CLASS_MARK, &class)
 }
 
-// The names of a file, whose fields are its first bytes, and then a class field.
+// A front with the names of another file, whose fields are its first bytes, so many: these, and then a class field.
 pub fn put_front(
     out: &mut [u8],
     file: &[u8],
