@@ -1,10 +1,12 @@
 // The reader of books and tables: fields in file order, each judged by the refusals that concern it, nothing copied. What is accepted
 // stays where it is, and a Place says where: specs/Places has the file that a place stands for.
 pub mod limits;
-pub mod offsets;
 
 use judging::classes::class_fault;
 use judging::names::name_fault;
+use judging::offsets::body;
+use judging::offsets::body_len;
+use judging::offsets::next_field;
 use judging::rows::row_fault;
 use judging::states::state_fault;
 use base::limits::CLASS_MARK;
@@ -18,15 +20,12 @@ use base::limits::NAMES_MET;
 use base::limits::ROW_MARK;
 use base::limits::STATE_MARK;
 use base::limits::UNFINISHED;
-use offsets::body;
-use offsets::body_len;
-use offsets::next_field;
 ghost use mathlib.Core.Path.{_≡_};
 ghost use Prim.Native.Nat.{_≤_, _<_};
 ghost use lib.ListN.{length};
 ghost use Rattle.base.specs.Limits.{state-limit};
-ghost use Rattle.model.specs.Fields.{class-of, default-class};
-ghost use Rattle.fields.specs.Places.{withItem, Sound, Whole, NameStep, ClassStep, RowStep, StateStep, FieldStep, Turned, ReadAs};
+ghost use Rattle.model.specs.Fields.{class-of, default-class, nameFault, classFault, rowFault, stateFault};
+ghost use Rattle.fields.specs.Places.{withItem, Sound, Whole, StepBy, FieldStep, Turned, ReadAs};
 
 // How far reading has come, and where what was read stands.
 pub struct Place {
@@ -64,7 +63,7 @@ pub enum Fields {
 fn name_field(s: &[u8], p: Place) -> Step
     requires { ⌜ Whole (now s) p ⌝ }
     requires { ⌜ p .stage ≤ 1 ⌝ }
-    ensures { λ r. ⌜ NameStep (now (s .entry)) p r ⌝ }
+    ensures { λ r. ⌜ StepBy nameFault 1 (now (s .entry)) p r ⌝ }
 {
     let at = p.at;
     let last = p.last;
@@ -93,7 +92,7 @@ fn name_field(s: &[u8], p: Place) -> Step
 fn class_field(s: &[u8], p: Place) -> Step
     requires { ⌜ Whole (now s) p ⌝ }
     requires { ⌜ p .stage ≤ 2 ⌝ }
-    ensures { λ r. ⌜ ClassStep (now (s .entry)) p r ⌝ }
+    ensures { λ r. ⌜ StepBy (λ _. classFault) 2 (now (s .entry)) p r ⌝ }
 {
     let at = p.at;
     let class = body(s, at);
@@ -135,32 +134,36 @@ fn with_item(p: Place, next: usize) -> Place
     }
 }
 
-// A row field, where a row may come: the place after it, or what refuses it.
-fn row_field(s: &[u8], p: Place) -> Step
+// An item, that is a row or a state, as judged: the place after it, or the fault, which is what refuses it (0 for nothing).
+fn item_field(s: &[u8], p: Place, fault: u8) -> Step
     requires { ⌜ Whole (now s) p ⌝ }
-    ensures { λ r. ⌜ RowStep (now (s .entry)) p r ⌝ }
+    requires { ⌜ (fault ≡ 0 → p .items < state-limit) ⌝ }
+    ensures { λ r. ⌜ StepBy (λ _ _. fault) 3 (now (s .entry)) p r ⌝ }
 {
-    let at = p.at;
-    let fault = row_fault(p.names, p.items, body(s, at));
     if fault != 0 {
         return Step::Refused(fault);
     }
+    let at = p.at;
     let next = next_field(s, at);
     Step::Go(with_item(p, next))
+}
+
+// A row field, where a row may come: the place after it, or what refuses it.
+fn row_field(s: &[u8], p: Place) -> Step
+    requires { ⌜ Whole (now s) p ⌝ }
+    ensures { λ r. ⌜ StepBy rowFault 3 (now (s .entry)) p r ⌝ }
+{
+    let at = p.at;
+    item_field(s, p, row_fault(p.names, p.items, body(s, at)))
 }
 
 // A state field, where a state may come: the place after it, or what refuses it.
 fn state_field(s: &[u8], p: Place) -> Step
     requires { ⌜ Whole (now s) p ⌝ }
-    ensures { λ r. ⌜ StateStep (now (s .entry)) p r ⌝ }
+    ensures { λ r. ⌜ StepBy stateFault 4 (now (s .entry)) p r ⌝ }
 {
     let at = p.at;
-    let fault = state_fault(p.names, p.items, body(s, at));
-    if fault != 0 {
-        return Step::Refused(fault);
-    }
-    let next = next_field(s, at);
-    Step::Go(with_item(p, next))
+    item_field(s, p, state_fault(p.names, p.items, body(s, at)))
 }
 
 // A field that does not run past the end: its mark decides how it is read, and a mark not allowed at this place is refused.

@@ -23,7 +23,7 @@ use Rattle.model.proofs.WrittenLengths.{table-bytes}
 use Rattle.model.proofs.Demands.{demands, book-writable, read-table, table-length}
 use Rattle.writing.specs.Writing as writing
 use Rattle.writing.proofs.WritingLaws.{written-from-zero}
-use Rattle.listings.specs.Texts.{Puts}
+use Rattle.writing.specs.Writing.{Put}
 use Rattle.listings.proofs.Lengths.{listing-bytes, book-listing-length}
 use Rattle.plans.specs.declared.Built.{Built}
 use Rattle.plans.specs.declared.Written.{Written}
@@ -110,7 +110,7 @@ module _ (book work out out′ : List ℕ) (r : Built) (gives : Gives (building 
 
 -- the listing at the front of a text
 pub puts-front :
-    (book text text′ : List ℕ) (bytes : List ℕ) (after : ℕ) → bytes ≡ bookListing (bookOf book) → Puts text text′ 0 bytes after →
+    (book text text′ : List ℕ) (bytes : List ℕ) (after : ℕ) → bytes ≡ bookListing (bookOf book) → Put text text′ 0 bytes after →
     FrontOf (bookListing (bookOf book)) text′ after
 puts-front book text text′ bytes after is puts =
     subst (λ (l : List ℕ). FrontOf l text′ after) is

@@ -16,7 +16,7 @@ ghost use Rattle.base.specs.Limits.{work-bytes};
 ghost use Rattle.model.specs.Fields as model;
 ghost use Rattle.model.specs.Listing.{listing};
 ghost use Rattle.model.specs.Calls.{Gives, tableOf, tableStates};
-ghost use Rattle.listings.specs.Texts.{Fits, Puts};
+ghost use Rattle.writing.specs.Writing.{Fits, Put};
 ghost use Rattle.plans.specs.Says.{not-written, copying, listingBook};
 
 // The listing of a table that was accepted, at the front of the text; its length.
@@ -24,7 +24,7 @@ fn list_accepted(table: &[u8], joins: usize, text: &mut [u8]) -> usize
     requires { ⌜ model.readFields model.table (now table) .number ≡ 0 ⌝ }
     requires { ⌜ joins < 65536 ⌝ }
     requires { ⌜ Fits (now text) 0 (listing (tableOf (now table) .names) (tableStates (now table)) joins) ⌝ }
-    ensures { λ r. ⌜ Puts (now (text .entry)) (now (text .exit)) 0
+    ensures { λ r. ⌜ Put (now (text .entry)) (now (text .exit)) 0
         (listing (tableOf (now (table .entry)) .names) (tableStates (now (table .entry))) joins) r ⌝ }
 {
     let read = read_fields(table, true);

@@ -4,7 +4,7 @@ use mathlib.Core.Path.{_≡_, _∙_}
 use Prim.Native.Nat.{_+_}
 use native.Mathlib.Omega.{arith}
 use Rattle.tables.specs.Arcs.{targetAt}
-use Rattle.fields.proofs.OffsetLaws.{length-at}
+use Rattle.judging.proofs.OffsetLaws.{length-at}
 use Rattle.listings.proofs.arcs.target_at.Statement.{statement}
 use Rattle.listings.proofs.arcs.target_at.Tie as tie
 

@@ -2,7 +2,7 @@
 ghost use mathlib.Core.Path.{_≡_};
 ghost use Prim.Native.Nat.{_+_, _≤_, _<_};
 ghost use lib.ListN.{length};
-ghost use Rattle.fields.specs.Offsets.{lengthAt, bodyAt, nextAt};
+ghost use Rattle.judging.specs.Offsets.{lengthAt, bodyAt, nextAt};
 
 // A byte as an index.
 fn wide(x: u8) -> usize

@@ -1,9 +1,9 @@
 -- `offsets::body_len` meets its contract. Assumes nothing.
 use native.Mathlib.Omega.{arith}
-use Rattle.fields.proofs.OffsetLaws.{length-at}
+use Rattle.judging.proofs.OffsetLaws.{length-at}
 use borrow.Author.Needs.{needs}
-use Rattle.fields.proofs.offsets.body_len.Statement.{statement}
-use Rattle.fields.proofs.offsets.body_len.Tie as tie
+use Rattle.judging.proofs.offsets.body_len.Statement.{statement}
+use Rattle.judging.proofs.offsets.body_len.Tie as tie
 
 add-wide : tie.Need-add-wide
 add-wide c = search needs
