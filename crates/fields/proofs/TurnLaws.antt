@@ -13,8 +13,8 @@ use lib.Seq.{getD-drop, drop-drop}
 use Rattle.model.specs.Fields.{FileKind, File, refused, atEnd, fieldFault, withField, runsPast, bodyOf, afterField, statedLength}
 use Rattle.model.specs.Fields.{Settings, readFrom, readWith}
 use Rattle.base.specs.Lists.{lastOr}
-use Rattle.fields.specs.Offsets.{lengthAt, bodyAt, nextAt, offsetAt, fieldsAt}
-use Rattle.fields.specs.Places.{fileOf, Sound, FieldStep, Turned, Goes, Refuses, Finished, ReadAs}
+use Rattle.judging.specs.Offsets.{lengthAt, bodyAt, nextAt, offsetAt, fieldsAt}
+use Rattle.fields.specs.Places.{fileOf, Sound, FieldStep, Turned, Goes, RefusedAt, Finished, ReadAs}
 use Rattle.fields.specs.declared.Place.{Place}
 use Rattle.fields.specs.declared.Step.{Step}
 use Rattle.fields.specs.declared.Step.the-variants.{Go, Refused}
@@ -70,11 +70,11 @@ module _ (s : List ℕ) (p : Place) (before-end : p .at < length s) where
       let q : 3 + lengthAt s (p .at) ≤ length s - p .at = omega arith in
       rw (length-drop (p .at) s, le-ltb (length s - p .at) 3 g, le-ltb (length s - p .at) (3 + lengthAt s (p .at)) q)
 
-  pub turn-cut : (kind : FileKind) → length s - p .at < 3 → Refuses kind s p cut-off
+  pub turn-cut : (kind : FileKind) → length s - p .at < 3 → RefusedAt kind s p cut-off
   turn-cut kind h =
       record { some = omega arith; reads = λ (l : ℕ). read-cut l kind (fileOf s p) (drop (p .at) s) some-left (past h) }
 
-  pub turn-cut-body : (kind : FileKind) → 3 ≤ length s - p .at → length s - p .at - 3 < lengthAt s (p .at) → Refuses kind s p cut-off
+  pub turn-cut-body : (kind : FileKind) → 3 ≤ length s - p .at → length s - p .at - 3 < lengthAt s (p .at) → RefusedAt kind s p cut-off
   turn-cut-body kind g h =
       record { some = omega arith; reads = λ (l : ℕ). read-cut l kind (fileOf s p) (drop (p .at) s) some-left (past-body g h) }
 
@@ -96,7 +96,7 @@ module _ (s : List ℕ) (p : Place) (before-end : p .at < length s) where
             ∙ rw (mark-left, after-left, j .file-is, j .after);
       }
 
-  refuses : (kind : FileKind) (k : ℕ) → nextAt s (p .at) ≤ length s → FieldStep kind s p (Refused k) → Refuses kind s p k
+  refuses : (kind : FileKind) (k : ℕ) → nextAt s (p .at) ≤ length s → FieldStep kind s p (Refused k) → RefusedAt kind s p k
   refuses kind k h j =
       let n : k ≡ 0 → ⊥ = λ (e : k ≡ 0). omega (arith, j .some, e) in
       record {
@@ -174,7 +174,7 @@ module _ (settings : Settings) (kind : FileKind) (s : List ℕ) (p : Place) (rea
         reads = sym (g .reads (t .0)) ∙ t .2;
       }
 
-  pub reading-refused : (k : ℕ) → Refuses kind s p k → ReadAs settings kind s (answer.Refused k)
+  pub reading-refused : (k : ℕ) → RefusedAt kind s p k → ReadAs settings kind s (answer.Refused k)
   reading-refused k g =
       let t = one-turn in
       record { is = sym (g .reads (t .0)) ∙ t .2; kept = g .some }

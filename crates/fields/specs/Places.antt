@@ -6,10 +6,10 @@ use Prim.Native.Nat.{ℕ, suc, _+_, _≤_, _<_}
 use lib.ListN.{length, getD, take, drop}
 use Rattle.base.specs.Lists.{lastOr}
 use Rattle.base.specs.Limits.{name-limit, state-limit, names-met, class-met, items-met}
-use Rattle.base.specs.Limits.{name-mark, class-mark, row-mark, state-mark}
 use Rattle.model.specs.Fields.{class-of, Settings, standard, table, File, file, FileKind, Read, refused, accepted-file, readFrom}
-use Rattle.model.specs.Fields.{readWith, nameFault, classFault, rowFault, stateFault, fieldFault, withField}
-use Rattle.fields.specs.Offsets.{bodyAt, nextAt, offsetAt, fieldsAt}
+use Rattle.model.specs.Fields.{readWith, fieldFault, withField}
+use Rattle.model.specs.Calls.{Refuses}
+use Rattle.judging.specs.Offsets.{bodyAt, nextAt, offsetAt, fieldsAt}
 use Rattle.fields.specs.declared.Place.{Place}
 use Rattle.fields.specs.declared.Settings as numbers
 use Rattle.fields.specs.declared.Step.{Step}
@@ -64,36 +64,20 @@ pub record Grown (s : List ℕ) (p : Place) (fault : ℕ) (grown : File) (q : Pl
   pub file-is : fileOf s q ≡ grown
   pub after : q .at ≡ nextAt s (p .at)
 
-pub record Faulty (fault number : ℕ) : Type 0 where
-  pub is : fault ≡ number
-  pub some : 0 < number
-
 abbrev pub Stepped : List ℕ → Place → ℕ → File → Step → Type 0
 Stepped s p fault grown (step.Go q) = Grown s p fault grown q
-Stepped s p fault grown (step.Refused k) = Faulty fault k
+Stepped s p fault grown (step.Refused k) = Refuses fault k
 
--- the field at a place, judged as a name, a class, a row or a state
-abbrev pub NameStep : List ℕ → Place → Step → Type 0
-NameStep s p r =
-    Stepped s p (nameFault (fileOf s p) (bodyAt s (p .at))) (withField (fileOf s p) name-mark (bodyAt s (p .at))) r
+-- the field at a place, judged by these refusals as one of this mark
+abbrev pub StepBy : (File → List ℕ → ℕ) → ℕ → List ℕ → Place → Step → Type 0
+StepBy judge mark s p r =
+    Stepped s p (judge (fileOf s p) (bodyAt s (p .at))) (withField (fileOf s p) mark (bodyAt s (p .at))) r
 
-abbrev pub ClassStep : List ℕ → Place → Step → Type 0
-ClassStep s p r = Stepped s p (classFault (bodyAt s (p .at))) (withField (fileOf s p) class-mark (bodyAt s (p .at))) r
-
-abbrev pub RowStep : List ℕ → Place → Step → Type 0
-RowStep s p r =
-    Stepped s p (rowFault (fileOf s p) (bodyAt s (p .at))) (withField (fileOf s p) row-mark (bodyAt s (p .at))) r
-
-abbrev pub StateStep : List ℕ → Place → Step → Type 0
-StateStep s p r =
-    Stepped s p (stateFault (fileOf s p) (bodyAt s (p .at))) (withField (fileOf s p) state-mark (bodyAt s (p .at))) r
-
--- the field at a place, judged by its mark
+-- the same, judged by the mark that it has
 abbrev pub FieldStep : FileKind → List ℕ → Place → Step → Type 0
 FieldStep kind s p r =
     let mark = getD s (p .at) 0 in
-    let body = bodyAt s (p .at) in
-    Stepped s p (fieldFault kind (fileOf s p) mark body) (withField (fileOf s p) mark body) r
+    StepBy (λ (f : File). fieldFault kind f mark) mark s p r
 
 -- a field read: reading from the new place is what reading from the old one comes to; or it comes to this refusal
 pub record Goes (kind : FileKind) (s : List ℕ) (p q : Place) : Type 0 where
@@ -101,13 +85,13 @@ pub record Goes (kind : FileKind) (s : List ℕ) (p q : Place) : Type 0 where
   pub further : p .at < q .at
   pub reads : (l : ℕ) → readFrom (suc l) kind (fileOf s p) (drop (p .at) s) ≡ readFrom l kind (fileOf s q) (drop (q .at) s)
 
-pub record Refuses (kind : FileKind) (s : List ℕ) (p : Place) (number : ℕ) : Type 0 where
+pub record RefusedAt (kind : FileKind) (s : List ℕ) (p : Place) (number : ℕ) : Type 0 where
   pub some : 0 < number
   pub reads : (l : ℕ) → readFrom (suc l) kind (fileOf s p) (drop (p .at) s) ≡ refused number
 
 abbrev pub Turned : FileKind → List ℕ → Place → Step → Type 0
 Turned kind s p (step.Go q) = Goes kind s p q
-Turned kind s p (step.Refused k) = Refuses kind s p k
+Turned kind s p (step.Refused k) = RefusedAt kind s p k
 
 -- what an answer stands for: document 01's number, and the file
 abbrev pub answerOf : List ℕ → Fields → Read

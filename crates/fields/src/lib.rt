@@ -1,7 +1,5 @@
 // The reader of books and tables: fields in file order, each judged by the refusals that concern it, nothing copied. What is accepted
 // stays where it is, and a Place says where: specs/Places has the file that a place stands for.
-pub mod offsets;
-
 use base::limits::CLASS_MARK;
 use base::limits::CLASS_MET;
 use base::limits::CONTEXT_KIND;
@@ -16,17 +14,17 @@ use base::limits::STATE_MARK;
 use base::limits::UNFINISHED;
 use judging::classes::class_fault;
 use judging::names::name_fault;
+use judging::offsets::body;
+use judging::offsets::body_len;
+use judging::offsets::next_field;
 use judging::rows::row_fault;
 use judging::states::state_fault;
-use offsets::body;
-use offsets::body_len;
-use offsets::next_field;
 ghost use mathlib.Core.Path.{_≡_};
 ghost use Prim.Native.Nat.{_≤_, _<_};
 ghost use lib.ListN.{length};
-ghost use Rattle.base.specs.Limits.{state-limit, names-met, class-met};
-ghost use Rattle.fields.specs.Places.{withItem, Sound, Whole, NameStep, ClassStep, RowStep, StateStep, FieldStep, Turned};
-ghost use Rattle.fields.specs.Places.{settingsOf, ReadAs, TableReadAs};
+ghost use Rattle.base.specs.Limits.{state-limit, names-met, class-met, name-mark, class-mark, row-mark, state-mark};
+ghost use Rattle.model.specs.Fields.{nameFault, classFault, rowFault, stateFault};
+ghost use Rattle.fields.specs.Places.{withItem, Sound, Whole, StepBy, FieldStep, Turned, settingsOf, ReadAs, TableReadAs};
 
 // How far reading has come, and where what was read stands.
 pub struct Place {
@@ -78,7 +76,7 @@ pub enum Fields {
 fn name_field(s: &[u8], p: Place) -> Step
     requires { ⌜ Whole (now s) p ⌝ }
     requires { ⌜ p .stage ≤ names-met ⌝ }
-    ensures { λ r. ⌜ NameStep (now (s .entry)) p r ⌝ }
+    ensures { λ r. ⌜ StepBy nameFault name-mark (now (s .entry)) p r ⌝ }
 {
     let at = p.at;
     let last = p.last;
@@ -107,7 +105,7 @@ fn name_field(s: &[u8], p: Place) -> Step
 fn class_field(s: &[u8], p: Place) -> Step
     requires { ⌜ Whole (now s) p ⌝ }
     requires { ⌜ p .stage ≤ class-met ⌝ }
-    ensures { λ r. ⌜ ClassStep (now (s .entry)) p r ⌝ }
+    ensures { λ r. ⌜ StepBy (λ _. classFault) class-mark (now (s .entry)) p r ⌝ }
 {
     let at = p.at;
     let class = body(s, at);
@@ -149,32 +147,36 @@ fn with_item(p: Place, next: usize) -> Place
     }
 }
 
-// A row field, where a row may come: the place after it, or what refuses it.
-fn row_field(s: &[u8], p: Place) -> Step
+// An item, that is a row or a state, as judged: the place after it, or the fault, which is what refuses it (0 for nothing).
+fn item_field(s: &[u8], p: Place, fault: u8) -> Step
     requires { ⌜ Whole (now s) p ⌝ }
-    ensures { λ r. ⌜ RowStep (now (s .entry)) p r ⌝ }
+    requires { ⌜ (fault ≡ 0 → p .items < state-limit) ⌝ }
+    ensures { λ r. ⌜ StepBy (λ _ _. fault) row-mark (now (s .entry)) p r ⌝ }
 {
-    let at = p.at;
-    let fault = row_fault(p.names, p.items, body(s, at));
     if fault != 0 {
         return Step::Refused(fault);
     }
+    let at = p.at;
     let next = next_field(s, at);
     Step::Go(with_item(p, next))
+}
+
+// A row field, where a row may come: the place after it, or what refuses it.
+fn row_field(s: &[u8], p: Place) -> Step
+    requires { ⌜ Whole (now s) p ⌝ }
+    ensures { λ r. ⌜ StepBy rowFault row-mark (now (s .entry)) p r ⌝ }
+{
+    let at = p.at;
+    item_field(s, p, row_fault(p.names, p.items, body(s, at)))
 }
 
 // A state field, where a state may come: the place after it, or what refuses it.
 fn state_field(s: &[u8], p: Place) -> Step
     requires { ⌜ Whole (now s) p ⌝ }
-    ensures { λ r. ⌜ StateStep (now (s .entry)) p r ⌝ }
+    ensures { λ r. ⌜ StepBy stateFault state-mark (now (s .entry)) p r ⌝ }
 {
     let at = p.at;
-    let fault = state_fault(p.names, p.items, body(s, at));
-    if fault != 0 {
-        return Step::Refused(fault);
-    }
-    let next = next_field(s, at);
-    Step::Go(with_item(p, next))
+    item_field(s, p, state_fault(p.names, p.items, body(s, at)))
 }
 
 // A field that does not run past the end: its mark decides how it is read, and a mark not allowed at this place is refused.

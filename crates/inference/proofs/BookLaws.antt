@@ -19,10 +19,10 @@ use Rattle.model.proofs.StateBodies.{Bytes}
 use Rattle.model.proofs.Rewriting.{bytes-of}
 use Rattle.model.proofs.Books.{tells-allBelow}
 use Rattle.base.proofs.Places.{nth-in}
-use Rattle.fields.specs.Offsets.{bodyAt, nextAt, offsetAt, fieldsAt}
+use Rattle.judging.specs.Offsets.{bodyAt, nextAt, offsetAt, fieldsAt}
 use Rattle.fields.specs.Places.{fileOf}
 use Rattle.fields.specs.declared.Place.{Place}
-use Rattle.fields.proofs.OffsetLaws.{length-body, offset-above}
+use Rattle.judging.proofs.OffsetLaws.{length-body, offset-above}
 use Rattle.fields.proofs.Parts.{accepted-number, accepted-file-is, length-names}
 use Rattle.prefix_tree.specs.Growth.{RowsBelow}
 use Rattle.inference.specs.Books.{BookAt, rowsAt, namesEnd}

@@ -10,16 +10,14 @@ use prefix_tree::Tree;
 use prefix_tree::add_rows;
 use quotient::prepare;
 use quotient::states::write_states;
-use writing::copy_in;
-use writing::put_class;
+use writing::put_front;
 ghost use mathlib.Core.Path.{_≡_};
 ghost use Prim.Native.Nat.{_+_, _≤_};
 ghost use lib.Dec.{leb};
 ghost use lib.ListN.{length};
 ghost use Rattle.base.specs.Limits.{input-limit, work-bytes};
 ghost use Rattle.fields.specs.Places.{fileOf};
-ghost use Rattle.writing.specs.Writing.{Put};
-ghost use Rattle.inference.specs.Books.{BookAt, rowsAt, classAt, namesEnd, frontBytes, TreeIn, JoinedBy};
+ghost use Rattle.inference.specs.Books.{BookAt, rowsAt, classAt, TreeIn, JoinedBy};
 ghost use Rattle.inference.specs.Results.{Infers, refused-with};
 
 // How many bytes a class field takes.
@@ -55,17 +53,6 @@ fn fits(room: usize, front: usize, rest: usize) -> bool
     rest <= room - front
 }
 
-// Writes the names' fields, which are the book's first bytes, and the class field. Returns the offset after them.
-fn write_front(book: &[u8], place: Place, out: &mut [u8]) -> usize
-    requires { ⌜ BookAt (now book) place ⌝ }
-    requires { ⌜ namesEnd place + 6 ≤ length (now out) ⌝ }
-    ensures { λ r. ⌜ Put (now (out .entry)) (now (out .exit)) 0 (frontBytes (fileOf (now (book .entry)) place)) (namesEnd place + 6) r ⌝ }
-{
-    let end = place.last + place.width;
-    let at = copy_in(out, 0, &book[..end]);
-    put_class(out, at, place.kind, place.first, place.second)
-}
-
 // The automaton of a joined partition, numbered and written after the names and the class; or 13, and nothing is written.
 fn write_joined(
     book: &[u8],
@@ -98,11 +85,11 @@ fn write_joined(
         &mut numbers,
     );
     let states = automaton.states;
-    let front = place.last + place.width + CLASS_BYTES;
-    if !fits(out.len(), front, automaton.bytes) {
+    let named = place.last + place.width;
+    if !fits(out.len(), named + CLASS_BYTES, automaton.bytes) {
         return refused(OUTPUT_TOO_SHORT);
     }
-    let at = write_front(book, place, out);
+    let at = put_front(out, book, named, place.kind, place.first, place.second);
     let end = write_states(work, &next, &accepting, &met, &numbers, states, out, at);
     let joins = groups.len() - states;
     Inferred {

@@ -10,7 +10,8 @@ use Rattle.model.specs.Tables.{Arc, arc, State, no-state, stateIn}
 use Rattle.model.specs.Listing.{arcText, stateLine, stateLines, listing}
 use Rattle.tables.specs.Arcs.{targetAt}
 use Rattle.tables.proofs.ArcLaws.{arcsFrom, arcs-all, arcs-turn, arcs-end}
-use Rattle.listings.specs.Texts.{Fits, Puts, firstLine}
+use Rattle.writing.specs.Writing.{Fits, Put}
+use Rattle.listings.specs.Texts.{firstLine}
 use Rattle.listings.proofs.TextLaws.{Writing, begins, finishes}
 
 -- of the arcs of a state's field those from offset i on are left to write
@@ -39,7 +40,7 @@ module _ (names : List (List ℕ)) (s : List ℕ) where
 
   pub arcs-finish :
       (i : ℕ) {text₀ : List ℕ} {at : ℕ} {whole text : List ℕ} {next : ℕ} → length s ≤ i →
-      Writing text₀ at whole text next (flatMap (arcText names) (arcsFrom s i)) → Puts text₀ text at whole next
+      Writing text₀ at whole text next (flatMap (arcText names) (arcsFrom s i)) → Put text₀ text at whole next
   unfolding flatMap
   arcs-finish i {text₀} {at} {whole} {text} {next} h w =
       finishes (subst (Writing text₀ at whole text next) (ap (flatMap (arcText names)) (arcs-end s i h)) w)
@@ -65,7 +66,7 @@ module _ (names : List (List ℕ)) (states : List State) (i : ℕ) {text₀ : Li
       w
 
   pub states-finish :
-      length states ≤ i → Writing text₀ at whole text next (stateLines names i (drop i states)) → Puts text₀ text at whole next
+      length states ≤ i → Writing text₀ at whole text next (stateLines names i (drop i states)) → Put text₀ text at whole next
   unfolding stateLines
   states-finish h w =
       finishes (subst (Writing text₀ at whole text next) (ap (stateLines names i) (drop-of-length-le states h)) w)

@@ -13,7 +13,7 @@ use Rattle.model.specs.Tables as model
 use Rattle.model.specs.Tables.{Arc, State, no-state, stateIn, nameSet, walk, reachedState, outcome, Ascending}
 use Rattle.model.specs.Tables.{longestBeginning, nextNames, nextCount}
 use Rattle.model.specs.Calls.{tableStates}
-use Rattle.fields.specs.Offsets.{bodyAt}
+use Rattle.judging.specs.Offsets.{bodyAt}
 use Rattle.base.specs.Cells.{cellAt}
 use Rattle.tables.specs.Accepting.{StateField, Ready}
 use Rattle.tables.specs.Walking.{WalkedAs}

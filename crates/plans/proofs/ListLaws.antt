@@ -22,7 +22,7 @@ use Rattle.model.proofs.WrittenLengths.{table-bytes}
 use Rattle.model.proofs.Demands.{demands, book-writable, read-table, table-length}
 use Rattle.writing.specs.Writing as writing
 use Rattle.writing.proofs.WritingLaws.{written-from-zero}
-use Rattle.listings.specs.Texts.{Puts}
+use Rattle.writing.specs.Writing.{Put}
 use Rattle.listings.proofs.Lengths.{listing-bytes, book-listing-length}
 use Rattle.plans.specs.declared.Built.{Built}
 use Rattle.plans.specs.declared.Written.{Written}
@@ -114,7 +114,7 @@ module _ (settings : Settings) (allowed : Allowed settings) where
 
 -- the listing at the front of a text
 pub puts-front :
-    (whole text text′ bytes : List ℕ) (after : ℕ) → bytes ≡ whole → Puts text text′ 0 bytes after → FrontOf whole text′ after
+    (whole text text′ bytes : List ℕ) (after : ℕ) → bytes ≡ whole → Put text text′ 0 bytes after → FrontOf whole text′ after
 puts-front whole text text′ bytes after is puts =
     subst (λ (l : List ℕ). FrontOf l text′ after) is
     (front-of bytes text text′ after (written-from-zero (puts .written)) (omega (arith, puts .ends)))

@@ -15,7 +15,7 @@ use Rattle.model.specs.Listing.{bookListing, refusalText, listingFault, listing
 use Rattle.model.proofs.FieldLaws.{first-of}
 use Rattle.model.proofs.CallLaws.{refusal-is, answered, untouched, fault-roomy, short-is, one-wrote, front-of}
 use Rattle.writing.proofs.WritingLaws.{written-from-zero}
-use Rattle.listings.specs.Texts.{Puts}
+use Rattle.writing.specs.Writing.{Put}
 use Rattle.listings.proofs.Lengths.{listing-bytes}
 use Rattle.plans.specs.declared.Written.{Written}
 use Rattle.plans.specs.Says.{listingBook, ListSays, PrintSays}
@@ -61,7 +61,7 @@ module _
     fault-told = refusal-is (says .gives) (λ (w : Written). w .refusal) (λ k. refl) refl ∙ fault-is
 
     pub prints-refusal :
-        (text′ : List ℕ) (after : ℕ) → 0 < r .refusal → Puts text₁ text′ 0 (refusalText (r .refusal)) after →
+        (text′ : List ℕ) (after : ℕ) → 0 < r .refusal → Put text₁ text′ 0 (refusalText (r .refusal)) after →
         PrintSays settings book work work′ text text′ after
     prints-refusal text′ after some puts =
         let bytes = refusalText (r .refusal) in

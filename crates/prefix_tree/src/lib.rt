@@ -8,13 +8,13 @@ use base::limits::STATE_LIMIT;
 use base::numbers::narrow16;
 use base::numbers::wide8;
 use base::numbers::wide16;
-use fields::offsets::body;
-use fields::offsets::next_field;
+use judging::offsets::body;
+use judging::offsets::next_field;
 ghost use mathlib.Core.Path.{_≡_};
 ghost use Prim.Native.Nat.{_+_, _<_, _≤_};
 ghost use lib.ListN.{length, set};
 ghost use Rattle.base.specs.Limits.{name-limit, state-limit};
-ghost use Rattle.fields.specs.Offsets.{offsetAt, fieldsAt};
+ghost use Rattle.judging.specs.Offsets.{offsetAt, fieldsAt};
 ghost use Rattle.prefix_tree.specs.Growth.{Roomy, store, Sized, ChildOf, appended, StepOf, RowBelow, RowOf, RowsBelow, TreeOf};
 
 // The state that a state goes on to by a name, if there is one.

@@ -13,7 +13,7 @@ use lib.Seq.{drop-cons}
 use Rattle.model.specs.Tables as model
 use Rattle.model.specs.Tables.{State, no-state, stateIn, targetIn, walk-at, walkFrom}
 use Rattle.model.specs.Calls.{tableStates}
-use Rattle.fields.specs.Offsets.{bodyAt}
+use Rattle.judging.specs.Offsets.{bodyAt}
 use Rattle.base.specs.Cells.{cellAt}
 use Rattle.tables.specs.Accepting.{Ready}
 use Rattle.tables.specs.Walking.{targetOf, MovedTo, WalkedAs}

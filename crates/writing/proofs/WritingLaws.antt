@@ -3,12 +3,12 @@
 use mathlib.Core.Path.{_≡_, refl, sym, ap, _∙_}
 use mathlib.Core.List.{List, [], _∷_, _++_, append-assoc}
 use Prim.Native.Nat.{ℕ, suc, _+_, _≤_, _<_}
-use native.Mathlib.Nat.{add-zero, zero-add, add-suc}
+use native.Mathlib.Nat.{add-zero, zero-add}
 use native.Mathlib.Numerals.{add-one}
 use native.Mathlib.Omega.{arith}
 use lib.ListN.{length, getD, set, take, drop, length-append, length-drop, take-append-drop}
 use lib.Seq.{sets, sets-eq, take-at, drop-at, set-at, drop-drop, length-take-le, take-suc}
-use Rattle.writing.specs.Writing.{Written, Put}
+use Rattle.writing.specs.Writing.{Written, Fits, Put}
 
 -- nothing written: the output as it was
 pub none-written : (out : List ℕ) (at : ℕ) → Written out out at []
@@ -131,49 +131,39 @@ copy-more {out} {mid} {at} src i w same more fits =
 -- ---- of what the functions give back
 
 -- nothing put
-pub put-none : (out : List ℕ) (at : ℕ) → Put out out at [] 0 at
-put-none out at = record { written = none-written out at; counted = refl; ends = sym (add-zero at) }
+pub put-none : (out : List ℕ) (at : ℕ) → Put out out at [] at
+put-none out at = record { written = none-written out at; ends = sym (add-zero at) }
+
+-- one byte, and two
+pub byte-put : (out : List ℕ) (at b : ℕ) → Fits out at (b ∷ []) → Put out (set out at b) at (b ∷ []) (at + 1)
+byte-put out at b fits = record { written = byte-written out at b (omega arith); ends = refl }
+
+pub two-put :
+    (out : List ℕ) (at a b : ℕ) → Fits out at (a ∷ (b ∷ [])) → Put out (set (set out at a) (at + 1) b) at (a ∷ (b ∷ [])) (at + 2)
+two-put out at a b fits =
+    record { written = rw add-one (stores-written (a ∷ (b ∷ [])) out at fits); ends = refl }
 
 -- two functions one after the other give what one would give for the appended bytes
 pub put-append :
-    {out mid out′ : List ℕ} {at next after : ℕ} {xs ys : List ℕ} {m n : ℕ} →
-    Put out mid at xs m next → Put mid out′ next ys n after → at ≤ length out → Put out out′ at (xs ++ ys) (m + n) after
-put-append {out} {mid} {out′} {at} {next} {after} {xs} {ys} {m} {n} p q fits =
-    let k : length xs ≡ m = p .counted in
-    let l : length ys ≡ n = q .counted in
-    let e : next ≡ at + m = p .ends in
-    let f : after ≡ next + n = q .ends in
+    {out mid out′ : List ℕ} {at next after : ℕ} {xs ys : List ℕ} →
+    Put out mid at xs next → Put mid out′ next ys after → at ≤ length out → Put out out′ at (xs ++ ys) after
+put-append {out} {mid} {out′} {at} {next} {after} {xs} {ys} p q fits =
+    let e : next ≡ at + length xs = p .ends in
+    let f : after ≡ next + length ys = q .ends in
     record {
-      written = written-append (p .written) (q .written) (omega arith) fits;
-      counted = omega (arith, length-append xs ys);
-      ends = omega arith;
+      written = written-append (p .written) (q .written) e fits;
+      ends = omega (arith, length-append xs ys);
     }
 
 -- what fits keeps the length
 pub put-length :
-    {out out′ : List ℕ} {at : ℕ} {bytes : List ℕ} {count after : ℕ} →
-    Put out out′ at bytes count after → at + count ≤ length out → length out′ ≡ length out
-put-length p fits = let k = p .counted in written-length (p .written) (omega arith)
+    {out out′ : List ℕ} {at : ℕ} {bytes : List ℕ} {after : ℕ} → Put out out′ at bytes after → Fits out at bytes →
+    length out′ ≡ length out
+put-length p fits = written-length (p .written) fits
 
--- bytes stored one by one at `at + k` and on, as straight-line code does
-abbrev pub storesFrom : List ℕ → ℕ → ℕ → List ℕ → List ℕ
-storesFrom out at k [] = out
-storesFrom out at k (b ∷ bytes) = storesFrom (set out (at + k) b) at (suc k) bytes
-
-stores-from : (out : List ℕ) (at k : ℕ) (bytes : List ℕ) → storesFrom out at k bytes ≡ sets out (at + k) bytes
-stores-from out at k [] = refl
-stores-from out at k (b ∷ bytes) =
-    stores-from (set out (at + k) b) at (suc k) bytes ∙ ap (λ (n : ℕ). sets (set out (at + k) b) n bytes) (add-suc at k)
-
--- a first byte at `at`, and more at `at + 1` and on
-pub stores-put :
-    (b : ℕ) (bytes out : List ℕ) (at : ℕ) → at + length (b ∷ bytes) ≤ length out →
-    Put out (storesFrom (set out at b) at 1 bytes) at (b ∷ bytes) (length (b ∷ bytes)) (at + length (b ∷ bytes))
-stores-put b bytes out at fits =
-    record {
-      written =
-          rw (stores-from (set out at b) at 1 bytes, add-one)
-          (stores-written (b ∷ bytes) out at fits);
-      counted = refl;
-      ends = refl;
-    }
+-- the second of two pieces fits after the first
+pub fits-after :
+    {out mid : List ℕ} {at next : ℕ} {xs : List ℕ} (ys : List ℕ) → Put out mid at xs next → Fits out at (xs ++ ys) → Fits mid next ys
+fits-after {out} {mid} {at} {next} {xs} ys p fits =
+    let both = length-append xs ys in
+    omega (arith, p .ends, put-length p (omega arith))

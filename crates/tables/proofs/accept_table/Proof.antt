@@ -36,7 +36,7 @@ returns-2 c =
     let start = c .before .before .before .before .before .before in
     let s = start .args .s .now in
     let given = c .before .read2 .given in
-    table-refused s (start .args .work .now) (given .0 .0)
+    table-refused s (start .args .work .now) (given .0 .0) (start .pre)
     (subst (λ (r : Fields). TableReadAs s r) (given .1) (c .before .before .before .read-table .ensures))
 
 pub accept-table-spec : {M : Type 1} → statement M

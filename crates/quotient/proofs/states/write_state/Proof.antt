@@ -64,10 +64,10 @@ returns c =
     let parts = state-parts given in
     let head-is = parts .bytes-are ∙ ap (λ (n : ℕ). stateHead accepts n ++ parts .rest) (sym (many .ensures)) in
     let headed =
-    left-more (left-all (at .args .out .now) (at .args .at) bytes) (stateHead accepts (many .result)) (parts .rest) (head .last .0) 4
+    left-more (left-all (at .args .out .now) (at .args .at) bytes) (stateHead accepts (many .result)) (parts .rest) (head .last .0)
     (head .result) head-is (head .ensures) start-low in
     left-none
-    (left-more headed (parts .rest) [] (arcs .last .1 .1 .1 .1 .0) (length (parts .rest)) (arcs .result)
+    (left-more headed (parts .rest) [] (arcs .last .1 .1 .1 .1 .0) (arcs .result)
     (sym (append-nil (parts .rest))) (arcs .ensures (parts .rest) (parts .arcs-left)) start-low)
     refl
 

@@ -1,8 +1,8 @@
 -- Fields by their offsets in a file: the length that the field at an offset states, its bytes, where the next one begins, and the
--- bytes of a run of fields. Assumes nothing.
+-- bytes of a run of fields; and a name by its number. Assumes nothing.
 use mathlib.Core.List.{List, [], _∷_}
 use Prim.Native.Nat.{ℕ, zero, suc, _+_}
-use lib.ListN.{drop}
+use lib.ListN.{getD, drop}
 use Rattle.model.specs.Fields.{statedLength, bodyOf}
 
 -- the length that the field at offset a states
@@ -26,3 +26,7 @@ offsetAt s a (suc i) = offsetAt s (nextAt s a) i
 unfoldable pub fieldsAt : List ℕ → ℕ → ℕ → List (List ℕ)
 fieldsAt s a zero = []
 fieldsAt s a (suc n) = bodyAt s a ∷ fieldsAt s (nextAt s a) n
+
+-- the n-th of `count` names, whose fields are the first; empty where there is none
+abbrev pub nameAt : List ℕ → ℕ → ℕ → List ℕ
+nameAt s count n = getD (fieldsAt s 0 count) n []

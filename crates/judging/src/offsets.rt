@@ -3,7 +3,7 @@ use base::numbers::two_bytes;
 ghost use mathlib.Core.Path.{_≡_};
 ghost use Prim.Native.Nat.{_+_, _≤_};
 ghost use lib.ListN.{length};
-ghost use Rattle.fields.specs.Offsets.{lengthAt, bodyAt, nextAt};
+ghost use Rattle.judging.specs.Offsets.{lengthAt, bodyAt, nextAt};
 
 // How many bytes the field at this offset says that it has after its mark and length.
 pub fn body_len(s: &[u8], at: usize) -> usize

@@ -1,9 +1,9 @@
 -- `offsets::body` meets its contract. Assumes nothing.
 use mathlib.Core.Path.{sym}
-use Rattle.fields.proofs.OffsetLaws.{body-at}
+use Rattle.judging.proofs.OffsetLaws.{body-at}
 use borrow.Author.Needs.{needs}
-use Rattle.fields.proofs.offsets.body.Statement.{statement}
-use Rattle.fields.proofs.offsets.body.Tie as tie
+use Rattle.judging.proofs.offsets.body.Statement.{statement}
+use Rattle.judging.proofs.offsets.body.Tie as tie
 
 add-from : tie.Need-add-from
 add-from c = search needs

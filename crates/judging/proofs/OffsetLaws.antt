@@ -6,7 +6,7 @@ use Prim.Native.Nat.{ℕ, zero, suc, _+_, _*_, _-_, _≤_, _<_}
 use native.Mathlib.Omega.{arith}
 use lib.ListN.{length, getD, take, drop, length-take, length-drop}
 use lib.Seq.{getD-drop, drop-drop}
-use Rattle.fields.specs.Offsets.{lengthAt, bodyAt, nextAt, offsetAt, fieldsAt}
+use Rattle.judging.specs.Offsets.{lengthAt, bodyAt, nextAt, offsetAt, fieldsAt}
 
 -- the stated length, as two bytes at their offsets
 pub length-at : (s : List ℕ) (a : ℕ) → lengthAt s a ≡ 256 * getD s (a + 1) 0 + getD s (a + 2) 0
