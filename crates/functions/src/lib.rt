@@ -13,7 +13,7 @@ ghost use Rattle.functions.specs.Parts.{ValuesAndKeys};
 ghost use Rattle.functions.specs.Results.{JoinReady, JoinedByF};
 
 // No partition has more states.
-const STATE_LIMIT: usize = 512;
+pub const STATE_LIMIT: usize = 512;
 
 // The values of f and the keys against the arcs: sets of names seen, or codes of the last j names, which have one set of keys.
 fn prepare(
