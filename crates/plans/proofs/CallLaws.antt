@@ -12,9 +12,9 @@ use Rattle.model.specs.Limits.{when, row-limit, bad-row, output-too-short}
 use Rattle.model.specs.Fields.{File, allBelow, rowOk}
 use Rattle.model.specs.Tables.{longestBeginning, walk}
 use Rattle.model.specs.Claims.{AllBytes}
-use Rattle.model.specs.Calls.{Gives, Refuses, tooShort, fronts, unless, tableOf, tableStates, tableFault, walkFault}
+use Rattle.model.specs.Calls.{Gives, Refuses, tooShort, unless, tableOf, tableStates, tableFault, walkFault}
 use Rattle.model.proofs.CallLaws.{refuses-first, refuses-then, refuses-none, refuses-when}
-use Rattle.model.proofs.CallLaws.{call-refused, call-accepted, answer-by, fault-roomy, call-one-short, call-one-wrote}
+use Rattle.model.proofs.CallLaws.{call-refused, call-answered, answer-by, fault-roomy, call-one-short, call-one-wrote}
 use Rattle.model.proofs.Reading.{rewrites-same}
 use Rattle.fields.specs.declared.Place.{Place}
 use Rattle.fields.proofs.Parts.{length-names}
@@ -77,12 +77,13 @@ module _ (table row work : List ℕ) where
         (refuses-then none
         (refuses-when (ap (λ (n : ℕ). not (rowOk n row)) count ∙ ap not bad) (omega arith)))
 
-    pub walk-ended : rowOk names row ≡ true → Gives (walking table row work) [] [] (walked-over (tableStates table) row)
-    unfolding walking walkFault tooShort fronts
+    pub walk-ended :
+        {r : Walked} → rowOk names row ≡ true → r ≡ walked-over (tableStates table) row → Gives (walking table row work) [] [] r
+    unfolding walking walkFault
     walk-ended good =
-        call-accepted (walking table row work) []
+        call-answered (walking table row work) refl
         (refuses-none none
-        (ap (λ (b : Bool). when (not b) bad-row) (ap (λ (n : ℕ). rowOk n row) count ∙ good))) refl
+        (ap (λ (b : Bool). when (not b) bad-row) (ap (λ (n : ℕ). rowOk n row) count ∙ good)))
 
   -- the answer tells how much of the row was walked
   pub walked-within : (r : Walked) → Gives (walking table row work) [] [] r → r .walked ≤ length row

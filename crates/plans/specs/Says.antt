@@ -4,7 +4,7 @@
 use mathlib.Core.Path.{_≡_}
 use mathlib.Core.List.{List, [], _∷_}
 use Prim.Native.Nat.{ℕ}
-use lib.ListN.{length, replicate}
+use lib.ListN.{length}
 use Rattle.model.specs.Tables.{State, outcome, longestBeginning, nextNames, nextCount}
 use Rattle.model.specs.Quotients.{bookStates, bookTable}
 use Rattle.model.specs.Calls.{Call, Says, over, unless}
@@ -110,9 +110,11 @@ ListSays book work work′ text text′ r = Says (listingBook book work) work wo
 
 -- ---- what the listing program prints
 
--- that text at the front of the lent one, which is untouched beyond it, and its length; and the working area before and after
+-- the listing or the text of the refusal, told by its length; nothing is refused
+unfoldable pub printing : List ℕ → Call ℕ
+printing book = record { refusal = 0; none = λ k. 0; answer = length (listingOf book); writes = [] }
+
+-- what print_book promises: that length; and the text at the front of the lent one, which takes every listing and is untouched beyond
 pub record PrintSays (book work work′ text text′ : List ℕ) (r : ℕ) : Type 0 where
+  pub says : Says (printing book) work work′ [] [] r
   pub text-is : text′ ≡ over (listingOf book) text
-  pub length-is : r ≡ length (listingOf book)
-  pub same-length : length work′ ≡ length work
-  pub work-zero : work′ ≡ replicate (length work′) 0

@@ -1,20 +1,18 @@
 -- `build` meets its contract: one law of BuildLaws for each answer. Assumes nothing.
 use mathlib.Core.Path.{_≡_, refl, sym, _∙_, subst}
 use mathlib.Core.Bool.{false}
-use mathlib.Core.List.{List, [], _∷_}
+use mathlib.Core.List.{List}
 use Prim.Native.Nat.{ℕ}
 use native.Mathlib.Omega.{arith}
 use Rattle.model.specs.Fields.{File, default-class}
 use Rattle.model.specs.Fields as model
-use Rattle.model.specs.Calls.{Gives, bookOf}
-use Rattle.model.proofs.CallLaws.{SizesBad, SizesFit, sizes-pass, sizes-fit}
+use Rattle.model.specs.Calls.{bookOf}
+use Rattle.model.proofs.CallLaws.{gives-as, SizesBad, SizesFit, sizes-pass, sizes-fit}
 use Rattle.fields.specs.Places.{ReadAs}
 use Rattle.fields.specs.declared.Fields.{Fields}
 use Rattle.fields.specs.declared.Fields.the-variants as answer
 use Rattle.fields.proofs.Parts.{refused-number}
 use Rattle.inference.specs.Results.{Infers}
-use Rattle.plans.specs.declared.Built.{Built}
-use Rattle.plans.specs.Says.{building}
 use Rattle.plans.proofs.BuildLaws.{BookRead, book-read-as, Small, inferred-small}
 use Rattle.plans.proofs.BuildLaws.{build-sizes-refused, build-fields-refused, build-inferred}
 use borrow.Author.Needs.{needs}
@@ -80,8 +78,7 @@ refused-requires c κs = search needs
 returns : tie.Need-returns
 returns c =
     let args = c .before .before .before .before .before .before .args in
-    subst (λ (r : Built). Gives (building (args .book .now) (args .work .now)) (args .out .now ∷ []) (args .out .now ∷ []) r)
-    (sym (c .refused .ensures))
+    gives-as _ _ (c .refused .ensures)
     (build-sizes-refused (args .book .now) (args .work .now) (args .out .now)
     (sym (c .before .before .sizes-bad .ensures) ∙ c .before .if1 .taken))
 
@@ -137,8 +134,7 @@ returns-3 c =
     let refused =
     subst (λ (r : Fields). ReadAs default-class model.book (book before) r) (refusing .read2 .given .1)
     (refusing .before .before .read-fields .ensures) in
-    subst (λ (r : Built). Gives (building (book before) (work before)) (out before ∷ []) (out before ∷ []) r)
-    (sym (c .refused2 .ensures))
+    gives-as _ _ (c .refused2 .ensures)
     (build-fields-refused (book before) (work before) (out before) k (fit before)
     (refused-number default-class model.book (book before) k refused) (refused .kept))
 

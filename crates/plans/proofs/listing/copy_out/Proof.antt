@@ -1,10 +1,6 @@
 -- `copy_out` meets its contract: one law of ListLaws for each answer. Assumes nothing.
-use mathlib.Core.Path.{sym, subst}
-use mathlib.Core.List.{[], _∷_}
 use native.Mathlib.Omega.{arith}
-use Rattle.model.specs.Calls.{Gives}
-use Rattle.plans.specs.declared.Written.{Written}
-use Rattle.plans.specs.Says.{copying}
+use Rattle.model.proofs.CallLaws.{gives-as}
 use Rattle.plans.proofs.ListLaws.{copy-short, copy-whole}
 use borrow.Author.Needs.{needs}
 use Rattle.plans.proofs.listing.copy_out.Statement.{statement}
@@ -16,8 +12,7 @@ refused-requires c κs = search needs
 returns : tie.Need-returns
 returns c =
     let at = c .before .before .before .before .args in
-    subst (λ (r : Written). Gives (copying (at .bytes .now)) (at .text .now ∷ []) (at .text .now ∷ []) r) (sym (c .refused .ensures))
-    (copy-short (at .bytes .now) (at .text .now) (omega arith))
+    gives-as _ _ (c .refused .ensures) (copy-short (at .bytes .now) (at .text .now) (omega arith))
 
 copy-in-requires : tie.Need-copy-in-requires
 copy-in-requires c κs = search needs

@@ -1,17 +1,15 @@
 -- `list` meets its contract: one law of ListLaws for each answer. Assumes nothing.
-use mathlib.Core.Path.{sym, ap, subst}
-use mathlib.Core.List.{List, [], _∷_}
+use mathlib.Core.Path.{sym, ap}
+use mathlib.Core.List.{List}
 use Prim.Native.Nat.{ℕ, _≤_}
 use native.Mathlib.Omega.{arith}
 use lib.ListN.{length, take, replicate, length-replicate}
 use lib.Seq.{length-take-le}
 use Rattle.model.specs.Quotients.{bookTable}
-use Rattle.model.specs.Calls.{Gives, bookOf}
+use Rattle.model.specs.Calls.{bookOf}
 use Rattle.model.specs.Listing.{bookListing}
 use Rattle.model.proofs.WrittenLengths.{table-bytes}
-use Rattle.model.proofs.CallLaws.{FrontOf}
-use Rattle.plans.specs.declared.Written.{Written}
-use Rattle.plans.specs.Says.{listingBook}
+use Rattle.model.proofs.CallLaws.{gives-as, FrontOf}
 use Rattle.plans.proofs.BuildLaws.{built-front}
 use Rattle.plans.proofs.ListLaws.{ListedBy, built-listed, puts-front, listing-refused, listing-copied}
 use borrow.Author.Needs.{needs}
@@ -81,8 +79,7 @@ returns : tie.Need-returns
 returns c =
     let after = c .before .before .before .before .before .before in
     let at = start after .args in
-    subst (λ (r : Written). Gives (listingBook (at .book .now) (at .work .now)) (at .text .now ∷ []) (at .text .now ∷ []) r)
-    (sym (c .refused .ensures))
+    gives-as _ _ (c .refused .ensures)
     (listing-refused (at .book .now) (at .work .now) zeros (output after) (after .build .result) (after .build .ensures) (at .text .now)
     long (omega (arith, c .before .if1 .taken)))
 

@@ -1,18 +1,11 @@
 -- `rewrite` meets its contract: one law of CallLaws for each answer. Assumes nothing.
-use mathlib.Core.Path.{_≡_, sym, subst}
-use mathlib.Core.List.{List, [], _∷_}
+use mathlib.Core.List.{List}
 use Prim.Native.Nat.{ℕ, _<_}
 use native.Mathlib.Omega.{arith}
 use lib.ListN.{length}
 use Rattle.model.specs.Claims.{AllBytes}
-use Rattle.model.specs.Calls.{Gives, tableFault}
-use Rattle.model.proofs.CallLaws.{table-sizes}
-use Rattle.tables.specs.Accepting.{OpenedAs}
-use Rattle.tables.specs.declared.Accepted.{Accepted}
-use Rattle.tables.specs.declared.Accepted.the-variants as answer
-use Rattle.tables.proofs.TableLaws.{opened-none, opened-refuses}
-use Rattle.plans.specs.declared.Built.{Built}
-use Rattle.plans.specs.Says.{rewriting}
+use Rattle.model.proofs.CallLaws.{gives-as, table-sizes}
+use Rattle.tables.proofs.TableLaws.{TableOpened, opened-table, opened-refused}
 use Rattle.plans.proofs.CallLaws.{rewrite-refused, rewrite-short, rewrite-copied}
 use borrow.Author.Needs.{needs}
 use Rattle.plans.proofs.rewriting.rewrite.Statement.{statement}
@@ -35,13 +28,8 @@ abbrev out : tie.After-opened → List ℕ
 out c = start (called c) .args .out .now
 
 -- the table was accepted
-opened : (c : tie.After-opened) → OpenedAs (table c) (work c) (called c .open-table .last .1 .0) (answer.Table (c .opened .given .0 .0))
-opened c =
-    subst (λ (r : Accepted). OpenedAs (table c) (work c) (called c .open-table .last .1 .0) r) (c .opened .given .1)
-    (called c .open-table .ensures)
-
-accepted : (c : tie.After-opened) → tableFault (table c) (work c) ≡ 0
-accepted c = opened-none (table c) (work c) (called c .open-table .last .1 .0) (c .opened .given .0 .0) (opened c)
+opened : (c : tie.After-opened) → TableOpened (table c) (work c) (called c .open-table .last .1 .0) (c .opened .given .0 .0)
+opened c = opened-table (called c .open-table .ensures) (c .opened .given .1)
 
 bytes : (c : tie.After-opened) → AllBytes (table c)
 bytes c =
@@ -63,8 +51,8 @@ same-length c = search needs
 returns : tie.Need-returns
 returns c =
     let at = c .before .before .before in
-    subst (λ (r : Built). Gives (rewriting (table at) (work at)) (out at ∷ []) (out at ∷ []) r) (sym (c .refused .ensures))
-    (rewrite-short (table at) (work at) (out at) (bytes at) (accepted at) (omega arith))
+    gives-as _ _ (c .refused .ensures)
+    (rewrite-short (table at) (work at) (out at) (bytes at) (opened at .not-refused) (omega arith))
 
 copy-in-requires : tie.Need-copy-in-requires
 copy-in-requires c κs = search needs
@@ -72,7 +60,7 @@ copy-in-requires c κs = search needs
 cast-t15 : tie.Need-cast-t15
 cast-t15 c =
     let at = c .before .before .before .before .before .before in
-    omega (arith, table-sizes (table at) (work at) (accepted at) .input-fits)
+    omega (arith, table-sizes (table at) (work at) (opened at .not-refused) .input-fits)
 
 cast-t16 : tie.Need-cast-t16
 cast-t16 c =
@@ -95,7 +83,7 @@ returns-2 : tie.Need-returns-2
 returns-2 c =
     let at = c .before .before .before .before .before .before .before in
     let copied = c .before .before .before .copy-in in
-    rewrite-copied (table at) (work at) (out at) (bytes at) (accepted at) (copied .last .0) _ (omega arith) (copied .ensures .written)
+    rewrite-copied (table at) (work at) (out at) (bytes at) (opened at .not-refused) (copied .last .0) _ (omega arith) (copied .ensures .written)
     (opened at .kept .items-are)
 
 same-length-4 : tie.Need-same-length-4
@@ -106,13 +94,9 @@ returns-3 c =
     let answered = c .before .before in
     let opening = answered .before .before .before .before in
     let at = start opening .args in
-    let refuses =
-    opened-refuses (at .table .now) (at .work .now) (opening .open-table .last .1 .0) (answered .opened2 .given .0 .0)
-    (subst (λ (r : Accepted). OpenedAs (at .table .now) (at .work .now) (opening .open-table .last .1 .0) r)
-    (answered .opened2 .given .1) (opening .open-table .ensures)) in
-    subst
-    (λ (r : Built). Gives (rewriting (at .table .now) (at .work .now)) (at .out .now ∷ []) (at .out .now ∷ []) r)
-    (sym (c .refused2 .ensures)) (rewrite-refused (at .table .now) (at .work .now) (at .out .now) _ refuses)
+    gives-as _ _ (c .refused2 .ensures)
+    (rewrite-refused (at .table .now) (at .work .now) (at .out .now) _
+    (opened-refused (opening .open-table .ensures) (answered .opened2 .given .1)))
 
 pub rewrite-spec : {M : Type 1} → statement M
 rewrite-spec =
