@@ -2,7 +2,7 @@
 // or `refused` and the refusal's number.
 use libc::STDIN_FILENO;
 use libc::STDOUT_FILENO;
-use plans::limits::LISTING_BYTES;
+use results::limits::LISTING_BYTES;
 use plans::printing::print_book;
 
 fn main() {

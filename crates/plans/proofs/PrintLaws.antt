@@ -16,9 +16,9 @@ use Rattle.model.proofs.CallLaws.{call-answered, refusal-is, answered, untouche
 use Rattle.writing.proofs.WritingLaws.{written-from-zero}
 use Rattle.listings.specs.Texts.{Puts}
 use Rattle.listings.proofs.Lengths.{listing-bytes}
-use Rattle.plans.specs.declared.Written.{Written}
-use Rattle.plans.specs.Says.{listingBook, ListSays, printing, PrintSays}
-use Rattle.plans.proofs.ListLaws.{listing-short}
+use Rattle.results.specs.declared.Written.{Written}
+use Rattle.results.specs.Says.{listingBook, ListSays, printing, PrintSays}
+use Rattle.book_calls.proofs.ListLaws.{listing-short}
 
 module _ (book work work′ text : List ℕ) (work-fits : work-bytes ≤ length work) (text-fits : listing-bytes ≤ length text) where
   sizes-are : sizesFault book work ≡ when (ltb input-limit (length book)) bad-sizes
