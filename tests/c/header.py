@@ -1,7 +1,7 @@
 #!/usr/bin/env python3
 """Compares include/plans.h with the library: its functions with the symbols of libplans.a and with the extern "C" functions of
-crates/plans/src/lib.rt, its structs with the #[repr(C)] structs there, its sizes with the constants of src/limits.rt in judging and
-plans.
+crates/plans/src/lib.rt, its structs with the #[repr(C)] structs of crates/results/src/lib.rt, its sizes with the constants of
+src/limits.rt in judging and results.
 The last line is 'N passed, M failed'."""
 import re
 import subprocess
@@ -68,14 +68,14 @@ def exported_symbols(library):
 
 def main():
     header = re.sub(r"/\*.*?\*/", "", (ROOT / "include/plans.h").read_text(), flags=re.S)
-    source = (ROOT / "crates/plans/src/lib.rt").read_text()
-    limits = "".join((ROOT / "crates" / crate / "src/limits.rt").read_text() for crate in ("judging", "plans"))
+    source, results = ((ROOT / "crates" / crate / "src/lib.rt").read_text() for crate in ("plans", "results"))
+    limits = "".join((ROOT / "crates" / crate / "src/limits.rt").read_text() for crate in ("judging", "results"))
     functions, structs, sizes = header_functions(header), header_structs(header), header_sizes(header)
     checks = [
         ("functions declared and symbols exported", set(functions), exported_symbols(sys.argv[1])),
         ("functions declared and their source", functions, library_functions(source)),
         ("structs declared and their source", {STRUCTS.get(name, name): fields for name, fields in structs.items()},
-         library_structs(source)),
+         library_structs(results)),
         ("sizes defined and their source", sizes, library_sizes(limits, sizes)),
     ]
     failed = 0

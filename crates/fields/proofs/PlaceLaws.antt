@@ -16,7 +16,8 @@ use Rattle.fields.specs.Offsets.{lengthAt, bodyAt, nextAt, offsetAt, fie
 use Rattle.judging.specs.Judged.{NameJudged, RowJudged, StateJudged}
 use Rattle.fields.specs.Places.{fileOf, withItem, Sound, Whole, Grown, Faulty}
 use Rattle.fields.specs.declared.Place.{Place}
-use Rattle.fields.proofs.OffsetLaws.{body-at, length-body, offset-suc, length-fields, fields-more, last-more}
+use Rattle.base.proofs.Lists.{lastOr-snoc}
+use Rattle.fields.proofs.OffsetLaws.{body-at, length-body, offset-suc, length-fields, fields-more}
 
 -- no fault, so none of the tests found one
 no-when : (b : Bool) (n : ℕ) → when b (suc n) ≡ 0 → b ≡ false
@@ -123,7 +124,7 @@ module _ (s : List ℕ) (p : Place) (whole : Whole s p) where
         names-within = omega (arith, names-next h);
         names-end = λ _. names-next h;
         last-end = omega (arith, names-next h);
-        last-is = rw (names-more h, last-more) last-body;
+        last-is = rw (names-more h, lastOr-snoc) last-body;
         items-end = refl;
         no-items = λ _. refl;
         some-items = λ (g : 3 ≤ 1). let z : ⊥ = omega arith in absurd z;

@@ -2,8 +2,8 @@
 // or `refused` and the refusal's number.
 use libc::STDIN_FILENO;
 use libc::STDOUT_FILENO;
-use plans::limits::LISTING_BYTES;
 use plans::printing::print_book;
+use results::limits::LISTING_BYTES;
 
 fn main() {
     // 65,536 bytes show that an input is over 65,535.

@@ -9,16 +9,16 @@ use borrow.Author.Tests.{le-ltb, eq-eqb, ne-eqb}
 use lib.Dec.{eqb, ltb}
 use lib.ListN.{length, getD}
 use Rattle.base.specs.Limits.{when, firstOf, input-limit, work-bytes, bad-sizes}
-use Rattle.model.specs.Calls.{tooShort, faultWith, over, sizesFault, bookOf, bookFault, buildFault}
+use Rattle.model.specs.Calls.{Says, tooShort, faultWith, over, sizesFault, bookOf, bookFault, buildFault}
 use Rattle.model.specs.Listing.{bookListing, refusalText, listingFault, listingOf}
 use Rattle.model.proofs.FieldLaws.{first-of}
-use Rattle.model.proofs.CallLaws.{refusal-is, answered, untouched, fault-roomy, short-is, one-wrote, front-of}
+use Rattle.model.proofs.CallLaws.{call-answered, refusal-is, answered, untouched, fault-roomy, short-is, one-wrote, front-of}
 use Rattle.writing.proofs.WritingLaws.{written-from-zero}
 use Rattle.listings.specs.Texts.{Puts}
 use Rattle.listings.proofs.Lengths.{listing-bytes}
-use Rattle.plans.specs.declared.Written.{Written}
-use Rattle.plans.specs.Says.{listingBook, ListSays, PrintSays}
-use Rattle.plans.proofs.ListLaws.{listing-short}
+use Rattle.results.specs.declared.Written.{Written}
+use Rattle.results.specs.Says.{listingBook, ListSays, printing, PrintSays}
+use Rattle.book_calls.proofs.ListLaws.{listing-short}
 
 module _ (book work work′ text : List ℕ) (work-fits : work-bytes ≤ length work) (text-fits : listing-bytes ≤ length text) where
   sizes-are : sizesFault book work ≡ when (ltb input-limit (length book)) bad-sizes
@@ -52,6 +52,16 @@ module _ (book work work′ text : List ℕ) (work-fits : work-bytes ≤ length 
     unfolding listingBook
     fault-told = refusal-is (says .gives) (λ (w : Written). w .refusal) (λ k. refl) refl ∙ fault-is
 
+    -- a length told, and the working area as listing left it
+    told : {after : ℕ} → after ≡ length (listingOf book) → Says (printing book) work work′ [] [] after
+    unfolding printing
+    told e =
+        record {
+          gives = call-answered (printing book) refl refl e;
+          same-length = says .same-length;
+          work-zero = says .work-zero;
+        }
+
     pub prints-refusal :
         (text′ : List ℕ) (after : ℕ) → 0 < r .refusal → Puts text₁ text′ 0 (refusalText (r .refusal)) after →
         PrintSays book work work′ text text′ after
@@ -62,11 +72,9 @@ module _ (book work work′ text : List ℕ) (work-fits : work-bytes ≤ length 
         (untouched (says .gives) (record { is = fault-is ∙ sym fault-told; some = some })) in
         let printed : bytes ≡ listingOf book = sym (refusal-printed (r .refusal) (sym fault-told) some) in
         record {
+          says = told (omega (arith, puts .ends, ap length printed));
           text-is =
               written-from-zero (puts .written) ∙ ap (λ (l : List ℕ). over bytes l) same ∙ ap (λ (l : List ℕ). over l text) printed;
-          length-is = omega (arith, puts .ends, ap length printed);
-          same-length = says .same-length;
-          work-zero = says .work-zero;
         }
 
     pub prints-listing : r .refusal ≡ 0 → PrintSays book work work′ text text₁ (r .length)
@@ -75,15 +83,14 @@ module _ (book work work′ text : List ℕ) (work-fits : work-bytes ≤ length 
         let none : faultWith (listingBook book work) (text ∷ []) ≡ 0 = fault-is ∙ sym fault-told ∙ accepted in
         let printed = sym (listing-printed (sym fault-told ∙ accepted)) in
         record {
+          says = told (ap (λ (w : Written). w .length) (answered (says .gives) none) ∙ ap length printed);
           text-is =
               one-wrote (listingBook book work) (bookListing (bookOf book)) text refl text₁ r (says .gives) none
               ∙ ap (λ (l : List ℕ). over l text) printed;
-          length-is = ap (λ (w : Written). w .length) (answered (says .gives) none) ∙ ap length printed;
-          same-length = says .same-length;
-          work-zero = says .work-zero;
         }
 
 -- what is printed lies within the text
 pub printed-within : {book work work′ text text′ : List ℕ} {r : ℕ} → PrintSays book work work′ text text′ r → r ≤ length text′
-printed-within {book} {work} {work′} {text} {text′} {r} says =
-    front-of (listingOf book) text text′ r (says .text-is) (says .length-is) .within
+unfolding printing tooShort
+printed-within {book} {work} {work′} {text} {text′} {r} prints =
+    front-of (listingOf book) text text′ r (prints .text-is) (answered (prints .says .gives) refl) .within
