@@ -1,6 +1,6 @@
 #!/usr/bin/env python3
 """Compares include/plans.h with the library: its functions with the symbols of libplans.a and libplans.so and with the extern "C"
-functions of crates/plans/src/lib.rt, its structs with the #[repr(C)] structs there, its constants with those of the same names in the
+functions of crates/plans/src/lib.rt, its structs with the #[repr(C)] structs of crates/results, its constants with those of the same names in the
 crates, what it says of symbols and of state with what the libraries have; and the refusals' words of python/plans/refusals.txt, which
 scripts/header writes into it, with the documents. The last line is 'N passed, M failed'."""
 import re
@@ -100,7 +100,7 @@ def refusals_in_documents():
 
 def main():
     header = re.sub(r"/\*.*?\*/", "", (ROOT / "include/plans.h").read_text(), flags=re.S)
-    source = (ROOT / "crates/plans/src/lib.rt").read_text()
+    source, results = ((ROOT / "crates" / crate / "src/lib.rt").read_text() for crate in ("plans", "results"))
     functions, structs, constants = header_functions(header), header_structs(header), header_constants(header)
     static, shared = sys.argv[1:]
     checks = [
@@ -111,7 +111,7 @@ def main():
         ("no state is kept in libplans.a", "no section", writable_sections(static) or "no section"),
         ("functions declared and their source", functions, library_functions(source)),
         ("structs declared and their source", {STRUCTS.get(name, name): fields for name, fields in structs.items()},
-         library_structs(source)),
+         library_structs(results)),
         ("constants defined and their source", constants, library_constants(constants)),
         ("the refusals' words and the documents'", refusals(), refusals_in_documents()),
     ]

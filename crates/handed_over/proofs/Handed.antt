@@ -14,9 +14,9 @@ use Rattle.model.specs.Calls.{sizesFault, bookOf, bookFault, buildFault, joinsO
 use Rattle.model.specs.Claims.{Accepted, SameBook}
 use Rattle.model.proofs.FieldLaws.{first-of}
 use Rattle.model.proofs.Demands.{tree-size-same, demands}
-use Rattle.plans.specs.declared.Built.{Built}
-use Rattle.plans.specs.Says.{building}
-use Rattle.plans.proofs.BuildLaws.{Front, built-front}
+use Rattle.results.specs.declared.Built.{Built}
+use Rattle.results.specs.Says.{building}
+use Rattle.book_calls.proofs.BuildLaws.{Front, built-front}
 use Rattle.handed_over.specs.Handed.{HandedOver, AcceptedBuild, bookIn, written, SameResults, BuildHandedOver}
 
 -- ---- a book's table

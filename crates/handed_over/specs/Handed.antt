@@ -14,8 +14,8 @@ use Rattle.model.specs.Joinings.{Step, isFullJoining}
 use Rattle.model.specs.Quotients.{tableAfter}
 use Rattle.model.specs.Calls.{bookOf, tableStates}
 use Rattle.model.specs.Claims.{Accepted, SameBook, DefiningJoining}
-use Rattle.plans.specs.declared.Built.{Built}
-use Rattle.plans.specs.Says.{BuildSays}
+use Rattle.results.specs.declared.Built.{Built}
+use Rattle.results.specs.Says.{BuildSays}
 
 -- the words that a table's bytes admit
 abbrev pub TableAdmits : List ℕ → Word → Type 0

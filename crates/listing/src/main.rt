@@ -3,8 +3,8 @@
 use libc::STDERR_FILENO;
 use libc::STDIN_FILENO;
 use libc::STDOUT_FILENO;
-use plans::limits::LISTING_BYTES;
 use plans::printing::print_book;
+use results::limits::LISTING_BYTES;
 
 fn main() {
     if 1 < os::arg_count() {

@@ -69,6 +69,10 @@ module _ {A : Type 0} (c : Call A) (outs : List (List ℕ)) where
         outputs-are = sym (unless-accepted outs (fronts (c .writes) outs) none);
       }
 
+  -- an answer that is said by an equation
+  pub gives-as : {outs′ : List (List ℕ)} {r r′ : A} → r′ ≡ r → Gives c outs outs′ r → Gives c outs outs′ r′
+  gives-as {outs′ = outs′} e gives = subst (λ (a : A). Gives c outs outs′ a) (sym e) gives
+
 -- ---- the answer seen as another
 
 pub seen-as :
@@ -155,6 +159,17 @@ module _ (input work : List ℕ) where
 pub table-sizes : (s work : List ℕ) → tableFault s work ≡ 0 → SizesFit s work
 unfolding tableFault
 table-sizes s work none = sizes-fit s work (first-of (sizesFault s work) _ none .0)
+
+-- ---- a call without outputs
+
+pub call-answered : {A : Type 0} (c : Call A) {r : A} → c .writes ≡ [] → c .refusal ≡ 0 → r ≡ c .answer → Gives c [] [] r
+unfolding tooShort fronts
+call-answered c no-output none answer =
+    let accepted = call-accepted c [] none (ap (λ (ws : List (List ℕ)). tooShort ws []) no-output) in
+    record {
+      answer-is = answer ∙ accepted .answer-is;
+      outputs-are = sym (ap (λ (ws : List (List ℕ)). fronts ws []) no-output) ∙ accepted .outputs-are;
+    }
 
 -- ---- a call with one output
 

@@ -10,16 +10,16 @@ use lib.Dec.{eqb, ltb}
 use lib.ListN.{length, getD}
 use Rattle.base.specs.Limits.{when, firstOf, input-limit, work-bytes, bad-sizes}
 use Rattle.model.specs.Fields.{Settings, Allowed}
-use Rattle.model.specs.Calls.{tooShort, faultWith, over, sizesFault, bookOf, bookFault, buildFault}
+use Rattle.model.specs.Calls.{Says, tooShort, faultWith, over, sizesFault, bookOf, bookFault, buildFault}
 use Rattle.model.specs.Listing.{bookListing, refusalText, listingFault, listingOf}
 use Rattle.model.proofs.FieldLaws.{first-of}
-use Rattle.model.proofs.CallLaws.{refusal-is, answered, untouched, fault-roomy, short-is, one-wrote, front-of}
+use Rattle.model.proofs.CallLaws.{call-answered, refusal-is, answered, untouched, fault-roomy, short-is, one-wrote, front-of}
 use Rattle.writing.proofs.WritingLaws.{written-from-zero}
 use Rattle.writing.specs.Writing.{Put}
 use Rattle.listings.proofs.Lengths.{listing-bytes}
-use Rattle.plans.specs.declared.Written.{Written}
-use Rattle.plans.specs.Says.{listingBook, ListSays, PrintSays}
-use Rattle.plans.proofs.ListLaws.{listing-short}
+use Rattle.results.specs.declared.Written.{Written}
+use Rattle.results.specs.Says.{listingBook, ListSays, printing, PrintSays}
+use Rattle.book_calls.proofs.ListLaws.{listing-short}
 
 module _
     (settings : Settings) (allowed : Allowed settings) (book work work′ text : List ℕ)
@@ -60,6 +60,16 @@ module _
     unfolding listingBook
     fault-told = refusal-is (says .gives) (λ (w : Written). w .refusal) (λ k. refl) refl ∙ fault-is
 
+    -- a length told, and the working area as listing left it
+    told : {after : ℕ} → after ≡ length (listingOf settings book) → Says (printing settings book) work work′ [] [] after
+    unfolding printing
+    told e =
+        record {
+          gives = call-answered (printing settings book) refl refl e;
+          same-length = says .same-length;
+          work-zero = says .work-zero;
+        }
+
     pub prints-refusal :
         (text′ : List ℕ) (after : ℕ) → 0 < r .refusal → Put text₁ text′ 0 (refusalText (r .refusal)) after →
         PrintSays settings book work work′ text text′ after
@@ -70,11 +80,9 @@ module _
         (untouched (says .gives) (record { is = fault-is ∙ sym fault-told; some = some })) in
         let printed : bytes ≡ listingOf settings book = sym (refusal-printed (r .refusal) (sym fault-told) some) in
         record {
+          says = told (omega (arith, puts .ends, ap length printed));
           text-is =
               written-from-zero (puts .written) ∙ ap (λ (l : List ℕ). over bytes l) same ∙ ap (λ (l : List ℕ). over l text) printed;
-          length-is = omega (arith, puts .ends, ap length printed);
-          same-length = says .same-length;
-          work-zero = says .work-zero;
         }
 
     pub prints-listing : r .refusal ≡ 0 → PrintSays settings book work work′ text text₁ (r .length)
@@ -83,17 +91,16 @@ module _
         let none : faultWith (listingBook settings book work) (text ∷ []) ≡ 0 = fault-is ∙ sym fault-told ∙ accepted in
         let printed = sym (listing-printed (sym fault-told ∙ accepted)) in
         record {
+          says = told (ap (λ (w : Written). w .length) (answered (says .gives) none) ∙ ap length printed);
           text-is =
               one-wrote (listingBook settings book work) (bookListing (bookOf settings book)) text refl text₁ r (says .gives) none
               ∙ ap (λ (l : List ℕ). over l text) printed;
-          length-is = ap (λ (w : Written). w .length) (answered (says .gives) none) ∙ ap length printed;
-          same-length = says .same-length;
-          work-zero = says .work-zero;
         }
 
 -- what is printed lies within the text
 pub printed-within :
     {settings : Settings} {book work work′ text text′ : List ℕ} {r : ℕ} → PrintSays settings book work work′ text text′ r →
     r ≤ length text′
-printed-within {settings} {book} {work} {work′} {text} {text′} {r} says =
-    front-of (listingOf settings book) text text′ r (says .text-is) (says .length-is) .within
+unfolding printing tooShort
+printed-within {settings} {book} {work} {work′} {text} {text′} {r} prints =
+    front-of (listingOf settings book) text text′ r (prints .text-is) (answered (prints .says .gives) refl) .within

@@ -24,7 +24,8 @@ use Rattle.judging.proofs.OffsetLaws.{offset-suc, field-within, length-fields, 
 use Rattle.base.specs.Cells.{cellAt, withCell}
 use Rattle.base.proofs.CellLaws.{length-withCell, cell-same, cell-other-row}
 use Rattle.tables.specs.Arcs.{StateOk}
-use Rattle.tables.specs.Accepting.{TableRead, StateField, OpenedAs}
+use Rattle.tables.specs.Accepting.{TableRead, StateField, TableAt, OpenedAs}
+use Rattle.tables.specs.declared.Accepted.{Accepted}
 use Rattle.tables.specs.declared.Accepted.the-variants.{Table, Refused}
 use Rattle.tables.proofs.MetLaws.{states-stop, states-go, states-end, first-met-some}
 
@@ -227,11 +228,22 @@ opened-bad s lent bad =
       same-length = refl;
     }
 
--- ---- what an opened table is
+-- ---- a table opened as this case
 
-pub opened-none : (s before after : List ℕ) (p : Place) → OpenedAs s before after (Table p) → tableFault s before ≡ 0
-opened-none s before after p opened = sym (opened .number)
+pub record TableOpened (s before after : List ℕ) (p : Place) : Type 0 where
+  pub not-refused : tableFault s before ≡ 0
+  pub kept : TableAt s after p
 
-pub opened-refuses :
-    (s before after : List ℕ) (k : ℕ) → OpenedAs s before after (Refused k) → Refuses (tableFault s before) k
-opened-refuses s before after k opened = record { is = sym (opened .number); some = opened .kept }
+pub opened-table :
+    {s before after : List ℕ} {answer : Accepted} {p : Place} → OpenedAs s before after answer → answer ≡ Table p →
+    TableOpened s before after p
+opened-table {s} {before} {after} opened e =
+    let here = subst (OpenedAs s before after) e opened in
+    record { not-refused = sym (here .number); kept = here .kept }
+
+pub opened-refused :
+    {s before after : List ℕ} {answer : Accepted} {k : ℕ} → OpenedAs s before after answer → answer ≡ Refused k →
+    Refuses (tableFault s before) k
+opened-refused {s} {before} {after} opened e =
+    let here = subst (OpenedAs s before after) e opened in
+    record { is = sym (here .number); some = here .kept }

@@ -6,8 +6,8 @@ mod parts;
 mod tables;
 
 use libc::STDOUT_FILENO;
-use plans::limits::LISTING_BYTES;
 use plans::printing::print_book;
+use results::limits::LISTING_BYTES;
 
 // Document 01's days and its example, and three days more. One more is a file in data/ and a line here.
 fn days() {
