@@ -31,22 +31,21 @@ help:
 	@echo "make bench-search SECONDS=300   looks for books that cost more"
 	@echo "make fmt           puts every .rt and .antt file into the layout"
 
-# What is proved and compiled, made anew where the sources have changed; target/sources is their sum, and new only if that is.
+# What is proved and compiled: scripts/anew makes it where it was not made from the sources as they are. The kit is asked for only
+# there, so that what is built can be installed without it.
 LIBRARY := target/staticlib/libplans.a
 SHARED := target/lib/libplans.so
 LISTING := target/bin/listing
-SOURCES := target/sources
 SONAME := libplans.so.$(firstword $(subst ., ,$(file < VERSION)))
 
 # Where `make install` puts things; DESTDIR stands before every place. They reach scripts/install by the environment.
 PREFIX ?= /usr/local
 export PREFIX DESTDIR
 
-# What needs a tool or a setting asks for it here, so that a newcomer reads what is missing.
+# Every target that needs a tool or a setting asks for it here, so that a newcomer reads what is missing.
 .PHONY: kit python seconds always
-KIT := command -v rt >/dev/null || { echo "make: the command 'rt' is missing: it comes with the Rattle kit (rattle-kit-5)"; exit 1; }
 kit:
-	@$(KIT)
+	@command -v rt >/dev/null || { echo "make: the command 'rt' is missing: it comes with the Rattle kit (rattle-kit-5)"; exit 1; }
 seconds:
 	@[ -n "$(SECONDS)" ] || { echo "make: say for how long, as SECONDS=300"; exit 1; }
 python:
@@ -63,15 +62,8 @@ check: kit
 
 lib: $(LIBRARY) $(SHARED)
 
-$(SOURCES): always
-	@scripts/sources $@
-
-# The kit is asked for only where there is something to prove, so that what is built can be installed without it.
-$(LIBRARY): $(SOURCES)
-	@echo "make: proving the library, which is not built from these sources yet; from nothing that takes some minutes" >&2
-	@$(KIT)
-	@scripts/proving rt check handed_over >&2
-	@scripts/quietly rt staticlib plans
+$(LIBRARY): always
+	@scripts/anew $@ handed_over rt staticlib plans
 
 $(SHARED): $(LIBRARY) VERSION scripts/plans.map
 	@command -v gcc >/dev/null || { echo "make: the command 'gcc' is missing: it is in Debian's package gcc"; exit 1; }
@@ -82,11 +74,8 @@ $(SHARED): $(LIBRARY) VERSION scripts/plans.map
 
 listing: $(LISTING)
 
-$(LISTING): $(SOURCES)
-	@echo "make: proving the listing program, which is not built from these sources yet; from nothing that takes some minutes" >&2
-	@$(KIT)
-	@scripts/proving rt check listing >&2
-	@touch $(LISTING)
+$(LISTING): always
+	@scripts/anew $@ listing
 
 install: lib listing
 	@scripts/install put
