@@ -13,7 +13,6 @@ from .showing import counted, cut, nearest, plain, shown
 from .texts import BadClass, BadText, Text, name_problem, read_class, read_text, write_text
 
 YES, NO = 0, 1
-TOLD_LIMIT = 1000
 
 
 @dataclass(frozen=True)
@@ -36,10 +35,7 @@ class Model:
 
 
 def told(source: Input, problem: BadText) -> List[str]:
-    lines = [f"{source.label}:{one.line}: {one.reason}" for one in problem.problems]
-    if len(lines) > TOLD_LIMIT:
-        lines[TOLD_LIMIT:] = [f"{source.label}: and {len(lines) - TOLD_LIMIT:,} more faults"]
-    return lines
+    return [f"{source.label}:{one.line}: {one.reason}" for one in problem.problems]
 
 
 def notes(source: Input, text: Text, copies: bool) -> List[str]:

@@ -10,9 +10,11 @@ from .showing import shown, suggested
 
 EMPTY_DAY = "-"
 LINE_ENDS = re.compile("\r\n|\r|\n")
+FAULT_LIMIT = 1000
+MARKS = re.compile('["#,;\t]')
 # in a line: a quoted cell, a comment, what parts cells, blanks, and anything else
 TOKENS = re.compile(r'(?P<quoted>"(?:[^"]|"")*")|(?P<comment>#.*)|(?P<parting>[,;\t])|(?P<blank> +)|(?P<word>"|[^",;\t #]+)')
-SETTING = re.compile(r'[\s",;]*([^\s",;=#]*)[ \t]*=([^#]*)')
+SETTING = re.compile(r'[\s",;]*([^\s",;=#]*)[\s",;]*=([^#]*)')
 SMALLER = "take a smaller element, such as a meal in place of a day"
 BYTE_ORDER_MARKS = [(b"\xef\xbb\xbf", "utf-8"), (b"\xff\xfe", "utf-16-le"), (b"\xfe\xff", "utf-16-be")]
 
@@ -88,6 +90,8 @@ def _unquoted(cell: str) -> str:
 def cells_of(line: str) -> Tuple[List[str], bool]:
     """The cells that hold something, and whether the line holds a comment. Commas, semicolons and tabs part cells where the line
     has any; else blanks do."""
+    if not MARKS.search(line):
+        return [cell for cell in line.split(" ") if cell], False
     tokens = [(found.lastgroup, found.group()) for found in TOKENS.finditer(line)]
     comment = bool(tokens) and tokens[-1][0] == "comment"
     if comment:
@@ -161,6 +165,10 @@ def limit_problems(text: Text, once: bool) -> List[Problem]:
     return problems
 
 
+class _Enough(Exception):
+    """So much is wrong that the rest is not read."""
+
+
 class _Reader:
     """What the lines read so far hold, and what is wrong with them."""
 
@@ -188,6 +196,9 @@ class _Reader:
 
     def wrong(self, number: int, reason: str) -> None:
         self.problems.append(Problem(number, reason))
+        if len(self.problems) == FAULT_LIMIT:
+            self.problems.append(Problem(number, f"{FAULT_LIMIT:,} faults are told; the rest of the text is not read"))
+            raise _Enough
 
     def setting(self, number: int, what: str, value: str) -> None:
         if what.lower() == "sep" and number == 1:
@@ -233,20 +244,22 @@ def decoded(data: bytes) -> str:
 
 def read_text(data: Union[str, bytes]) -> Text:
     """What the text says; BadText, with every faulty line, if it describes no book."""
-    lines = LINE_ENDS.split(data if isinstance(data, str) else decoded(data))
+    lines = LINE_ENDS.split((data if isinstance(data, str) else decoded(data)).removeprefix("\ufeff"))
     if not lines[-1]:
         lines.pop()
     reader = _Reader()
-    for number, line in enumerate(lines, 1):
-        reader.line(number, line)
-    if not reader.days:
-        reader.wrong(max(1, len(lines)), "the text ends without a day (a single - is the empty day)")
-    text = Text(reader.named_class, frozenset(reader.declared), tuple(reader.days), tuple(reader.lines), reader.blank_lines)
-    if reader.days and not text.names():
-        reader.wrong(len(lines), "the text has no name: a book needs one, used or not ('names =' declares it)")
+    try:
+        for number, line in enumerate(lines, 1):
+            reader.line(number, line)
+        if not reader.days:
+            reader.wrong(max(1, len(lines)), "the text ends without a day (a single - is the empty day)")
+        elif not reader.declared and not any(reader.days):
+            reader.wrong(len(lines), "the text has no name: a book needs one, used or not ('names =' declares it)")
+    except _Enough:
+        pass
     if reader.problems:
         raise BadText(reader.problems)
-    return text
+    return Text(reader.named_class, frozenset(reader.declared), tuple(reader.days), tuple(reader.lines), reader.blank_lines)
 
 
 def write_text(book: Book) -> str:
