@@ -1,22 +1,20 @@
 # Targets: see `make help`. The toolchain is the Rattle kit; its command is rt.
 .DEFAULT_GOAL := help
-.PHONY: help run test check lib listing example book text picture images test-book test-outside test-c seeded-fault fuzz bench bench-search fmt
+.PHONY: help run test check lib listing example images test-command test-outside test-c seeded-fault fuzz bench bench-search fmt
 
 help:
 	@echo "make run           lists a shipped book of forty days: the model that the library infers from it"
 	@echo "make test          the whole gate, from nothing; its last line is 'N passed, 0 failed'"
 	@echo
-	@echo "make book TEXT=days.txt OUT=days.book [CLASS=\"2 1\"]   a book from lines of names"
-	@echo "make text BOOK=days.book [OUT=days.txt]               a book as such text"
-	@echo "make picture BOOK=days.book OUT=days.svg              a drawing of a book's table (Graphviz)"
+	@echo "scripts/plans --help   what the command plans does, over the library that 'make lib' builds"
 	@echo "make images        the drawings under docs/images, anew"
 	@echo
-	@echo "make lib           target/staticlib/libplans.a, for C; its header is include/plans.h"
+	@echo "make lib           target/staticlib/libplans.a and target/lib/libplans.so; their header is include/plans.h"
 	@echo "make example       builds examples/*.c over it with gcc, runs them, and compares what they print"
 	@echo "make listing       target/bin/listing: a book on standard input, its listing on standard output"
 	@echo
 	@echo "make check         proves what changed since the last check"
-	@echo "make test-book     tests of the book scripts, the texts, the drawings and the listing program"
+	@echo "make test-command  tests of the command plans and its module, the texts, the drawings and the listing program"
 	@echo "make test-outside  compares the library with an independent implementation on generated inputs"
 	@echo "make test-c        the header and the library from C, with sanitizers and under valgrind"
 	@echo "make seeded-fault  faults put into copies of the library, which test-outside must find"
@@ -27,6 +25,7 @@ help:
 
 # What is proved and compiled, made anew where a source is newer.
 LIBRARY := target/staticlib/libplans.a
+SHARED := target/lib/libplans.so
 LISTING := target/bin/listing
 SOURCES := crates.txt $(shell find crates -name '*.rt' -o -name '*.antt')
 
@@ -48,7 +47,11 @@ test: kit
 check: kit
 	@scripts/proving rt check
 
-lib: $(LIBRARY)
+lib: $(LIBRARY) $(SHARED)
+
+$(SHARED): $(LIBRARY)
+	@mkdir -p target/lib
+	@gcc -shared -Wl,-soname,libplans.so.1 -Wl,--whole-archive $(LIBRARY) -Wl,--no-whole-archive -o $@
 
 $(LIBRARY): $(SOURCES) | kit
 	@echo "make: proving the library; from nothing that takes some minutes" >&2
@@ -65,23 +68,11 @@ $(LISTING): $(SOURCES) | kit
 example: lib
 	@scripts/example
 
-book: python
-	@[ -n "$(TEXT)" ] && [ -n "$(OUT)" ] || { echo 'make book: say TEXT=days.txt OUT=days.book, and CLASS="2 1", CLASS=seen or CLASS="last 1" if wanted'; exit 1; }
-	@scripts/book book "$(TEXT)" "$(OUT)" $(if $(CLASS),--class "$(CLASS)")
-
-text: python
-	@[ -n "$(BOOK)" ] || { echo "make text: say BOOK=days.book, and OUT=days.txt if wanted"; exit 1; }
-	@scripts/book text "$(BOOK)" $(if $(OUT),"$(OUT)")
-
-picture: python listing
-	@[ -n "$(BOOK)" ] && [ -n "$(OUT)" ] || { echo "make picture: say BOOK=days.book OUT=days.svg (or .png)"; exit 1; }
-	@scripts/picture "$(BOOK)" "$(OUT)"
-
-images: python listing
+images: python lib
 	@scripts/images
 
-test-book: python listing
-	@scripts/test-book
+test-command: python lib listing
+	@scripts/test-command
 
 test-outside: lib listing
 	@scripts/test-outside

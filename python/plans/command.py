@@ -209,6 +209,8 @@ def difference_lines(ours: Model, theirs: Model, found: Difference) -> List[str]
     if found.day is None:
         return lines + ["days: both allow the same"]
     day = " ".join(found.day) or "the empty day"
+    if len(found.day) > ENTRY_LIMIT:
+        lines.append(f"days: of up to {ENTRY_LIMIT} names both allow the same; one of {len(found.day)} names parts them")
     allows, refuses = (one, two) if found.first_allows else (two, one)
     return lines + [f"days: {day} is allowed by {allows}, not by {refuses}"]
 

@@ -2,8 +2,7 @@
 import enum
 import os
 import stat
-import sys
-import tempfile
+import time
 from dataclasses import dataclass
 from typing import List, Optional, Sequence
 
@@ -139,19 +138,17 @@ def _refuse_input(path: str, inputs: Sequence[Input]) -> None:
 def _write_whole(path: str, data: bytes) -> None:
     """To a file beside it first, which then takes its name."""
     path = os.path.realpath(path)
-    folder = os.path.dirname(path)
+    beside = os.path.join(os.path.dirname(path), f".plans-{os.getpid()}-{time.monotonic_ns()}")
+    old = None
     if os.path.exists(path):
-        mode = os.stat(path).st_mode & 0o777
         os.close(os.open(path, os.O_WRONLY))  # a file that may not be written is not replaced either
-    else:
-        mask = os.umask(0)
-        os.umask(mask)
-        mode = 0o666 & ~mask
-    file, beside = tempfile.mkstemp(prefix=".plans-", dir=folder)
+        old = os.stat(path).st_mode
+    file = os.open(beside, os.O_WRONLY | os.O_CREAT | os.O_EXCL, 0o666)
     try:
         try:
             _write_all(file, data)
-            os.fchmod(file, mode)
+            if old is not None:
+                os.fchmod(file, stat.S_IMODE(old))
         finally:
             os.close(file)
         os.replace(beside, path)
