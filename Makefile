@@ -2,15 +2,13 @@
 .DEFAULT_GOAL := help
 .DELETE_ON_ERROR:
 .NOTPARALLEL:
-.PHONY: help run test check lib listing install uninstall header example book text picture images test-book test-outside test-c test-install seeded-fault fuzz bench bench-search fmt
+.PHONY: help run test check lib listing install uninstall header example images test-command test-outside test-c test-install seeded-fault fuzz bench bench-search fmt
 
 help:
 	@echo "make run           lists a shipped book of forty days: the model that the library infers from it"
 	@echo "make test          the whole gate, from nothing; its last line is 'N passed, 0 failed'"
 	@echo
-	@echo "make book TEXT=days.txt OUT=days.book [CLASS=\"2 1\"]   a book from lines of names"
-	@echo "make text BOOK=days.book [OUT=days.txt]               a book as such text"
-	@echo "make picture BOOK=days.book OUT=days.svg              a drawing of a book's table (Graphviz)"
+	@echo "scripts/plans --help   what the command plans does, over the library that 'make lib' builds"
 	@echo "make images        the drawings under docs/images, anew"
 	@echo
 	@echo "make install       [PREFIX=/usr/local] [DESTDIR=]: libraries, headers, plans.pc, commands, module, man page"
@@ -21,7 +19,7 @@ help:
 	@echo "make header        puts the version and the refusals' words into include/plans.h"
 	@echo
 	@echo "make check         proves what changed since the last check"
-	@echo "make test-book     tests of the book scripts, the texts, the drawings and the listing program"
+	@echo "make test-command  tests of the command plans and its module, the texts, the drawings and the listing program"
 	@echo "make test-outside  compares the library with an independent implementation on generated inputs"
 	@echo "make test-c        the header and the library from C, with sanitizers and under valgrind"
 	@echo "make test-install  an installation: every example built by pkg-config alone, and nothing left after uninstall"
@@ -89,23 +87,11 @@ header: python
 example: lib
 	@scripts/example
 
-book: python
-	@[ -n "$(TEXT)" ] && [ -n "$(OUT)" ] || { echo 'make book: say TEXT=days.txt OUT=days.book, and CLASS="2 1", CLASS=seen or CLASS="last 1" if wanted'; exit 1; }
-	@scripts/book book "$(TEXT)" "$(OUT)" $(if $(CLASS),--class "$(CLASS)")
-
-text: python
-	@[ -n "$(BOOK)" ] || { echo "make text: say BOOK=days.book, and OUT=days.txt if wanted"; exit 1; }
-	@scripts/book text "$(BOOK)" $(if $(OUT),"$(OUT)")
-
-picture: python listing
-	@[ -n "$(BOOK)" ] && [ -n "$(OUT)" ] || { echo "make picture: say BOOK=days.book OUT=days.svg (or .png)"; exit 1; }
-	@scripts/picture "$(BOOK)" "$(OUT)"
-
-images: python listing
+images: python lib
 	@scripts/images
 
-test-book: python listing
-	@scripts/test-book
+test-command: python lib listing
+	@scripts/test-command
 
 test-outside: lib listing
 	@scripts/test-outside
