@@ -2,11 +2,11 @@
 import getopt
 import textwrap
 from dataclasses import dataclass
-from typing import Callable, Dict, List, NamedTuple, Optional, Sequence, Tuple
+from typing import Callable, Dict, Iterable, List, NamedTuple, Optional, Sequence, Tuple
 
 from . import drawings, helps
 from .differences import Difference, compare
-from .fields import ENTRY_LIMIT, ROW_LIMIT, STATE, Book, Class, Refused, Row, Table, read_book, read_table, write_book
+from .fields import ENTRY_LIMIT, ROW_LIMIT, Book, Class, Refused, Row, Table, read_book, read_table, write_book
 from .files import Failure, Input, Kind, put, read_input, say, write_output
 from .models import Built, Outcome, Walked, build, list_book, list_table, rewrite, walk
 from .showing import counted, cut, nearest, plain, shown
@@ -53,12 +53,14 @@ def notes(source: Input, text: Text, copies: bool) -> List[str]:
     return lines
 
 
+def put_lines(lines: Iterable[str]) -> None:
+    put("".join(line + "\n" for line in lines).encode("utf-8", "backslashreplace"))
+
+
 def text_book(source: Input, asked: Asked, copies: bool) -> Book:
-    try:
-        text = read_text(source.data)
-        book = text.book(copies)
-    except BadText as problem:
-        raise Failure(*told(source, problem)) from None
+    """The text's book, with notes on it; BadText if it has none."""
+    text = read_text(source.data)
+    book = text.book(copies)
     if not asked.quiet:
         for line in notes(source, text, copies):
             say(line)
@@ -76,15 +78,14 @@ def wrong_kind(source: Input, wanted: str) -> Failure:
 
 
 def book_of(source: Input, asked: Asked, copies: bool = False, wanted: str = "a text or a book") -> Book:
-    if source.kind is Kind.TEXT:
-        book = text_book(source, asked, copies)
-    elif source.kind is Kind.BOOK:
-        try:
-            book = read_book(source.data)
-        except Refused as problem:
-            raise source.refused(problem) from None
-    else:
+    if source.kind not in (Kind.TEXT, Kind.BOOK):
         raise wrong_kind(source, wanted)
+    try:
+        book = text_book(source, asked, copies) if source.kind is Kind.TEXT else read_book(source.data)
+    except BadText as problem:
+        raise Failure(*told(source, problem)) from None
+    except Refused as problem:
+        raise source.refused(problem) from None
     return book if asked.named_class is None else Book(book.names, asked.named_class, book.rows)
 
 
@@ -161,7 +162,7 @@ def walking(asked: Asked) -> int:
     model = model_of(asked.words[0], asked)
     result = walk(model.built.table, day)
     following = ", ".join(result.next_names) or "nothing"
-    put(f"{answer(day, result, model.table.names)}\nnext: {following}\n".encode("utf-8", "backslashreplace"))
+    put_lines([answer(day, result, model.table.names), f"next: {following}"])
     return YES if result.outcome is Outcome.ADMITTED else NO
 
 
@@ -176,13 +177,13 @@ def accepted_fields(source: Input) -> str:
     return f"a table of {counted(len(table.names), 'name')}, {table.named_class}, {counted(len(table.states), 'state')}"
 
 
-def judged(source: Input) -> Tuple[bool, List[str]]:
+def judged(source: Input, asked: Asked) -> Tuple[bool, List[str]]:
     """Whether a file is accepted, and the lines that say so."""
     try:
         if source.kind is Kind.TEXT:
-            text = read_text(source.data)
-            text.book(copies=False)
-            return True, [f"{source.label}: accepted: a text of {counted(len(text.days), 'day')}"]
+            book = text_book(source, asked, copies=False)
+            counts = f"{counted(len(set(book.rows)), 'different day')}, {counted(len(book.names), 'name')}"
+            return True, [f"{source.label}: accepted: a text of {counts}"]
         return True, [f"{source.label}: accepted: {accepted_fields(source)}"]
     except BadText as problem:
         return False, told(source, problem)
@@ -191,8 +192,8 @@ def judged(source: Input) -> Tuple[bool, List[str]]:
 
 
 def checking(asked: Asked) -> int:
-    results = [judged(read_input(path)) for path in asked.words]
-    put("".join(line + "\n" for _, lines in results for line in lines).encode("utf-8", "backslashreplace"))
+    results = [judged(read_input(path), asked) for path in asked.words]
+    put_lines(line for _, lines in results for line in lines)
     return YES if all(accepted for accepted, _ in results) else NO
 
 
@@ -221,7 +222,7 @@ def differing(asked: Asked) -> int:
         put(b"same\n")
         return YES
     lines = difference_lines(ours, theirs, compare(ours.table, theirs.table))
-    put("".join(line + "\n" for line in lines).encode("utf-8", "backslashreplace"))
+    put_lines(lines)
     return NO
 
 

@@ -56,8 +56,8 @@ class Good(InFolder):
 
     def test_check(self):
         self.answers(0, "days.table: accepted: a table of 3 names, context (2,1), 4 states\n"
-                        "days.book: accepted: a book of 3 names, 3 rows\ndays.txt: accepted: a text of 3 days\n",
-                     "check", "days.table", "days.book", "days.txt")
+                        "days.book: accepted: a book of 3 names, 3 rows\ndays.txt: accepted: a text of 3 different days, 3 names\n",
+                     "check", "days.table", "days.book", "days.txt", said=NOTES)
 
     def test_diff(self):
         self.answers(0, "same\n", "diff", "days.table", "days.table")
@@ -317,7 +317,7 @@ class Writing(InFolder):
         self.assertEqual(self.left(), ["days.book", "days.txt", "link", "new.table", "old.table"])
 
     def test_full_device(self):
-        for words in [["list", "-q", "days.txt"], ["build", "days.book"], ["walk", "-q", "days.txt", "lunch"], ["check", "days.txt"],
+        for words in [["list", "-q", "days.txt"], ["build", "days.book"], ["walk", "-q", "days.txt", "lunch"], ["check", "days.book"],
                       ["diff", "-q", "days.txt", "days.book"], ["text", "days.book"], ["book", "-q", "days.txt"], ["--help"], ["--version"]]:
             with open("/dev/full", "wb") as full:
                 done = self.plans(*words, stdout=full)

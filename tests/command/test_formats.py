@@ -1,5 +1,4 @@
-"""docs/FORMATS.md, docs/SOURCES.md and README.md: the bytes, listings, refusals and counts that they show are those of the
-programs."""
+"""docs/FORMATS.md and docs/SOURCES.md: the bytes, listings, refusals and counts that they show are those of the programs."""
 import re
 import unittest
 from pathlib import Path
@@ -47,13 +46,6 @@ class Formats(unittest.TestCase):
             with self.assertRaises(plans.Refused) as caught:
                 (plans.build if int(number) < 10 else plans.rewrite)(bytes.fromhex(data))
             self.assertEqual(caught.exception.number, int(number))
-
-    def test_words_of_refusals(self):
-        """The documents' tables of refusals have the words of python/plans/refusals.txt."""
-        for name in ["README.md", "docs/FORMATS.md"]:
-            rows = re.findall(r"^\| (\d+) \| ([^|]*?) \|", (ROOT / name).read_text(), re.MULTILINE)
-            expected = [(str(number), words) for number, words in plans.REFUSALS.items() if number]
-            self.assertEqual([row for row in rows if row in expected], expected, name)
 
     def test_shipped_books(self):
         shown = re.findall(r"^\| `(\w+)` \| [^|]* \| [^|]* \| (\d+), (\d+), (\d+) \| (\d+), (\d+), (\d+) \|$", FORMATS, re.MULTILINE)

@@ -48,11 +48,12 @@ def dot_parts(text: str) -> tuple:
 class Drawings(unittest.TestCase):
     def test_images_are_of_the_examples(self):
         texts = sorted((ROOT / "examples" / "classes").glob("*.txt"))
-        self.assertEqual({path.stem for path in IMAGES.glob("*")}, {path.stem for path in texts} | {"crates", "days"})
+        self.assertEqual({path.stem for path in IMAGES.glob("*")}, {path.stem for path in texts} | {"crates", "course", "days"})
         for text in texts:
             self.assertEqual(svg_parts(IMAGES / (text.stem + ".svg")), dot_parts(drawn(text, True)), text)
-        days = dot_parts(drawn(ROOT / "examples" / "books" / "days.txt", False))
-        self.assertEqual(svg_parts(IMAGES / "days.svg"), days)
+        for name in ["course", "days"]:
+            text = ROOT / "examples" / "books" / (name + ".txt")
+            self.assertEqual(svg_parts(IMAGES / (name + ".svg")), dot_parts(drawn(text, False)), name)
 
     def test_images_fit_a_page(self):
         """800 pixels are 600 points."""
