@@ -1,8 +1,8 @@
 #!/usr/bin/env python3
 """Compares include/plans.h with the library: its functions with the symbols of libplans.a and libplans.so and with the extern "C"
-functions of crates/plans/src/lib.rt, its structs with the #[repr(C)] structs of crates/results, its constants with those of the same names in the
-crates, what it says of symbols and of state with what the libraries have; and the refusals' words of python/plans/refusals.txt, which
-scripts/header writes into it, with the documents. The last line is 'N passed, M failed'."""
+functions of the crates, its structs with the #[repr(C)] structs there, its constants with those of the same names, what it says of
+symbols and of state with what the libraries have; and the refusals' words of python/plans/refusals.txt, which scripts/header writes
+into it, with the documents. The last line is 'N passed, M failed'."""
 import re
 import subprocess
 import sys
@@ -58,13 +58,12 @@ def header_constants(text):
     return {name: number for name, number in numbers.items() if name not in ("OK", "CONTEXT", "SEEN_SET", "LAST_NAMES")}
 
 
-def library_constants(names):
-    """Of the constants of all crates those with these names; all values where crates differ."""
+def library_constants(text, names):
+    """The constants with these names; all values where crates differ."""
     found = {}
-    for path in ROOT.glob("crates/*/src/*.rt"):
-        for name, number in re.findall(r"^pub const (\w+): \w+ = (\d+);", path.read_text(), re.M):
-            if name in names:
-                found.setdefault(name, set()).add(number)
+    for name, number in re.findall(r"^pub const (\w+): \w+ = (\d+);", text, re.M):
+        if name in names:
+            found.setdefault(name, set()).add(number)
     return {name: " or ".join(numbers) for name, numbers in found.items()}
 
 
@@ -100,7 +99,7 @@ def refusals_in_documents():
 
 def main():
     header = re.sub(r"/\*.*?\*/", "", (ROOT / "include/plans.h").read_text(), flags=re.S)
-    source, results = ((ROOT / "crates" / crate / "src/lib.rt").read_text() for crate in ("plans", "results"))
+    source = "".join(path.read_text() for path in ROOT.glob("crates/*/src/*.rt"))
     functions, structs, constants = header_functions(header), header_structs(header), header_constants(header)
     static, shared = sys.argv[1:]
     checks = [
@@ -111,8 +110,8 @@ def main():
         ("no state is kept in libplans.a", "no section", writable_sections(static) or "no section"),
         ("functions declared and their source", functions, library_functions(source)),
         ("structs declared and their source", {STRUCTS.get(name, name): fields for name, fields in structs.items()},
-         library_structs(results)),
-        ("constants defined and their source", constants, library_constants(constants)),
+         library_structs(source)),
+        ("constants defined and their source", constants, library_constants(source, constants)),
         ("the refusals' words and the documents'", refusals(), refusals_in_documents()),
     ]
     failed = 0

@@ -3,8 +3,7 @@ import subprocess
 import unittest
 from pathlib import Path
 
-from books.fields import INPUT_LIMIT
-
+INPUT_LIMIT = 65535
 PROGRAM = Path(__file__).resolve().parents[2] / "target" / "bin" / "listing"
 EXAMPLE = bytes.fromhex("01 00 05 73 6E 61 63 6B 02 00 03 00 01 01 03 00 02 00 00")
 

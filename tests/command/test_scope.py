@@ -1,17 +1,15 @@
-"""docs/SCOPE.md: its worked days, its example and its limits are those of the examples, the rules and the definitions."""
+"""docs/SCOPE.md: its worked days, its example and its limits are those of the examples, the library and the definitions."""
 import re
 import unittest
 from pathlib import Path
 
-from books.drawings import read_listing
-from books.fields import Book, prefix_tree, write_book
-from books.texts import class_of, read_text
-from reference import listing_of
+import plans
+from plans.fields import prefix_tree
 
 ROOT = Path(__file__).resolve().parents[2]
 SCOPE = (ROOT / "docs" / "SCOPE.md").read_text()
 DAYS = ROOT / "examples" / "worked_days"
-NAMES = (b"breakfast", b"dinner", b"lunch", b"snack")
+NAMES = ("breakfast", "dinner", "lunch", "snack")
 
 
 def section(heading: str) -> str:
@@ -20,16 +18,7 @@ def section(heading: str) -> str:
 
 def row_of(shown: str) -> tuple:
     """A row by the first letters of its names."""
-    return () if shown == "the empty row" else tuple("bdls".index(letter) for letter in shown)
-
-
-def table_of(book: bytes, listing: str) -> bytes:
-    """The table that a listing over one name shows: the book's name and class, then the states."""
-    states = b""
-    for state in read_listing(listing).states:
-        arcs = b"".join(b"\x00" + target.to_bytes(2, "big") for target in state.arcs.values())
-        states += b"\x04" + (1 + len(arcs)).to_bytes(2, "big") + bytes([state.accepting]) + arcs
-    return book[:book.index(b"\x03\x00\x02")] + states
+    return () if shown == "the empty row" else tuple(NAMES["bdls".index(letter)] for letter in shown)
 
 
 class Scope(unittest.TestCase):
@@ -37,11 +26,11 @@ class Scope(unittest.TestCase):
         shown = re.findall(r"^\| ([PQ]\d+) \| ([^|]*) \| ([^|]*) \| (\d+), (\d+), (\d+) \|", section("10. Worked days"), re.MULTILINE)
         self.assertEqual({row[0] for row in shown}, {path.stem for path in DAYS.glob("[PQ]*.txt")})
         for day, class_shown, rows, *numbers in shown:
-            class_field = None if class_shown == "none" else class_of(class_shown.encode().split())
-            book = Book(NAMES, class_field, tuple(map(row_of, rows.split(", "))))
-            self.assertEqual(read_text((DAYS / (day + ".txt")).read_bytes()), book, day)
-            states, joins = re.match(r"states (\d+) joins (\d+)\n", listing_of(write_book(book))).groups()
-            self.assertEqual(numbers, [str(len(prefix_tree(book.rows))), states, joins], day)
+            named_class = None if class_shown == "none" else plans.read_class(class_shown)
+            book = plans.Book(NAMES, named_class, tuple(map(row_of, rows.split(", "))))
+            self.assertEqual(plans.read_text((DAYS / (day + ".txt")).read_bytes()).book(), book, day)
+            built = plans.build(book)
+            self.assertEqual(tuple(map(int, numbers)), (len(prefix_tree(book.rows)), built.states, built.joins), day)
 
     def test_joining_step_by_step(self):
         shown = section("7. From rows to a table").split("```\n")[1]
@@ -50,9 +39,8 @@ class Scope(unittest.TestCase):
     def test_example(self):
         text = section("8. The listing")
         book, table = map(bytes.fromhex, re.findall(r"^    ([0-9A-F ]+)$", text, re.MULTILINE))
-        listing = text.split("```\n")[1]
-        self.assertEqual(listing, listing_of(book))
-        self.assertEqual(table, table_of(book, listing))
+        self.assertEqual(table, plans.build(book).table)
+        self.assertEqual(text.split("```\n")[1], plans.list_book(book))
 
     def test_fields_shown(self):
         shown = re.findall(r"^\| (0\d) \| .* \| `([0-9A-F ]+)`: ", section("3. Fields"), re.MULTILINE)
@@ -69,4 +57,4 @@ class Scope(unittest.TestCase):
 
     def test_refusals(self):
         numbers = re.findall(r"^\| (\d+) \|", section("4. What a call gives back"), re.MULTILINE)
-        self.assertEqual(numbers, [str(number) for number in range(1, 14)])
+        self.assertEqual(list(map(int, numbers)), [number for number in plans.REFUSALS if number])

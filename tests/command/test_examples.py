@@ -4,10 +4,11 @@ import re
 import unittest
 from pathlib import Path
 
-from books.drawings import homes, read_listing
-from books.fields import prefix_tree, write_book
-from books.texts import read_text
+import plans
+from plans.drawings import homes
+from plans.fields import prefix_tree
 from reference import listing_of
+from samples import sample_of
 
 ROOT = Path(__file__).resolve().parents[2]
 EXAMPLES = ROOT / "examples"
@@ -22,20 +23,22 @@ WORKED_DAYS = {
 }
 
 
-def book_at(path: Path):
-    return read_text(path.read_bytes())
+def book_at(path: Path) -> plans.Book:
+    return plans.read_text(path.read_bytes()).book()
 
 
-def table_of(name: str):
-    return read_listing((EXAMPLES / (name + ".listing")).read_text())
+def table_of(name: str) -> plans.Table:
+    """The table, by the library; its listing is compared with the reference's."""
+    return plans.read_table(plans.build(book_at(EXAMPLES / (name + ".txt"))).table)
 
 
-def admits(table, names) -> bool:
+def admits(table: plans.Table, names) -> bool:
     state = 0
     for name in names:
-        if name not in table.states[state].arcs:
+        arcs = dict(table.states[state].arcs)
+        if name not in arcs:
             return False
-        state = table.states[state].arcs[name]
+        state = arcs[name]
     return table.states[state].accepting
 
 
@@ -67,19 +70,21 @@ class Shipped(unittest.TestCase):
         texts = sorted((EXAMPLES / "books").glob("*.txt"))
         self.assertEqual([path.stem for path in texts], [path.stem for path in sorted((EXAMPLES / "books").glob("*.book"))])
         for path in texts:
-            self.assertEqual(path.with_suffix(".book").read_bytes(), write_book(book_at(path)), path)
+            self.assertEqual(path.with_suffix(".book").read_bytes(), plans.write_book(book_at(path)), path)
 
     def test_listings(self):
         self.assertEqual(sorted(path.with_suffix(".txt") for path in EXAMPLES.glob("*/*.listing")), TEXTS)
         for path in TEXTS:
-            self.assertEqual(path.with_suffix(".listing").read_text(), listing_of(write_book(book_at(path))), path)
+            listing = path.with_suffix(".listing").read_text()
+            self.assertEqual(listing, listing_of(sample_of(book_at(path))), path)
+            self.assertEqual(listing, plans.list_book(book_at(path)), path)
 
     def test_rows_are_admitted(self):
         for path in TEXTS:
             book = book_at(path)
-            table = read_listing(path.with_suffix(".listing").read_text())
+            table = plans.build(book).table
             for row in book.rows:
-                self.assertTrue(admits(table, [book.names[entry].decode() for entry in row]), path)
+                self.assertIs(plans.walk(table, row).outcome, plans.Outcome.ADMITTED, path)
 
     def test_the_forty_days(self):
         book = book_at(EXAMPLES / "books" / "days.txt")
@@ -93,8 +98,8 @@ class WorkedDays(unittest.TestCase):
     def test_counts(self):
         for name, counts in WORKED_DAYS.items():
             path = EXAMPLES / "worked_days" / (name + ".txt")
-            table = table_of(f"worked_days/{name}")
-            self.assertEqual((len(prefix_tree(book_at(path).rows)), len(table.states), table.joins), counts, name)
+            built = plans.build(book_at(path))
+            self.assertEqual((len(prefix_tree(book_at(path).rows)), built.states, built.joins), counts, name)
 
 
 class Program(unittest.TestCase):
@@ -105,7 +110,7 @@ class Program(unittest.TestCase):
         books = {path.stem: path for path in (PROGRAM / "data").iterdir()}
         self.assertEqual(sorted(books), sorted(texts))
         for name, path in books.items():
-            self.assertEqual(path.read_bytes(), write_book(book_at(texts[name])), name)
+            self.assertEqual(path.read_bytes(), plans.write_book(book_at(texts[name])), name)
 
     def test_output_has_the_listings(self):
         output = (PROGRAM / "stdout").read_text()
@@ -141,10 +146,9 @@ class Sources(unittest.TestCase):
 
     def test_relation_applied_once_leaves_two_arcs_of_one_name(self):
         book = book_at(EXAMPLES / "worked_days" / "Q2.txt")
-        breakfast, snack = book.names.index(b"breakfast"), book.names.index(b"snack")
         first = equivalent_once(book)
-        self.assertEqual(first[(snack,)], first[(snack, snack)])
-        self.assertNotEqual(first[(snack, breakfast)], first[(snack, snack, breakfast)])
+        self.assertEqual(first[("snack",)], first[("snack", "snack")])
+        self.assertNotEqual(first[("snack", "breakfast")], first[("snack", "snack", "breakfast")])
 
     def test_definition_5_9_read_literally_would_join_what_document_002_keeps_apart(self):
         table = table_of("sources/entry_2_2")

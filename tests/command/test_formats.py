@@ -3,9 +3,8 @@ import re
 import unittest
 from pathlib import Path
 
-from books.fields import Refused, prefix_tree, read_book, write_book
-from books.texts import read_text
-from reference import listing_of
+import plans
+from plans.fields import prefix_tree
 
 ROOT = Path(__file__).resolve().parents[2]
 FORMATS = (ROOT / "docs" / "FORMATS.md").read_text()
@@ -23,36 +22,37 @@ def bytes_shown(heading: str) -> bytes:
     return b"".join(bytes.fromhex(line.split("  ")[0]) for line in block_under(heading).splitlines())
 
 
+def book_at(path: Path) -> plans.Book:
+    return plans.read_text(path.read_bytes()).book()
+
+
 def counts(path: Path) -> tuple:
     """States of the prefix tree, states, joins."""
     states, joins = re.match(r"states (\d+) joins (\d+)\n", path.with_suffix(".listing").read_text()).groups()
-    return len(prefix_tree(read_text(path.read_bytes()).rows)), int(states), int(joins)
+    return len(prefix_tree(book_at(path).rows)), int(states), int(joins)
 
 
 class Formats(unittest.TestCase):
     def test_book_table_listing_and_text(self):
         data = bytes_shown("A book")
-        self.assertEqual(listing_of(data), block_under("Its listing"))
-        self.assertEqual(write_book(read_text(block_under("A book as text").encode())), data)
-        names_and_class = data[:data.index(b"\x03\x00\x01\x00")]
-        states = bytes.fromhex("04 00 04 00 00 00 01 04 00 04 01 01 00 02 04 00 04 01 01 00 02")
-        self.assertEqual(bytes_shown("Its table"), names_and_class + states)
+        self.assertEqual(plans.list_book(data), block_under("Its listing"))
+        self.assertEqual(plans.write_book(plans.read_text(block_under("A book as text")).book()), data)
+        self.assertEqual(bytes_shown("Its table"), plans.build(data).table)
 
     def test_refusals(self):
         shown = re.findall(r"^\| (\d+) \| [^|]* \| `([0-9A-F ]+)`", FORMATS, re.MULTILINE)
         self.assertEqual([number for number, _ in shown], ["2", "3", "4", "5", "6", "8", "9", "11", "12"])
         for number, data in shown:
-            # read as a book, a table is refused for its states' mark
-            with self.assertRaises(Refused) as caught:
-                read_book(bytes.fromhex(data))
-            self.assertEqual(caught.exception.number, int(number) if int(number) < 10 else 3)
+            with self.assertRaises(plans.Refused) as caught:
+                (plans.build if int(number) < 10 else plans.rewrite)(bytes.fromhex(data))
+            self.assertEqual(caught.exception.number, int(number))
 
     def test_shipped_books(self):
         shown = re.findall(r"^\| `(\w+)` \| [^|]* \| [^|]* \| (\d+), (\d+), (\d+) \| (\d+), (\d+), (\d+) \|$", FORMATS, re.MULTILINE)
         self.assertEqual([row[0] for row in shown], ["days", "meal", "course"])
         for name, *numbers in shown:
             path = EXAMPLES / "books" / (name + ".txt")
-            book = read_text(path.read_bytes())
+            book = book_at(path)
             found = (len(book.rows), len(set(book.rows)), len(book.names)) + counts(path)
             self.assertEqual(tuple(map(int, numbers)), found, name)
 
@@ -63,7 +63,7 @@ class Sources(unittest.TestCase):
         texts = {path.stem: path for path in (EXAMPLES / "sources").glob("*.txt")}
         self.assertEqual({row[0] for row in shown}, set(texts))
         for name, rows, *numbers in shown:
-            self.assertEqual(int(rows), len(read_text(texts[name].read_bytes()).rows), name)
+            self.assertEqual(int(rows), len(book_at(texts[name]).rows), name)
             self.assertEqual(tuple(map(int, numbers)), counts(texts[name]), name)
 
     def test_listings_shown(self):

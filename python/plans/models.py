@@ -1,0 +1,103 @@
+"""The library's calls with names in place of numbers and bits. A refusal is raised as Refused."""
+import enum
+from dataclasses import dataclass
+from typing import Sequence, Tuple, Union
+
+from . import library
+from .fields import ENTRY_LIMIT, INPUT_LIMIT, NAME, Book, Refused, Row, Table, fields_of, read_table, write_book, write_table
+
+
+class Outcome(enum.Enum):
+    """What a walk comes to, by the numbers of include/plans.h."""
+    ADMITTED = 1
+    ON_THE_WAY = 2
+    STOPS = 3
+
+
+@dataclass(frozen=True)
+class Built:
+    """A table's bytes, how many states it has, and how many joins made it (0 for a rewritten table)."""
+    table: bytes
+    states: int
+    joins: int
+
+
+@dataclass(frozen=True)
+class Walked:
+    """How a walk ended, the longest beginning that can be walked, and the names that may come next."""
+    outcome: Outcome
+    walked: Row
+    next_names: Tuple[str, ...]
+
+
+def _book_bytes(book: Union[Book, bytes]) -> bytes:
+    return write_book(book) if isinstance(book, Book) else bytes(book)
+
+
+def _table_bytes(table: Union[Table, bytes]) -> bytes:
+    return write_table(table) if isinstance(table, Table) else bytes(table)
+
+
+def _written(call: str, data: bytes, room: int) -> Tuple:
+    result, out = library.written_by(call, data, room)
+    if result.refusal:
+        raise Refused(result.refusal)
+    return result, out
+
+
+def build(book: Union[Book, bytes]) -> Built:
+    """The table of a book."""
+    result, table = _written("plans_build", _book_bytes(book), INPUT_LIMIT)
+    return Built(table, result.states, result.joins)
+
+
+def rewrite(table: Union[Table, bytes]) -> Built:
+    """The table judged and written again, to the same bytes."""
+    result, again = _written("plans_rewrite", _table_bytes(table), INPUT_LIMIT)
+    return Built(again, result.states, result.joins)
+
+
+def list_book(book: Union[Book, bytes]) -> str:
+    """The listing of a book's table."""
+    return _written("plans_list", _book_bytes(book), library.LISTING_BYTES)[1].decode("ascii")
+
+
+def list_table(table: Union[Table, bytes]) -> str:
+    """The listing of a table. Its first line has no joins: a table does not say how many there were."""
+    states = read_table(rewrite(table).table).states
+    lines = [f"states {len(states)}"]
+    for number, state in enumerate(states):
+        arcs = [f"{name}>{target}" for name, target in state.arcs]
+        lines.append(" ".join([str(number), "+" if state.accepting else "-", *arcs]))
+    return "".join(line + "\n" for line in lines)
+
+
+def _front_names(table: bytes) -> Sequence[str]:
+    """The names at the front, unjudged: the call judges the table."""
+    names = []
+    try:
+        for _, mark, body in fields_of(table):
+            if mark != NAME:
+                break
+            names.append(body.decode("latin-1"))
+    except Refused:
+        pass
+    return names
+
+
+def walk(table: Union[Table, bytes], day: Sequence[str]) -> Walked:
+    """Walks a day's names over a table from its start. A name that the table does not have stops the walk."""
+    data = _table_bytes(table)
+    names = _front_names(data)
+    numbers = {name: number for number, name in enumerate(names[:256])}
+    known = next((place for place, name in enumerate(day) if name not in numbers), len(day))
+    if len(day) > ENTRY_LIMIT:
+        row = bytes(len(day))  # refused by its length
+    else:
+        row = bytes(numbers[name] for name in day[:known])
+    result = library.walked(data, row)
+    if result.refusal:
+        raise Refused(result.refusal)
+    outcome = Outcome(result.outcome) if known == len(day) else Outcome.STOPS
+    following = tuple(name for number, name in enumerate(names) if result.next_names >> number & 1)
+    return Walked(outcome, tuple(day[:result.walked]), following)
