@@ -134,7 +134,7 @@ def day_of(words: Sequence[str]) -> Row:
     day = () if list(words) == ["-"] else tuple(words)
     for word in day:
         if any(letter.isspace() for letter in word):
-            raise Failure(f"plans: {name_problem(word)}, or give each name as an argument of its own")
+            raise Failure(f"plans: {name_problem(word)}, or give each name by itself")
     if len(day) > ENTRY_LIMIT:
         raise Failure(f"plans: a day of {len(day)} names: at most {ENTRY_LIMIT} are allowed")
     return day
@@ -154,7 +154,7 @@ def answer(day: Row, result: Walked, names: Sequence[str]) -> str:
     if stop in names:
         return said
     near = nearest(stop, names)
-    return f"{said} (the model has no such name{f'; it has {near}' if near else ''})"
+    return f"{said} (the model has no such name{f'; did you mean {near}?' if near else ''})"
 
 
 def walking(asked: Asked) -> int:
@@ -307,8 +307,8 @@ def run(words: Sequence[str]) -> int:
     name, *rest = words
     if name not in SUBCOMMANDS:
         near = nearest(name, SUBCOMMANDS)
-        meant = f"; {near} is near" if near else ""
-        raise Failure(f"plans: there is no sub-command {shown(name)}{meant}; there are {names}")
+        meant = f"; did you mean {near}?" if near else ";"
+        raise Failure(f"plans: there is no sub-command {shown(name)}{meant} there are {names}")
     asked = parsed(name, SUBCOMMANDS[name], rest)
     if asked is None:
         put(helps.SUBCOMMANDS[name].encode("ascii"))

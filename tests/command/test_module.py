@@ -104,12 +104,12 @@ class Layouts(unittest.TestCase):
 
 class Finding(unittest.TestCase):
     def run_with(self, setting: str) -> str:
-        code = "import plans\ntry:\n    plans.rewrite(b'')\nexcept plans.LibraryMissing as problem:\n    print(problem)\nexcept plans.Refused as problem:\n    print(problem.number)"
+        code = "import plans\ntry:\n    plans.rewrite(b'')\nexcept (plans.LibraryMissing, plans.Refused) as problem:\n    print(problem)"
         environment = dict(os.environ, PLANS_LIBRARY=setting, PYTHONPATH=str(ROOT / "python"))
         return subprocess.run([sys.executable, "-B", "-c", code], env=environment, capture_output=True, text=True, check=True).stdout
 
     def test_named_by_the_environment(self):
-        self.assertEqual(self.run_with(str(ROOT / "target" / "lib" / "libplans.so")), "4\n")
+        self.assertEqual(self.run_with(str(ROOT / "target" / "lib" / "libplans.so")), f"refusal 4: {plans.REFUSALS[4]}\n")
 
     def test_missing_or_another_library(self):
         self.assertIn("/none/libplans.so is not this library", self.run_with("/none/libplans.so"))

@@ -72,12 +72,13 @@ class Drawings(unittest.TestCase):
         self.assertEqual({key: part for key, part in nodes.items() if "_" not in key},
                          {"root": [], "t0": ["0", 1, "white"], "t1": ["1", 1, "white"], "t2": one, "t3": two, "t4": one, "t5": two,
                           "start": [], "s0": ["0", 1, "white"], "s1": ["1", 1, "white"], "s2": one, "s3": two})
-        halves = {f"{end}->{key}" for key in words for end in [key.split("_")[0]]} | {f"{key}->{key.split('_')[1]}" for key in words}
-        self.assertEqual(edges, halves | {"root->t0", "start->s0"})
+        halves = [[f"{key.split('_')[0]}->{key}", f"{key}->{key.split('_')[1]}"] for key in words]
+        self.assertEqual(edges, {edge for both in halves for edge in both} | {"root->t0", "start->s0"})
         self.assertEqual(clusters, {"cluster_tree": ["prefix tree: 6 states"], "cluster_table": ["last 1: 4 states, 2 joins"]})
 
     def test_titles(self):
-        for text, title in [("snack\n", "context (2,1): 2 states, 0 joins"), ("class = seen\nsnack\nsnack snack\n", "seen set: 2 states, 1 join"),
+        for text, title in [("snack\n", "context (2,1): 2 states, 0 joins"),
+                            ("class = seen\nsnack\nsnack snack\n", "seen set: 2 states, 1 join"),
                             ("class = last 0\nsnack\n-\n", "last 0: 1 state, 1 join")]:
             built = plans.build(plans.read_text(text).book())
             self.assertIn(f'label="{title}"', drawing(plans.read_table(built.table), built.joins, None))

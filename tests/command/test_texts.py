@@ -66,7 +66,8 @@ class Spreadsheets(unittest.TestCase):
         self.days("\ufefftea\tcake\n".encode("utf-16-be"), "tea cake")
 
     def test_cells(self):
-        for line in ["tea,cake", "tea;cake;;", '"tea","cake"', ",,tea,,cake", "tea\tcake", " tea , cake ", '"tea" "cake"', '"tea";cake;""']:
+        for line in ["tea,cake", "tea;cake;;", '"tea","cake"', ",,tea,,cake", "tea\tcake", " tea , cake ", '"tea" "cake"',
+                     '"tea";cake;""']:
             self.days(line, "tea cake")
         self.days("sep=;\ntea;cake\n", "tea cake")
         self.days("-,,,\ntea,,,\n", "", "tea")
@@ -128,7 +129,8 @@ class Faults(unittest.TestCase):
     def test_other_letters(self):
         allowed = "which the format does not allow yet: ASCII letters, digits, _ : . and - are"
         self.says("Frühstück", (1, f"the name 'Frühstück' holds 'ü', {allowed}; write fruehstueck"))
-        self.says("Fr\u0075\u0308hstu\u0308ck".encode(), (1, f"the name 'Fr\u0075\u0308hstu\u0308ck' holds '\u0308', {allowed}; write fruehstueck"))
+        parts = "Fru\u0308hstu\u0308ck"
+        self.says(parts.encode(), (1, f"the name '{parts}' holds '\u0308', {allowed}; write fruehstueck"))
         self.says("Frühstück".encode("cp1252"), (1, f"the name 'Fr\\xfchst\\xfcck' holds '\\xfc', {allowed}; write fruehstueck"))
         self.says("朝食", (1, f"the name '朝食' holds '朝', {allowed}"))
         self.says("a\x1b[31mb", (1, f"the name 'a\\x1b[31mb' holds '\\x1b', {allowed}; write a_31mb"))
@@ -202,4 +204,5 @@ class Showing(unittest.TestCase):
 
     def test_nearest(self):
         names = ["breakfast", "lunch", "dinner"]
-        self.assertEqual([nearest(word, names) for word in ["lucnh", "Breakfast", "xyz", 100 * "q"]], ["lunch", "breakfast", None, None])
+        found = [nearest(word, names) for word in ["lucnh", "Breakfast", "xyz", 100 * "q"]]
+        self.assertEqual(found, ["lunch", "breakfast", None, None])
