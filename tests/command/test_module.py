@@ -63,6 +63,18 @@ class AgainstTheReference(unittest.TestCase):
         self.assertLessEqual({0, 2, 3, 4, 5, 6, 8, 9, 11, 12}, refused)
 
 
+class Documented(unittest.TestCase):
+    def test_the_example_runs(self):
+        names = {"plans": plans}
+        *lines, last = re.findall(r"^    (.*)$", plans.__doc__, re.M)
+        exec("\n".join(lines), names)
+        self.assertEqual(eval(last, names), plans.Walked(plans.Outcome.ON_THE_WAY, ("breakfast", "lunch"), ("dinner",)))
+
+    def test_all_that_is_offered_says_what_it_is(self):
+        for name in plans.__all__:
+            self.assertTrue(getattr(plans, name).__doc__, name)
+
+
 class Walks(unittest.TestCase):
     def test_unknown_name_stops(self):
         table = plans.build(plans.read_text("lunch\nlunch tea\n").book()).table

@@ -45,6 +45,29 @@ def dot_parts(text: str) -> tuple:
     return nodes, edges, {key: [label] for key, label in clusters}
 
 
+def boxes(path: Path) -> list:
+    """The box that each text takes, in a font whose letters are half as wide as high, a little less than the whole."""
+    found = []
+    for text in xml.etree.ElementTree.parse(path).iter(SPACE + "text"):
+        x, y, size = (float(text.get(key)) for key in ("x", "y", "font-size"))
+        half = 0.23 * size * len(text.text)
+        found.append((x - half, x + half, y - 0.6 * size, y))
+    return found
+
+
+def points(path: Path) -> list:
+    """Points along every line: Graphviz draws cubic curves, each from the end of the one before."""
+    found = []
+    for line in xml.etree.ElementTree.parse(path).iter(SPACE + "path"):
+        given = [complex(*map(float, pair.split(","))) for pair in re.findall(r"-?[\d.]+,-?[\d.]+", line.get("d"))]
+        for start in range(0, len(given) - 3, 3):
+            a, b, c, d = given[start:start + 4]
+            for step in range(21):
+                t = step / 20
+                found.append((1 - t) ** 3 * a + 3 * (1 - t) ** 2 * t * b + 3 * (1 - t) * t * t * c + t ** 3 * d)
+    return found
+
+
 class Drawings(unittest.TestCase):
     def test_images_are_of_the_examples(self):
         texts = sorted((ROOT / "examples" / "classes").glob("*.txt"))
@@ -54,6 +77,13 @@ class Drawings(unittest.TestCase):
         for name in ["course", "days"]:
             text = ROOT / "examples" / "books" / (name + ".txt")
             self.assertEqual(svg_parts(IMAGES / (name + ".svg")), dot_parts(drawn(text, False)), name)
+
+    def test_no_line_goes_through_a_word(self):
+        for path in IMAGES.glob("*.svg"):
+            along = points(path)
+            self.assertGreater(len(along), 100, path)
+            for left, right, top, bottom in boxes(path):
+                self.assertEqual([point for point in along if left < point.real < right and top < point.imag < bottom], [], path)
 
     def test_images_fit_a_page(self):
         """800 pixels are 600 points."""

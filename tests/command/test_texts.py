@@ -2,7 +2,7 @@
 import random
 import unittest
 
-from plans import BadClass, BadText, Book, Class, read_book, read_class, read_text, write_book, write_text
+from plans import BadClass, BadText, Book, Class, build, read_book, read_class, read_text, write_book, write_text
 from plans.showing import nearest, plain, shown, suggested
 from samples import a_sample, book_of, loosened
 
@@ -187,6 +187,25 @@ class Faults(unittest.TestCase):
             with self.assertRaises(BadClass) as caught:
                 read_class(given)
             self.assertEqual(str(caught.exception), reason)
+
+
+class AnyText(unittest.TestCase):
+    def test_what_is_read_is_accepted_and_the_rest_is_told(self):
+        draw = random.Random(3)
+        parts = [b"tea", b"cake", b"-", b" ", b" ", b"\n", b"\n", b",", b";", b"\t", b'"', b"#", b"=", b"class = ", b"names = ", b"seen",
+                 b"2 1", b"\r", b"\xff", b"\xc3\xbc", b"9", b"\xef\xbb\xbf", b"\x1b", b"\x0b", b"\xe2\x80\xa8"]
+        read = 0
+        for _ in range(4000):
+            data = b"".join(draw.choice(parts) for _ in range(draw.randint(0, 12)))
+            try:
+                book = read_text(data).book()
+            except BadText as problem:
+                self.assertTrue(problem.problems, data)
+                continue
+            read += 1
+            build(book)
+            self.assertEqual(read_book(write_book(book)), book, data)
+        self.assertGreater(read, 100)
 
 
 class Showing(unittest.TestCase):
