@@ -62,8 +62,8 @@ def points(path: Path) -> list:
         given = [complex(*map(float, pair.split(","))) for pair in re.findall(r"-?[\d.]+,-?[\d.]+", line.get("d"))]
         for start in range(0, len(given) - 3, 3):
             a, b, c, d = given[start:start + 4]
-            for step in range(21):
-                t = step / 20
+            for step in range(201):
+                t = step / 200
                 found.append((1 - t) ** 3 * a + 3 * (1 - t) ** 2 * t * b + 3 * (1 - t) * t * t * c + t ** 3 * d)
     return found
 
