@@ -134,7 +134,7 @@ def day_of(words: Sequence[str]) -> Row:
     day = () if list(words) == ["-"] else tuple(words)
     for word in day:
         if any(letter.isspace() for letter in word):
-            raise Failure(f"plans: {name_problem(word)}, or give each name as an argument of its own")
+            raise Failure(f"plans: {name_problem(word)}, or give each name by itself")
     if len(day) > ENTRY_LIMIT:
         raise Failure(f"plans: a day of {len(day)} names: at most {ENTRY_LIMIT} are allowed")
     return day
@@ -154,7 +154,7 @@ def answer(day: Row, result: Walked, names: Sequence[str]) -> str:
     if stop in names:
         return said
     near = nearest(stop, names)
-    return f"{said} (the model has no such name{f'; it has {near}' if near else ''})"
+    return f"{said} (the model has no such name{f'; did you mean {near}?' if near else ''})"
 
 
 def walking(asked: Asked) -> int:
@@ -244,29 +244,35 @@ def to_book(asked: Asked) -> int:
 
 
 def picturing(asked: Asked) -> int:
-    form = drawings.form_of(asked.out)
-    model = model_of(asked.words[0], asked)
-    if asked.tree and model.book is None:
-        raise Failure(f"{model.source.label}: this is a table, which has no days; --tree is for texts and books")
-    text = drawings.drawing(model.table, None if model.book is None else model.built.joins, model.book if asked.tree else None)
-    write_output(asked.out, drawings.rendered(text, form), [model.source])
+    try:
+        form = drawings.form_of(asked.out)
+        model = model_of(asked.words[0], asked)
+        if asked.tree and model.book is None:
+            raise Failure(f"{model.source.label}: this is a table, which has no days; --tree is for texts and books")
+        joins = None if model.book is None else model.built.joins
+        text = drawings.drawing(model.table, joins, model.book if asked.tree else None)
+        write_output(asked.out, drawings.rendered(text, form), [model.source])
+    except drawings.NotDrawn as problem:
+        raise Failure(f"plans picture: {problem}") from None
     return YES
 
 
 class Subcommand(NamedTuple):
-    """What does it, which options it has, and how many words it takes, at least and at most."""
+    """What does it, which options it has besides -q, and how many files it takes; walk takes one, and names."""
     run: Callable[[Asked], int]
-    options: str
-    least: int
-    most: int
+    options: Tuple[str, ...]
+    files: str
 
 
-MANY = 1 << 20
 SUBCOMMANDS: Dict[str, Subcommand] = {
-    "list": Subcommand(listing, "class o q", 1, 1), "build": Subcommand(building, "class o q", 1, 1),
-    "walk": Subcommand(walking, "class q", 1, MANY), "check": Subcommand(checking, "q", 1, MANY),
-    "diff": Subcommand(differing, "q", 2, 2), "text": Subcommand(to_text, "o q", 1, 1),
-    "book": Subcommand(to_book, "class o q", 1, 1), "picture": Subcommand(picturing, "tree class o q", 1, 1),
+    "list": Subcommand(listing, ("--class", "-o"), "one file"),
+    "build": Subcommand(building, ("--class", "-o"), "one file"),
+    "walk": Subcommand(walking, ("--class",), "a file and names"),
+    "check": Subcommand(checking, (), "one file or more"),
+    "diff": Subcommand(differing, (), "two files"),
+    "text": Subcommand(to_text, ("-o",), "one file"),
+    "book": Subcommand(to_book, ("--class", "-o"), "one file"),
+    "picture": Subcommand(picturing, ("--tree", "--class", "-o"), "one file"),
 }
 
 
@@ -274,29 +280,30 @@ def usage(name: str, reason: str) -> Failure:
     return Failure(f"plans {name}: {plain(cut(reason, 120))} ('plans {name} --help' shows how)")
 
 
-def parsed(name: str, subcommand: Subcommand, words: Sequence[str]) -> Optional[Asked]:
-    """What is asked; None where help is."""
-    known = subcommand.options.split()
-    try:
-        given, rest = getopt.gnu_getopt(list(words), "o:qh", ["class=", "tree", "help", "quiet"])
-    except getopt.GetoptError as problem:
-        raise usage(name, str(problem)) from None
-    options = {option.lstrip("-"): value for option, value in given}
-    if "h" in options or "help" in options:
-        return None
-    for option in options:
-        if option != "quiet" and option not in known:
-            raise usage(name, f"there is no option {'-' if option == 'o' else '--'}{option} here")
-    if not subcommand.least <= len(rest) <= subcommand.most:
-        wanted = "at least one file" if subcommand.most == MANY else "one file" if subcommand.most == 1 else "two files"
-        raise usage(name, f"{wanted} must be given, not {len(rest)}")
-    if subcommand.most != 1 and subcommand.run is not walking and rest.count("-") > 1:
+def judge_words(name: str, words: Sequence[str]) -> None:
+    files = SUBCOMMANDS[name].files
+    enough = {"one file": len(words) == 1, "two files": len(words) == 2}.get(files, len(words) > 0)
+    if not enough:
+        raise usage(name, f"{files} must be given, not {len(words)}")
+    if files in ("two files", "one file or more") and words.count("-") > 1:
         raise usage(name, "standard input can be read once")
+
+
+def parsed(name: str, words: Sequence[str]) -> Optional[Asked]:
+    """What is asked; None where help is."""
     try:
-        named_class = read_class(options["class"]) if "class" in options else None
-    except BadClass as problem:
+        given, rest = getopt.gnu_getopt(list(words), "o:qh", ["class=", "tree", "help"])
+        options = dict(given)
+        if "-h" in options or "--help" in options:
+            return None
+        strange = [option for option in options if option not in ("-q", *SUBCOMMANDS[name].options)]
+        if strange:
+            raise usage(name, f"there is no option {strange[0]} here")
+        judge_words(name, rest)
+        named_class = read_class(options["--class"]) if "--class" in options else None
+    except (getopt.GetoptError, BadClass) as problem:
         raise usage(name, str(problem)) from None
-    return Asked(tuple(rest), options.get("o"), named_class, "q" in options or "quiet" in options, "tree" in options)
+    return Asked(tuple(rest), options.get("-o"), named_class, "-q" in options, "--tree" in options)
 
 
 def run(words: Sequence[str]) -> int:
@@ -307,9 +314,9 @@ def run(words: Sequence[str]) -> int:
     name, *rest = words
     if name not in SUBCOMMANDS:
         near = nearest(name, SUBCOMMANDS)
-        meant = f"; {near} is near" if near else ""
-        raise Failure(f"plans: there is no sub-command {shown(name)}{meant}; there are {names}")
-    asked = parsed(name, SUBCOMMANDS[name], rest)
+        meant = f"; did you mean {near}?" if near else ";"
+        raise Failure(f"plans: there is no sub-command {shown(name)}{meant} there are {names}")
+    asked = parsed(name, rest)
     if asked is None:
         put(helps.SUBCOMMANDS[name].encode("ascii"))
         return YES

@@ -8,7 +8,6 @@ from collections import Counter
 from typing import Dict, List, Optional, Sequence
 
 from .fields import Book, Table, prefix_tree
-from .files import Failure
 from .showing import counted
 
 FORMS = ("svg", "png", "pdf", "dot")
@@ -20,11 +19,15 @@ ATTRIBUTES = [
 WORDS = "shape=none, fontsize=11, style=solid, fixedsize=false, width=0, height=0, margin=0.03"
 
 
+class NotDrawn(Exception):
+    """Why there is no drawing."""
+
+
 def form_of(out: Optional[str]) -> str:
     """The form that the output's ending names; standard output gets svg."""
     form = "svg" if out in (None, "-") else os.path.splitext(out)[1][1:].lower()
     if form not in FORMS:
-        raise Failure("plans picture: the output's name must end in .svg, .png, .pdf or .dot")
+        raise NotDrawn("the output's name must end in .svg, .png, .pdf or .dot")
     return form
 
 
@@ -112,9 +115,9 @@ def rendered(text: str, form: str) -> bytes:
     if form == "dot":
         return text.encode("ascii")
     if shutil.which("dot") is None:
-        raise Failure("plans picture: the command 'dot' is missing: it is in Debian's package graphviz")
+        raise NotDrawn("the command 'dot' is missing: it is in Debian's package graphviz")
     done = subprocess.run(["dot", f"-T{form}"], input=text.encode("ascii"), stdout=subprocess.PIPE, stderr=subprocess.DEVNULL,
                           check=False)
     if done.returncode != 0:
-        raise Failure(f"plans picture: 'dot' ended with status {done.returncode}")
+        raise NotDrawn(f"'dot' ended with status {done.returncode}")
     return done.stdout

@@ -58,6 +58,7 @@ def read_class(text: str) -> Class:
 
 
 def write_class(named_class: Class) -> str:
+    """The class as a text names it, such as `2 1`."""
     if named_class.kind == CONTEXT:
         return f"{named_class.one} {named_class.two}"
     return "seen" if named_class.kind == SEEN else f"last {named_class.one}"

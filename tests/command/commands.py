@@ -30,7 +30,8 @@ class InFolder(unittest.TestCase):
         settings = {"stdin": subprocess.DEVNULL, **settings} if "input" not in settings else settings
         environment = {**os.environ, **settings.pop("env", {})}
         settings = {"stdout": subprocess.PIPE, "stderr": subprocess.PIPE, **settings}
-        return subprocess.run([sys.executable, "-B", PLANS, *words], cwd=self.folder, check=False, env=environment, timeout=30, **settings)
+        command = [sys.executable, "-B", PLANS, *words]
+        return subprocess.run(command, cwd=self.folder, check=False, env=environment, timeout=60, **settings)
 
     def answers(self, status: int, out: str, *words: str, said: str = "", **settings):
         """The exit status, and what is printed on standard output and on standard error."""

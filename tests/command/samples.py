@@ -1,4 +1,4 @@
-"""Random books and texts for the tests, from a generator that the test seeds; and the module's books as the reference takes them."""
+"""Random books and texts for the tests, from a generator that the test seeds; and books as the reference takes them."""
 import random
 
 from plans import Book, Class
@@ -70,16 +70,21 @@ def damaged(draw: random.Random, data: bytes) -> bytes:
     return bytes(data)
 
 
+def another_way(draw: random.Random, line: str) -> str:
+    """The same day, its names parted in another way."""
+    parting = draw.choice([" ", "  ", "\t", ",", ";", ", ", " \t", ";;", "quoted"])
+    if parting == "quoted":
+        return ",".join(f'"{name}"' for name in line.split())
+    ends = ["", " ", " # breakfast", "#"] + ([",,,"] if parting.strip(" ") else [])
+    return draw.choice(["", " "]) + line.replace(" ", parting) + draw.choice(ends)
+
+
 def loosened(draw: random.Random, text: str) -> str:
-    """The text with comments, blank lines and blanks put in, and other marks between names, where they change nothing."""
+    """The text with comments and blank lines put in, and days written in other ways, where that changes nothing."""
     lines = []
     for line in text.split("\n")[:-1]:
         if draw.random() < 0.3:
             lines.append(draw.choice(["# a comment", "  \t# class = seen", "#", "", "  ", ",,,", ";\t;"]))
-        if "=" not in line:
-            line = line.replace(" ", draw.choice([" ", "  ", "\t", ",", ";", ", ", " \t", ";;", '","']))
-            line = f'"{line}"' if '","' in line else draw.choice(["", " "]) + line + draw.choice(["", " ", ",,,", " # breakfast", "#"])
-            line = line if " " not in line.split("#")[0].strip() or not line.endswith(",,,") else line[:-3]
-        lines.append(line)
+        lines.append(line if "=" in line else another_way(draw, line))
     end = draw.choice(["\n", "\r\n", "\r"])
     return draw.choice(["", "\ufeff"]) + end.join(lines) + draw.choice([end, end + "# end", ""])

@@ -50,7 +50,7 @@ class Good(InFolder):
         self.answers(1, "not allowed: it goes as far as lunch tea; then lunch may not come\nnext: cake\n",
                      "walk", "-", "lunch", "tea", "lunch", input=TABLE)
         self.answers(1, "not allowed: a day may not begin with tea\nnext: lunch\n", "walk", "days.table", "tea")
-        self.answers(1, "not allowed: a day may not begin with lucnh (the model has no such name; it has lunch)\nnext: lunch\n",
+        self.answers(1, "not allowed: a day may not begin with lucnh (the model has no such name; did you mean lunch?)\nnext: lunch\n",
                      "walk", "days.table", "lucnh")
         self.answers(1, "on the way: a day may not end here\nnext: tea\n", "walk", "-q", "-", "lunch", input=b"lunch tea\n")
 
@@ -184,7 +184,8 @@ class Bad(InFolder):
         self.of_each("rubbish: this is neither a text nor fields, which begin with the byte 01; .* is wanted", "rubbish")
         self.answers(1, f"rubbish: refused: offset 0: refusal 2: {plans.REFUSALS[2]}\n", "check", "rubbish")
         self.put("book.xlsx", b"PK\x03\x04" + rubbish)
-        self.of_each("book.xlsx: this is an archive, such as a spreadsheet's own file: save it as CSV or as text; .* is wanted", "book.xlsx")
+        self.of_each("book.xlsx: this is an archive, such as a spreadsheet's own file: save it as CSV or as text; .* is wanted",
+                     "book.xlsx")
 
     def test_wrong_kind(self):
         self.fails("days.table: this is a table; a text or a book is wanted", "build", "days.table")
@@ -193,7 +194,8 @@ class Bad(InFolder):
         self.fails("days.table: this is a table; a text is wanted", "book", "days.table")
         self.fails("days.book: this is a book; a text is wanted", "book", "days.book")
         self.fails("days.table: this is a table, which has no days; --tree is for texts and books", "picture", "--tree", "days.table")
-        self.fails("days.table: this is a table, which has its class; --class is for texts and books", "list", "days.table", "--class", "seen")
+        self.fails("days.table: this is a table, which has its class; --class is for texts and books",
+                   "list", "days.table", "--class", "seen")
 
     def test_empty_file(self):
         self.put("empty", b"")
@@ -237,7 +239,7 @@ class Bad(InFolder):
 
     def test_strange_file_names(self):
         ran = self.folder / "ran"
-        for name in ["it's", 'a"b', "$(touch ran)", "`touch ran`", "a;touch ran", "a b", "ü", "-x", "line\nline", "tab\t", "bell\a", "*"]:
+        for name in ["it's", 'a"b', "$(touch ran)", "`touch ran`", "a;touch ran", "a b", "ü", "-x", "line\nline", "bell\a", "*"]:
             self.put(name, TABLE)
             self.assertEqual(self.plans("walk", "--", name, "lunch").stdout, b"allowed\nnext: tea\n", name)
             done = self.plans("build", "-q", "days.txt", "-o" + name)
@@ -251,7 +253,7 @@ class Bad(InFolder):
         self.assertEqual(self.plans("list", 5000 * "x").stderr.decode(), f"plans: {200 * 'x'}...: File name too long\n")
 
     def test_words_that_are_no_names(self):
-        self.fails("plans: the name 'lunch tea' holds a space, and no name may; write lunch_tea, or give each name as an argument of its own",
+        self.fails("plans: the name 'lunch tea' holds a space, and no name may; write lunch_tea, or give each name by itself",
                    "walk", "days.table", "lunch tea")
         self.fails("plans: a day of 65 names: at most 64 are allowed", "walk", "days.table", *65 * ["lunch"])
         self.answers(1, "not allowed: a day may not begin with a\\x1b[1m (the model has no such name)\nnext: lunch\n",
@@ -262,7 +264,7 @@ class Bad(InFolder):
     def test_usage(self):
         subs = "list, build, walk, check, diff, text, book, picture"
         self.fails(f"plans: say what to do: {subs} ('plans --help' shows how)")
-        self.fails(f"plans: there is no sub-command 'wlak'; walk is near; there are {subs}", "wlak")
+        self.fails(f"plans: there is no sub-command 'wlak'; did you mean walk? there are {subs}", "wlak")
         self.fails(f"plans: there is no sub-command '\\x1b'; there are {subs}", "\x1b")
         for name in COMMANDS:
             done = self.plans(name)
@@ -271,7 +273,8 @@ class Bad(InFolder):
         self.fails("plans list: option --colour not recognized ('plans list --help' shows how)", "list", "--colour", "days.txt")
         self.fails("plans diff: there is no option -o here ('plans diff --help' shows how)", "diff", "-o", "x", "a", "b")
         self.fails("plans walk: there is no option --tree here ('plans walk --help' shows how)", "walk", "--tree", "a", "b")
-        self.fails("plans build: k is '9': it must be a number from 1 to 8 ('plans build --help' shows how)", "build", "days.txt", "--class", "9 9")
+        self.fails("plans build: k is '9': it must be a number from 1 to 8 ('plans build --help' shows how)",
+                   "build", "days.txt", "--class", "9 9")
         self.fails("plans list: one file must be given, not 2 ('plans list --help' shows how)", "list", "a", "b")
         self.fails("plans diff: standard input can be read once ('plans diff --help' shows how)", "diff", "-", "-")
         self.fails("plans picture: the output's name must end in .svg, .png, .pdf or .dot", "picture", "days.txt", "-o", "days.gif")
@@ -294,14 +297,16 @@ class Writing(InFolder):
         for out in ["days.txt", "./days.txt", "link", "hard", str(self.folder / "days.txt")]:
             self.fails(f"plans: {out}: this is also the input; give the output another name", "build", "-q", "days.txt", "-o", out)
         with open(self.folder / "days.txt", "rb") as file:
-            self.fails("plans: days.txt: this is also the input; give the output another name", "book", "-q", "-", "-o", "days.txt", stdin=file)
+            self.fails("plans: days.txt: this is also the input; give the output another name",
+                       "book", "-q", "-", "-o", "days.txt", stdin=file)
         self.fails("plans: days.book: this is also the input; give the output another name", "text", "days.book", "-o", "days.book")
         self.assertEqual((self.folder / "days.txt").read_text(), TEXT)
 
     def test_nothing_is_left_of_a_failure(self):
         self.put("old.table", b"old")
         self.put("bad.txt", "9am\n")
-        self.fails("bad.txt:1: the name '9am' must begin with an ASCII letter, _ or :; write _9am", "build", "bad.txt", "-o", "old.table")
+        self.fails("bad.txt:1: the name '9am' must begin with an ASCII letter, _ or :; write _9am",
+                   "build", "bad.txt", "-o", "old.table")
         self.assertEqual((self.folder / "old.table").read_bytes(), b"old")
 
     def test_a_file_is_replaced_whole(self):
@@ -318,7 +323,8 @@ class Writing(InFolder):
 
     def test_full_device(self):
         for words in [["list", "-q", "days.txt"], ["build", "days.book"], ["walk", "-q", "days.txt", "lunch"], ["check", "days.book"],
-                      ["diff", "-q", "days.txt", "days.book"], ["text", "days.book"], ["book", "-q", "days.txt"], ["--help"], ["--version"]]:
+                      ["diff", "-q", "days.txt", "days.book"], ["text", "days.book"], ["book", "-q", "days.txt"], ["--help"],
+                      ["--version"]]:
             with open("/dev/full", "wb") as full:
                 done = self.plans(*words, stdout=full)
             self.assertEqual((done.returncode, done.stderr), (2, b"plans: standard output: No space left on device\n"), words)
@@ -342,7 +348,8 @@ class Writing(InFolder):
                 done = self.plans(*words, stdout=pipe)
             self.assertEqual((done.returncode, done.stderr), (2, b""), words)
         for closed in ["<&-", ">&-", "2>&-", "<&- >&- 2>&-"]:
-            done = subprocess.run(["sh", "-c", f"'{PLANS}' list -q days.txt {closed}"], cwd=self.folder, capture_output=True, check=False)
+            command = f"'{PLANS}' list -q days.txt {closed}"
+            done = subprocess.run(["sh", "-c", command], cwd=self.folder, capture_output=True, check=False)
             self.assertNotIn(b"Traceback", done.stderr)
             self.assertEqual(done.returncode, 0 if closed in ("<&-", "2>&-") else 2, closed)
 

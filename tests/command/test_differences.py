@@ -50,15 +50,16 @@ class Parting(unittest.TestCase):
             self.assertEqual(len(found.day), len(expected), (one, two))
         if found.day is not None:
             self.assertEqual((allows(one, found.day), allows(two, found.day)), (found.first_allows, not found.first_allows))
-        self.assertEqual((set(found.only_first), set(found.only_second)), (set(one.names) - set(two.names), set(two.names) - set(one.names)))
+        self.assertEqual(set(found.only_first), set(one.names) - set(two.names))
+        self.assertEqual(set(found.only_second), set(two.names) - set(one.names))
         return expected is not None
 
     def test_all_rows_up_to_six_names(self):
         draw = random.Random(6)
         parted = 0
         for _ in range(400):
-            names = draw.choice([(("a", "b"), ("a", "b")), (("a", "b", "c"), ("a", "b", "c")), (("a", "c"), ("a", "b")), (("a",), ("b",))])
-            one, two = a_table(draw, names[0]), a_table(draw, names[1])
+            ours, theirs = draw.choice([("ab", "ab"), ("abc", "abc"), ("ac", "ab"), ("a", "b")])
+            one, two = a_table(draw, tuple(ours)), a_table(draw, tuple(theirs))
             self.assertEqual(read_table(write_table(one)), one)
             parted += self.compared(one, two)
         self.assertTrue(100 < parted < 400)

@@ -74,7 +74,8 @@ class Examples(InFolder):
     def in_terminal(self, command: str) -> tuple:
         """What a terminal shows, and the exit status."""
         ours, theirs = pty.openpty()
-        with subprocess.Popen(["bash", "-c", command], cwd=self.folder, env=self.environment, stdin=theirs, stdout=theirs, stderr=theirs) as process:
+        with subprocess.Popen(["bash", "-c", command], cwd=self.folder, env=self.environment, stdin=theirs, stdout=theirs,
+                              stderr=theirs) as process:
             os.close(theirs)
             shown = b""
             try:
@@ -105,5 +106,6 @@ class ManPage(unittest.TestCase):
 
     def test_formatted_without_a_warning(self):
         if shutil.which("groff"):
-            done = subprocess.run(["groff", "-man", "-ww", "-z", str(ROOT / "docs" / "plans.1")], capture_output=True, text=True, check=False)
+            command = ["groff", "-man", "-ww", "-z", str(ROOT / "docs" / "plans.1")]
+            done = subprocess.run(command, capture_output=True, text=True, check=False)
             self.assertEqual((done.returncode, done.stderr), (0, ""))

@@ -127,6 +127,7 @@ class Books(Judged):
 class ThereAndBack(unittest.TestCase):
     def test_table(self):
         table = read_table(FRONT + START + END)
-        self.assertEqual(table, plans.Table(("lunch", "snack"), plans.Class(1), (plans.State(False, (("lunch", 1),)), plans.State(True, ()))))
+        states = plans.State(False, (("lunch", 1),)), plans.State(True, ())
+        self.assertEqual(table, plans.Table(("lunch", "snack"), plans.Class(1), states))
         self.assertEqual(plans.write_table(table), FRONT + START + END)
         self.assertEqual(plans.rewrite(table), plans.Built(FRONT + START + END, 2, 0))

@@ -63,6 +63,18 @@ class AgainstTheReference(unittest.TestCase):
         self.assertLessEqual({0, 2, 3, 4, 5, 6, 8, 9, 11, 12}, refused)
 
 
+class Documented(unittest.TestCase):
+    def test_the_example_runs(self):
+        names = {"plans": plans}
+        *lines, last = re.findall(r"^    (.*)$", plans.__doc__, re.M)
+        exec("\n".join(lines), names)
+        self.assertEqual(eval(last, names), plans.Walked(plans.Outcome.ON_THE_WAY, ("breakfast", "lunch"), ("dinner",)))
+
+    def test_all_that_is_offered_says_what_it_is(self):
+        for name in plans.__all__:
+            self.assertTrue(getattr(plans, name).__doc__, name)
+
+
 class Walks(unittest.TestCase):
     def test_unknown_name_stops(self):
         table = plans.build(plans.read_text("lunch\nlunch tea\n").book()).table
@@ -104,12 +116,12 @@ class Layouts(unittest.TestCase):
 
 class Finding(unittest.TestCase):
     def run_with(self, setting: str) -> str:
-        code = "import plans\ntry:\n    plans.rewrite(b'')\nexcept plans.LibraryMissing as problem:\n    print(problem)\nexcept plans.Refused as problem:\n    print(problem.number)"
+        code = "import plans\ntry:\n    plans.rewrite(b'')\nexcept (plans.LibraryMissing, plans.Refused) as problem:\n    print(problem)"
         environment = dict(os.environ, PLANS_LIBRARY=setting, PYTHONPATH=str(ROOT / "python"))
         return subprocess.run([sys.executable, "-B", "-c", code], env=environment, capture_output=True, text=True, check=True).stdout
 
     def test_named_by_the_environment(self):
-        self.assertEqual(self.run_with(str(ROOT / "target" / "lib" / "libplans.so")), "4\n")
+        self.assertEqual(self.run_with(str(ROOT / "target" / "lib" / "libplans.so")), f"refusal 4: {plans.REFUSALS[4]}\n")
 
     def test_missing_or_another_library(self):
         self.assertIn("/none/libplans.so is not this library", self.run_with("/none/libplans.so"))

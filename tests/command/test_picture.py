@@ -45,6 +45,29 @@ def dot_parts(text: str) -> tuple:
     return nodes, edges, {key: [label] for key, label in clusters}
 
 
+def boxes(path: Path) -> list:
+    """The box that each text takes, in a font whose letters are half as wide as high, a little less than the whole."""
+    found = []
+    for text in xml.etree.ElementTree.parse(path).iter(SPACE + "text"):
+        x, y, size = (float(text.get(key)) for key in ("x", "y", "font-size"))
+        half = 0.23 * size * len(text.text)
+        found.append((x - half, x + half, y - 0.6 * size, y))
+    return found
+
+
+def points(path: Path) -> list:
+    """Points along every line: Graphviz draws cubic curves, each from the end of the one before."""
+    found = []
+    for line in xml.etree.ElementTree.parse(path).iter(SPACE + "path"):
+        given = [complex(*map(float, pair.split(","))) for pair in re.findall(r"-?[\d.]+,-?[\d.]+", line.get("d"))]
+        for start in range(0, len(given) - 3, 3):
+            a, b, c, d = given[start:start + 4]
+            for step in range(201):
+                t = step / 200
+                found.append((1 - t) ** 3 * a + 3 * (1 - t) ** 2 * t * b + 3 * (1 - t) * t * t * c + t ** 3 * d)
+    return found
+
+
 class Drawings(unittest.TestCase):
     def test_images_are_of_the_examples(self):
         texts = sorted((ROOT / "examples" / "classes").glob("*.txt"))
@@ -54,6 +77,13 @@ class Drawings(unittest.TestCase):
         for name in ["course", "days"]:
             text = ROOT / "examples" / "books" / (name + ".txt")
             self.assertEqual(svg_parts(IMAGES / (name + ".svg")), dot_parts(drawn(text, False)), name)
+
+    def test_no_line_goes_through_a_word(self):
+        for path in IMAGES.glob("*.svg"):
+            along = points(path)
+            self.assertGreater(len(along), 100, path)
+            for left, right, top, bottom in boxes(path):
+                self.assertEqual([point for point in along if left < point.real < right and top < point.imag < bottom], [], path)
 
     def test_images_fit_a_page(self):
         """800 pixels are 600 points."""
@@ -72,12 +102,13 @@ class Drawings(unittest.TestCase):
         self.assertEqual({key: part for key, part in nodes.items() if "_" not in key},
                          {"root": [], "t0": ["0", 1, "white"], "t1": ["1", 1, "white"], "t2": one, "t3": two, "t4": one, "t5": two,
                           "start": [], "s0": ["0", 1, "white"], "s1": ["1", 1, "white"], "s2": one, "s3": two})
-        halves = {f"{end}->{key}" for key in words for end in [key.split("_")[0]]} | {f"{key}->{key.split('_')[1]}" for key in words}
-        self.assertEqual(edges, halves | {"root->t0", "start->s0"})
+        halves = [[f"{key.split('_')[0]}->{key}", f"{key}->{key.split('_')[1]}"] for key in words]
+        self.assertEqual(edges, {edge for both in halves for edge in both} | {"root->t0", "start->s0"})
         self.assertEqual(clusters, {"cluster_tree": ["prefix tree: 6 states"], "cluster_table": ["last 1: 4 states, 2 joins"]})
 
     def test_titles(self):
-        for text, title in [("snack\n", "context (2,1): 2 states, 0 joins"), ("class = seen\nsnack\nsnack snack\n", "seen set: 2 states, 1 join"),
+        for text, title in [("snack\n", "context (2,1): 2 states, 0 joins"),
+                            ("class = seen\nsnack\nsnack snack\n", "seen set: 2 states, 1 join"),
                             ("class = last 0\nsnack\n-\n", "last 0: 1 state, 1 join")]:
             built = plans.build(plans.read_text(text).book())
             self.assertIn(f'label="{title}"', drawing(plans.read_table(built.table), built.joins, None))

@@ -2,7 +2,7 @@
 import random
 import unittest
 
-from plans import BadClass, BadText, Book, Class, read_book, read_class, read_text, write_book, write_text
+from plans import BadClass, BadText, Book, Class, build, read_book, read_class, read_text, write_book, write_text
 from plans.showing import nearest, plain, shown, suggested
 from samples import a_sample, book_of, loosened
 
@@ -66,7 +66,8 @@ class Spreadsheets(unittest.TestCase):
         self.days("\ufefftea\tcake\n".encode("utf-16-be"), "tea cake")
 
     def test_cells(self):
-        for line in ["tea,cake", "tea;cake;;", '"tea","cake"', ",,tea,,cake", "tea\tcake", " tea , cake ", '"tea" "cake"', '"tea";cake;""']:
+        for line in ["tea,cake", "tea;cake;;", '"tea","cake"', ",,tea,,cake", "tea\tcake", " tea , cake ", '"tea" "cake"',
+                     '"tea";cake;""']:
             self.days(line, "tea cake")
         self.days("sep=;\ntea;cake\n", "tea cake")
         self.days("-,,,\ntea,,,\n", "", "tea")
@@ -128,7 +129,8 @@ class Faults(unittest.TestCase):
     def test_other_letters(self):
         allowed = "which the format does not allow yet: ASCII letters, digits, _ : . and - are"
         self.says("Frühstück", (1, f"the name 'Frühstück' holds 'ü', {allowed}; write fruehstueck"))
-        self.says("Fr\u0075\u0308hstu\u0308ck".encode(), (1, f"the name 'Fr\u0075\u0308hstu\u0308ck' holds '\u0308', {allowed}; write fruehstueck"))
+        parts = "Fru\u0308hstu\u0308ck"
+        self.says(parts.encode(), (1, f"the name '{parts}' holds '\u0308', {allowed}; write fruehstueck"))
         self.says("Frühstück".encode("cp1252"), (1, f"the name 'Fr\\xfchst\\xfcck' holds '\\xfc', {allowed}; write fruehstueck"))
         self.says("朝食", (1, f"the name '朝食' holds '朝', {allowed}"))
         self.says("a\x1b[31mb", (1, f"the name 'a\\x1b[31mb' holds '\\x1b', {allowed}; write a_31mb"))
@@ -187,6 +189,25 @@ class Faults(unittest.TestCase):
             self.assertEqual(str(caught.exception), reason)
 
 
+class AnyText(unittest.TestCase):
+    def test_what_is_read_is_accepted_and_the_rest_is_told(self):
+        draw = random.Random(3)
+        parts = [b"tea", b"cake", b"-", b" ", b" ", b"\n", b"\n", b",", b";", b"\t", b'"', b"#", b"=", b"class = ", b"names = ", b"seen",
+                 b"2 1", b"\r", b"\xff", b"\xc3\xbc", b"9", b"\xef\xbb\xbf", b"\x1b", b"\x0b", b"\xe2\x80\xa8"]
+        read = 0
+        for _ in range(4000):
+            data = b"".join(draw.choice(parts) for _ in range(draw.randint(0, 12)))
+            try:
+                book = read_text(data).book()
+            except BadText as problem:
+                self.assertTrue(problem.problems, data)
+                continue
+            read += 1
+            build(book)
+            self.assertEqual(read_book(write_book(book)), book, data)
+        self.assertGreater(read, 100)
+
+
 class Showing(unittest.TestCase):
     def test_shown(self):
         self.assertEqual(plain("a\n\x1b[0m\udcffé\u2028"), "a\\x0a\\x1b[0m\\xffé\\u2028")
@@ -202,4 +223,5 @@ class Showing(unittest.TestCase):
 
     def test_nearest(self):
         names = ["breakfast", "lunch", "dinner"]
-        self.assertEqual([nearest(word, names) for word in ["lucnh", "Breakfast", "xyz", 100 * "q"]], ["lunch", "breakfast", None, None])
+        found = [nearest(word, names) for word in ["lucnh", "Breakfast", "xyz", 100 * "q"]]
+        self.assertEqual(found, ["lunch", "breakfast", None, None])
