@@ -1,16 +1,16 @@
--- How a walk over an accepted table ends: the state reached, by the field at the offset that the working area keeps for it; its arcs
--- are at most 64, and the set of their names has as many bits. Assumes nothing.
+-- How a walk over an accepted table ends: the state reached, by the field at the offset that the working area keeps for it; the set
+-- of its arcs' names has as many bits as it has arcs. Assumes nothing.
 use mathlib.Core.Path.{_≡_, sym, ap, _∙_, subst}
 use mathlib.Core.Bool.{Bool, cond}
-use mathlib.Core.List.{List, [], _∷_}
-use Prim.Native.Nat.{ℕ, suc, _+_, _≤_}
+use mathlib.Core.List.{List}
+use Prim.Native.Nat.{ℕ}
 use native.Mathlib.Omega.{arith}
 use lib.Dec.{ltb}
 use lib.Count.{ones}
 use lib.ListN.{length, getD}
 use lib.Seq.{length-take-le}
 use Rattle.model.specs.Tables as model
-use Rattle.model.specs.Tables.{Arc, State, no-state, stateIn, nameSet, walk, reachedState, outcome, Ascending}
+use Rattle.model.specs.Tables.{State, no-state, stateIn, nameSet, walk, reachedState, outcome}
 use Rattle.model.specs.Tables.{longestBeginning, nextNames, nextCount}
 use Rattle.model.specs.Calls.{tableStates}
 use Rattle.judging.specs.Offsets.{bodyAt}
@@ -18,14 +18,9 @@ use Rattle.base.specs.Cells.{cellAt}
 use Rattle.tables.specs.Accepting.{StateField, Ready}
 use Rattle.tables.specs.Walking.{WalkedAs}
 use Rattle.tables.specs.declared.Walk.{Walk}
-use Rattle.tables.proofs.ArcLaws.{NamesBelow, state-ascends}
+use Rattle.tables.proofs.ArcLaws.{state-ascends}
 use Rattle.model.proofs.NameSets.{ones-nameSet}
 use Rattle.results.specs.Says.{walked-as, walked-over}
-
--- ascending names below n are at most n
-few-names : (next n : ℕ) (arcs : List Arc) → next ≤ n → Ascending next arcs → NamesBelow n arcs → next + length arcs ≤ n
-few-names next n [] h up low = omega arith
-few-names next n (a ∷ arcs) h up low = omega (arith, few-names (suc (a .name)) n arcs (low .0) (up .1) (low .1), up .0)
 
 module _ (s work row : List ℕ) (w : Walk) (ready : Ready s work) (walked : WalkedAs (tableStates s) row w) where
   -- the field of the state reached
@@ -39,21 +34,9 @@ module _ (s work row : List ℕ) (w : Walk) (ready : Ready s work) (walked : Wal
       ∙ ready .means (w .state) (walked .in-table)
       ∙ ap (λ (v : model.Walk). getD (tableStates s) (v .at-state) no-state) (walked .is)
 
-  -- how many next names: the number of bits of their set, at most 64
+  -- how many next names: the number of bits of their set
   bits-are : (at : ℕ) → StateField s at → ones (nameSet (stateIn (bodyAt s at) .arcs)) ≡ length (stateIn (bodyAt s at) .arcs)
   bits-are at f = ones-nameSet 0 (stateIn (bodyAt s at) .arcs) (state-ascends (bodyAt s at) (f .ok) .0)
-
-  pub bits-few :
-      (at names : ℕ) → at ≡ cellAt work (w .state) 0 → names ≡ nameSet (stateIn (bodyAt s at) .arcs) → ones names ≤ 64
-  bits-few at names e is =
-      let f = field-reached at e in
-      let up = state-ascends (bodyAt s at) (f .ok) in
-      omega (
-        arith,
-        ap ones is,
-        bits-are at f,
-        few-names 0 64 (stateIn (bodyAt s at) .arcs) (omega arith) (up .0) (up .1),
-      )
 
   pub ends-over :
       (at names result count taken : ℕ) (accepting : Bool) → at ≡ cellAt work (w .state) 0 →
