@@ -43,8 +43,10 @@ def notes(source: Input, text: Text, copies: bool) -> List[str]:
     names = text.names()
     different = len(set(text.days))
     lines = [f"{source.label}: {counted(len(text.days), 'day')}, {different:,} of them different; {counted(len(names), 'name')}:"]
-    words = ", ".join(f"{name} {names[name]:,}" for name in sorted(names, key=lambda name: (name.lower(), name)))
-    lines += textwrap.wrap(words, 80, initial_indent="  ", subsequent_indent="  ", break_long_words=False, break_on_hyphens=False)
+    # a hard space keeps a name and its count in one line
+    words = ", ".join(f"{name}\xa0{names[name]:,}" for name in sorted(names, key=lambda name: (name.lower(), name)))
+    wrapped = textwrap.wrap(words, 80, initial_indent="  ", subsequent_indent="  ", break_long_words=False, break_on_hyphens=False)
+    lines += [line.replace("\xa0", " ") for line in wrapped]
     if text.blank_lines:
         passed = counted(text.blank_lines, "blank line")
         lines.append(f"{source.label}: {passed} passed over (a single - is the empty day)")
