@@ -24,6 +24,7 @@ def _version() -> str:
 
 
 __version__ = _version()
-__all__ = ["DEFAULT_CLASS", "REFUSALS", "BadClass", "BadText", "Book", "Built", "Class", "Difference", "LibraryMissing", "Outcome",
-           "Problem", "Refused", "State", "Table", "Text", "Walked", "build", "compare", "judged_book", "judged_table", "list_book",
-           "list_table", "read_book", "read_class", "read_table", "read_text", "rewrite", "walk", "write_book", "write_class", "write_table", "write_text"]
+__all__ = ["DEFAULT_CLASS", "REFUSALS", "BadClass", "BadText", "Book", "Built", "Class", "Difference", "LibraryMissing",
+           "Outcome", "Problem", "Refused", "State", "Table", "Text", "Walked", "build", "compare", "judged_book",
+           "judged_table", "list_book", "list_table", "read_book", "read_class", "read_table", "read_text", "rewrite", "walk",
+           "write_book", "write_class", "write_table", "write_text"]
