@@ -148,7 +148,7 @@ def answer(day: Row, result: Walked, names: Sequence[str]) -> str:
     if result.outcome is Outcome.ON_THE_WAY:
         return "on the way: a day may not end here" if day else "on the way: a day may not be empty"
     stop = day[len(result.walked)]
-    word = plain(cut(stop, 40))
+    word = stop if stop in names else shown(stop)
     if result.walked:
         said = f"not allowed: it goes as far as {' '.join(result.walked)}; then {word} may not come"
     else:

@@ -50,7 +50,7 @@ class Good(InFolder):
         self.answers(1, "not allowed: it goes as far as lunch tea; then lunch may not come\nnext: cake\n",
                      "walk", "-", "lunch", "tea", "lunch", input=TABLE)
         self.answers(1, "not allowed: a day may not begin with tea\nnext: lunch\n", "walk", "days.table", "tea")
-        self.answers(1, "not allowed: a day may not begin with lucnh (the model has no such name; did you mean lunch?)\nnext: lunch\n",
+        self.answers(1, "not allowed: a day may not begin with 'lucnh' (the model has no such name; did you mean lunch?)\nnext: lunch\n",
                      "walk", "days.table", "lucnh")
         self.answers(1, "on the way: a day may not end here\nnext: tea\n", "walk", "-q", "-", "lunch", input=b"lunch tea\n")
 
@@ -254,7 +254,7 @@ class Bad(InFolder):
         self.fails("plans: the name 'lunch tea' holds a space, and no name may; write lunch_tea, or give each name by itself",
                    "walk", "days.table", "lunch tea")
         self.fails("plans: a day of 65 names: at most 64 are allowed", "walk", "days.table", *65 * ["lunch"])
-        self.answers(1, "not allowed: a day may not begin with a\\x1b[1m (the model has no such name)\nnext: lunch\n",
+        self.answers(1, "not allowed: a day may not begin with 'a\\x1b[1m' (the model has no such name)\nnext: lunch\n",
                      "walk", "days.table", "a\x1b[1m")
         done = self.plans("walk", "days.table", 10000 * "x")
         self.assertLess(len(done.stdout), 200)
