@@ -12,7 +12,7 @@ from pathlib import Path
 from .differences import Difference, compare
 from .fields import (DEFAULT_CLASS, REFUSALS, Book, Class, Refused, State, Table, read_book, read_table, write_book, write_table)
 from .library import LibraryMissing
-from .models import Built, Outcome, Walked, build, list_book, list_table, rewrite, walk
+from .models import Built, Outcome, Walked, build, judged_book, judged_table, list_book, list_table, rewrite, walk
 from .texts import BadClass, BadText, Problem, Text, read_class, read_text, write_class, write_text
 
 
@@ -24,6 +24,7 @@ def _version() -> str:
 
 
 __version__ = _version()
-__all__ = ["DEFAULT_CLASS", "REFUSALS", "BadClass", "BadText", "Book", "Built", "Class", "Difference", "LibraryMissing", "Outcome",
-           "Problem", "Refused", "State", "Table", "Text", "Walked", "build", "compare", "list_book", "list_table", "read_book",
-           "read_class", "read_table", "read_text", "rewrite", "walk", "write_book", "write_class", "write_table", "write_text"]
+__all__ = ["DEFAULT_CLASS", "REFUSALS", "BadClass", "BadText", "Book", "Built", "Class", "Difference", "LibraryMissing",
+           "Outcome", "Problem", "Refused", "State", "Table", "Text", "Walked", "build", "compare", "judged_book",
+           "judged_table", "list_book", "list_table", "read_book", "read_class", "read_table", "read_text", "rewrite", "walk",
+           "write_book", "write_class", "write_table", "write_text"]

@@ -6,9 +6,9 @@ from typing import Callable, Dict, Iterable, List, NamedTuple, Optional, Sequenc
 
 from . import drawings, helps
 from .differences import Difference, compare
-from .fields import ENTRY_LIMIT, ROW_LIMIT, Book, Class, Refused, Row, Table, read_book, read_table, write_book
+from .fields import ENTRY_LIMIT, ROW_LIMIT, Book, Class, Refused, Row, Table, read_table, write_book
 from .files import Failure, Input, Kind, put, read_input, say, write_output
-from .models import Built, Outcome, Walked, build, list_book, list_table, rewrite, walk
+from .models import Built, Outcome, Walked, build, judged_book, judged_table, list_book, list_table, rewrite, walk
 from .showing import counted, cut, nearest, plain, shown
 from .texts import BadClass, BadText, Text, name_problem, read_class, read_text, write_text
 
@@ -43,8 +43,10 @@ def notes(source: Input, text: Text, copies: bool) -> List[str]:
     names = text.names()
     different = len(set(text.days))
     lines = [f"{source.label}: {counted(len(text.days), 'day')}, {different:,} of them different; {counted(len(names), 'name')}:"]
-    words = ", ".join(f"{name} {names[name]:,}" for name in sorted(names, key=lambda name: (name.lower(), name)))
-    lines += textwrap.wrap(words, 80, initial_indent="  ", subsequent_indent="  ", break_long_words=False, break_on_hyphens=False)
+    # a hard space keeps a name and its count in one line
+    words = ", ".join(f"{name}\xa0{names[name]:,}" for name in sorted(names, key=lambda name: (name.lower(), name)))
+    wrapped = textwrap.wrap(words, 80, initial_indent="  ", subsequent_indent="  ", break_long_words=False, break_on_hyphens=False)
+    lines += [line.replace("\xa0", " ") for line in wrapped]
     if text.blank_lines:
         passed = counted(text.blank_lines, "blank line")
         lines.append(f"{source.label}: {passed} passed over (a single - is the empty day)")
@@ -71,7 +73,7 @@ def wrong_kind(source: Input, wanted: str) -> Failure:
     """Fields that no row or state follows get their refusal, which says more."""
     if source.kind is Kind.FIELDS:
         try:
-            read_table(source.data)
+            judged_table(source.data)
         except Refused as problem:
             return source.refused(problem)
     return Failure(f"{source.label}: this is {source.kind.value}; {wanted} is wanted")
@@ -81,7 +83,7 @@ def book_of(source: Input, asked: Asked, copies: bool = False, wanted: str = "a 
     if source.kind not in (Kind.TEXT, Kind.BOOK):
         raise wrong_kind(source, wanted)
     try:
-        book = text_book(source, asked, copies) if source.kind is Kind.TEXT else read_book(source.data)
+        book = text_book(source, asked, copies) if source.kind is Kind.TEXT else judged_book(source.data)
     except BadText as problem:
         raise Failure(*told(source, problem)) from None
     except Refused as problem:
@@ -96,7 +98,7 @@ def model_of(path: str, asked: Asked) -> Model:
         if source.kind is Kind.TABLE:
             if asked.named_class is not None:
                 raise Failure(f"{source.label}: this is a table, which has its class; --class is for texts and books")
-            table = read_table(source.data)
+            table = judged_table(source.data)
             return Model(source, None, rewrite(source.data), table)
         book = book_of(source, asked, wanted="a text, a book or a table")
         built = build(book)
@@ -146,7 +148,7 @@ def answer(day: Row, result: Walked, names: Sequence[str]) -> str:
     if result.outcome is Outcome.ON_THE_WAY:
         return "on the way: a day may not end here" if day else "on the way: a day may not be empty"
     stop = day[len(result.walked)]
-    word = plain(cut(stop, 40))
+    word = stop if stop in names else shown(stop)
     if result.walked:
         said = f"not allowed: it goes as far as {' '.join(result.walked)}; then {word} may not come"
     else:
@@ -167,13 +169,11 @@ def walking(asked: Asked) -> int:
 
 
 def accepted_fields(source: Input) -> str:
-    """What accepted fields are; Refused if they are not, by the library, with the offset as read here."""
+    """What accepted fields are; Refused if they are not."""
     if source.kind is Kind.BOOK:
-        book = read_book(source.data)
-        build(source.data)
+        book = judged_book(source.data)
         return f"a book of {counted(len(book.names), 'name')}, {counted(len(book.rows), 'row')}"
-    table = read_table(source.data)
-    rewrite(source.data)
+    table = judged_table(source.data)
     return f"a table of {counted(len(table.names), 'name')}, {table.named_class}, {counted(len(table.states), 'state')}"
 
 

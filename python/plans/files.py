@@ -8,6 +8,7 @@ from typing import List, Optional, Sequence
 
 from .fields import INPUT_LIMIT, ROW, STATE, Refused, kind_of
 from .showing import cut, plain
+from .texts import UTF_16
 
 TEXT_LIMIT = 4 * 1024 * 1024
 NAME_CUT = 200
@@ -74,7 +75,7 @@ def _kind(data: bytes) -> Kind:
         return {ROW: Kind.BOOK, STATE: Kind.TABLE}.get(kind_of(data), Kind.FIELDS)
     if data.startswith(b"PK\x03\x04"):
         return Kind.ARCHIVE
-    if b"\0" in data and not data.startswith((b"\xff\xfe", b"\xfe\xff")):
+    if b"\0" in data and data[:2] not in UTF_16:
         return Kind.NEITHER
     return Kind.TEXT
 

@@ -36,7 +36,7 @@ LENT = [ctypes.c_void_p, ctypes.c_size_t]
 
 
 def _folders() -> List[Path]:
-    """Where the library may lie: beside the module; in the repository's target/lib, or in lib of the prefix that it is installed in."""
+    """Where the library may lie: beside the module; in the repository's target/lib, or in lib of the prefix it is installed in."""
     above = list(HERE.parents)
     if (above[0].parent / "crates.txt").is_file():
         return [HERE, above[1] / "target" / "lib"]

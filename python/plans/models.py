@@ -1,10 +1,13 @@
 """The library's calls with names in place of numbers and bits. A refusal is raised as Refused."""
 import enum
 from dataclasses import dataclass
-from typing import Sequence, Tuple, Union
+from typing import Callable, Sequence, Tuple, TypeVar, Union
 
 from . import library
-from .fields import ENTRY_LIMIT, INPUT_LIMIT, NAME, Book, Refused, Row, Table, fields_of, read_table, write_book, write_table
+from .fields import (ENTRY_LIMIT, INPUT_LIMIT, NAME, Book, Refused, Row, Table, fields_of, read_book, read_table, write_book,
+                     write_table)
+
+File = TypeVar("File", Book, Table)
 
 
 class Outcome(enum.Enum):
@@ -55,6 +58,29 @@ def rewrite(table: Union[Table, bytes]) -> Built:
     """The table judged and written again, to the same bytes."""
     result, again = _written("plans_rewrite", _table_bytes(table), INPUT_LIMIT)
     return Built(again, result.states, result.joins)
+
+
+def _judged(call: Callable[[bytes], Built], read: Callable[[bytes], File], data: bytes) -> File:
+    try:
+        call(data)
+    except Refused as problem:
+        try:
+            read(data)
+        except Refused as placed:
+            if placed.number == problem.number:
+                raise placed from None
+        raise problem from None
+    return read(data)
+
+
+def judged_book(data: bytes) -> Book:
+    """The book that the library accepts; a refusal is the library's, with the offset as this module reads the fields."""
+    return _judged(build, read_book, data)
+
+
+def judged_table(data: bytes) -> Table:
+    """The table that the library accepts; a refusal is the library's, with the offset as this module reads the fields."""
+    return _judged(rewrite, read_table, data)
 
 
 def list_book(book: Union[Book, bytes]) -> str:

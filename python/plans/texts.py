@@ -16,7 +16,8 @@ MARKS = re.compile('["#,;\t]')
 TOKENS = re.compile(r'(?P<quoted>"(?:[^"]|"")*")|(?P<comment>#.*)|(?P<parting>[,;\t])|(?P<blank> +)|(?P<word>"|[^",;\t #]+)')
 SETTING = re.compile(r'[\s",;]*([^\s",;=#]*)[\s",;]*=([^#]*)')
 SMALLER = "take a smaller element, such as a meal in place of a day"
-BYTE_ORDER_MARKS = [(b"\xef\xbb\xbf", "utf-8"), (b"\xff\xfe", "utf-16-le"), (b"\xfe\xff", "utf-16-be")]
+BYTE_ORDER_MARK = "\ufeff"
+UTF_16 = {b"\xff\xfe": "utf-16-le", b"\xfe\xff": "utf-16-be"}
 
 
 @dataclass(frozen=True)
@@ -184,7 +185,8 @@ class _Reader:
     def line(self, number: int, line: str) -> None:
         setting = SETTING.match(line)
         if setting:
-            self.setting(number, setting[1], re.sub('[",;\t]', " ", setting[2]).strip())
+            ends = '",; \t' if line.lstrip().startswith('"') else ",; \t"  # a cell may hold the whole line, and be quoted
+            self.setting(number, setting[1], cells_of(setting[2].rstrip(ends))[0])
             return
         cells, comment = cells_of(line)
         if not cells:
@@ -201,7 +203,7 @@ class _Reader:
             self.problems.append(Problem(number, f"{FAULT_LIMIT:,} faults are told; the rest of the text is not read"))
             raise _Enough
 
-    def setting(self, number: int, what: str, value: str) -> None:
+    def setting(self, number: int, what: str, cells: List[str]) -> None:
         if what.lower() == "sep" and number == 1:
             return  # a spreadsheet's word on what parts its cells
         if what not in ("class", "names"):
@@ -209,13 +211,13 @@ class _Reader:
         elif self.days:
             self.wrong(number, f"'{what} =' must stand before the first day")
         elif what == "names":
-            self.names(number, value.split())
-            self.declared.update(value.split())
+            self.names(number, cells)
+            self.declared.update(cells)
         elif self.named_class is not None:
             self.wrong(number, "a second 'class =': one is allowed")
         else:
             try:
-                self.named_class = read_class(value)
+                self.named_class = read_class(" ".join(cells))
             except BadClass as problem:
                 self.wrong(number, str(problem))
 
@@ -236,16 +238,16 @@ class _Reader:
 
 
 def decoded(data: bytes) -> str:
-    """The text without its byte order mark. Bytes that are not UTF-8 are kept, for messages that show them."""
-    for mark, encoding in BYTE_ORDER_MARKS:
-        if data.startswith(mark):
-            return data[len(mark):].decode(encoding, "surrogateescape" if encoding == "utf-8" else "replace")
+    """The text; bytes that are not UTF-8 are kept, for messages that show them."""
+    if data[:2] in UTF_16:
+        return data.decode(UTF_16[data[:2]], "replace")
     return data.decode("utf-8", "surrogateescape")
 
 
 def read_text(data: Union[str, bytes]) -> Text:
     """What the text says; BadText, with every faulty line, if it describes no book."""
-    lines = LINE_ENDS.split((data if isinstance(data, str) else decoded(data)).removeprefix("\ufeff"))
+    text = data if isinstance(data, str) else decoded(data)
+    lines = LINE_ENDS.split(text.removeprefix(BYTE_ORDER_MARK))
     if not lines[-1]:
         lines.pop()
     reader = _Reader()

@@ -50,7 +50,7 @@ class Good(InFolder):
         self.answers(1, "not allowed: it goes as far as lunch tea; then lunch may not come\nnext: cake\n",
                      "walk", "-", "lunch", "tea", "lunch", input=TABLE)
         self.answers(1, "not allowed: a day may not begin with tea\nnext: lunch\n", "walk", "days.table", "tea")
-        self.answers(1, "not allowed: a day may not begin with lucnh (the model has no such name; did you mean lunch?)\nnext: lunch\n",
+        self.answers(1, "not allowed: a day may not begin with 'lucnh' (the model has no such name; did you mean lunch?)\nnext: lunch\n",
                      "walk", "days.table", "lucnh")
         self.answers(1, "on the way: a day may not end here\nnext: tea\n", "walk", "-q", "-", "lunch", input=b"lunch tea\n")
 
@@ -173,7 +173,7 @@ class Bad(InFolder):
         self.of_each("plans: none.txt: No such file or directory", "none.txt")
         self.fails("plans: none.txt: No such file or directory", "check", "none.txt")
         (self.folder / "folder").mkdir()
-        self.of_each("plans: folder: Is a directory", "folder")
+        self.fails("plans: folder: Is a directory", "walk", "folder", "lunch")
         self.fails("plans: folder: Is a directory", "build", "days.txt", "-q", "-o", "folder")
         self.fails("plans: none/out: No such file or directory", "build", "days.txt", "-q", "-o", "none/out")
         self.fails("plans: days.txt/x: Not a directory", "list", "days.txt/x")
@@ -184,8 +184,8 @@ class Bad(InFolder):
         self.of_each("rubbish: this is neither a text nor fields, which begin with the byte 01; .* is wanted", "rubbish")
         self.answers(1, f"rubbish: refused: offset 0: refusal 2: {plans.REFUSALS[2]}\n", "check", "rubbish")
         self.put("book.xlsx", b"PK\x03\x04" + rubbish)
-        self.of_each("book.xlsx: this is an archive, such as a spreadsheet's own file: save it as CSV or as text; .* is wanted",
-                     "book.xlsx")
+        self.fails("book.xlsx: this is an archive, such as a spreadsheet's own file: save it as CSV or as text; a text is wanted",
+                   "book", "book.xlsx")
 
     def test_wrong_kind(self):
         self.fails("days.table: this is a table; a text or a book is wanted", "build", "days.table")
@@ -200,7 +200,7 @@ class Bad(InFolder):
     def test_empty_file(self):
         self.put("empty", b"")
         self.of_each("empty: this is an empty file; .* is wanted", "empty")
-        self.of_each("standard input: this is an empty file; .* is wanted", "-")
+        self.fails("standard input: this is an empty file; a text, a book or a table is wanted", "diff", "-", "days.table")
         self.answers(1, "empty: refused: offset 0: refusal 4: the input ends while a field is still due\n", "check", "empty")
 
     def test_200_megabytes(self):
@@ -244,10 +244,8 @@ class Bad(InFolder):
             self.assertEqual(self.plans("walk", "--", name, "lunch").stdout, b"allowed\nnext: tea\n", name)
             done = self.plans("build", "-q", "days.txt", "-o" + name)
             self.assertEqual((done.returncode, (self.folder / name).read_bytes()), (0, TABLE), name)
-            done = self.plans("list", "--", name + "x")
-            self.assertEqual((done.returncode, len(done.stderr.decode().splitlines())), (2, 1), name)
-            self.assertNotIn(b"\a", done.stderr)
         self.assertFalse(ran.exists())
+        self.fails("plans: line\\x0aline\\x07: No such file or directory", "list", "line\nline\a")
         os.mkdir(os.fsencode(self.folder) + b"/bytes\xff")
         self.fails("plans: bytes\\xff: Is a directory", "list", b"bytes\xff")
         self.assertEqual(self.plans("list", 5000 * "x").stderr.decode(), f"plans: {200 * 'x'}...: File name too long\n")
@@ -256,7 +254,7 @@ class Bad(InFolder):
         self.fails("plans: the name 'lunch tea' holds a space, and no name may; write lunch_tea, or give each name by itself",
                    "walk", "days.table", "lunch tea")
         self.fails("plans: a day of 65 names: at most 64 are allowed", "walk", "days.table", *65 * ["lunch"])
-        self.answers(1, "not allowed: a day may not begin with a\\x1b[1m (the model has no such name)\nnext: lunch\n",
+        self.answers(1, "not allowed: a day may not begin with 'a\\x1b[1m' (the model has no such name)\nnext: lunch\n",
                      "walk", "days.table", "a\x1b[1m")
         done = self.plans("walk", "days.table", 10000 * "x")
         self.assertLess(len(done.stdout), 200)

@@ -36,12 +36,12 @@ class Judged(unittest.TestCase):
         self.assertEqual((called.exception.number, called.exception.words), (number, plans.REFUSALS[number]))
 
     def refused(self, data: bytes, number: int, offset: int):
-        self.compared(read_book, plans.build, data, number, offset)
-        self.compared(read_book, plans.list_book, data, number, offset)
+        for call in [plans.build, plans.list_book, plans.judged_book]:
+            self.compared(read_book, call, data, number, offset)
 
     def refused_table(self, data: bytes, number: int, offset: int):
-        self.compared(read_table, plans.rewrite, data, number, offset)
-        self.compared(read_table, lambda table: plans.walk(table, ["lunch"]), data, number, offset)
+        for call in [plans.rewrite, plans.judged_table, lambda table: plans.walk(table, ["lunch"])]:
+            self.compared(read_table, call, data, number, offset)
 
     def refused_both(self, data: bytes, number: int, offset: int):
         self.refused(data, number, offset)

@@ -21,7 +21,7 @@ class ThereAndBack(unittest.TestCase):
         for _ in range(120):
             text = write_text(book_of(a_sample(draw)))
             loose = loosened(draw, text)
-            for data in [loose, loose.encode("utf-8"), loose.encode("utf-16")]:
+            for data in [loose, loose.encode("utf-8"), loose.lstrip("\ufeff").encode("utf-16")]:
                 self.assertEqual(write_text(read_text(data).book()), text, loose)
 
     def test_one_text_in_full(self):
@@ -75,7 +75,9 @@ class Spreadsheets(unittest.TestCase):
     def test_settings_out_of_cells(self):
         for line in ["class = last 2", "class=last 2", '"class = last 2",,', "class =,last,2", "class;=;last 2", " class = last 2 # c"]:
             self.assertEqual(read_text(line + "\ntea\n").named_class, Class(2, 2), line)
-        self.assertEqual(read_text("names = tea, cake\ntea\n").book().names, ("cake", "tea"))
+        for line in ["names = tea cake", "names = tea, cake", "names =,tea,cake,,", "names = tea cake,,", '"names = tea cake",,',
+                     'names = "tea" "cake"']:
+            self.assertEqual(read_text(line + "\ntea\n").declared, {"cake", "tea"}, line)
 
     def test_blank_lines_are_counted(self):
         self.assertEqual(read_text("\n  \n\t\n,,;\n# comment\ntea # x\n\n").blank_lines, 5)
@@ -125,6 +127,9 @@ class Faults(unittest.TestCase):
         told = (1, "the name 'morning snack' holds a space, and no name may; write morning_snack")
         for line in ['"morning snack" lunch', "morning snack,lunch", "lunch\tmorning snack", "lunch;morning snack;", '"morning snack"']:
             self.says(line, told)
+
+    def test_space_in_a_declared_name(self):
+        self.says('names = "morning snack"\ntea', (1, "the name 'morning snack' holds a space, and no name may; write morning_snack"))
 
     def test_other_letters(self):
         allowed = "which the format does not allow yet: ASCII letters, digits, _ : . and - are"
