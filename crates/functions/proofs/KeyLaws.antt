@@ -10,8 +10,7 @@ use lib.Bits.{bitAnd, bitOr, and-step, or-zero-l, or-disjoint}
 use lib.Count.{ones, ones-step, trailingZeros}
 use lib.ListN.{getD}
 use lib.Pow.{pow-pos}
-use lib.Dec.{ltb}
-use borrow.Author.Tests.{ltb-true, ltb-false, eq-eqb, ne-eqb}
+use borrow.Author.Tests.{eq-eqb, ne-eqb}
 use Rattle.base.specs.Limits.{name-limit}
 use Rattle.model.proofs.NameSets.{trailing-shifted}
 use Rattle.base.proofs.Tests.{eq-dec}
@@ -66,16 +65,16 @@ grown name before after is = ⊎-elim (λ one. inl (is ∙ set-again before name
 pub not-less : (name before after : ℕ) → after ≡ bitOr before (2 ^ name) → before ≤ after
 not-less name before after is = ⊎-elim (λ same. omega arith) (λ more. omega (arith, more .0)) (grown name before after is)
 
--- the keys of an arc where the set has more names after it: the lowest name added, and none
+-- the keys of an arc where the set has another number of names after it: the lowest name added, and none
 pub keys-enlarging :
-    (before after name : ℕ) → name < name-limit → after ≡ bitOr before (2 ^ name) → ltb (ones before) (ones after) ≡ true →
+    (before after name : ℕ) → name < name-limit → after ≡ bitOr before (2 ^ name) → (ones before ≡ ones after → ⊥) →
     (trailingZeros 64 (after - before) ≡ keyWhere true before after name) × (name-limit ≡ keyWhere false before after name)
 keys-enlarging before after name below is more = go (grown name before after is)
   where
     go :
         Grown name before after →
         (trailingZeros 64 (after - before) ≡ keyWhere true before after name) × (name-limit ≡ keyWhere false before after name)
-    go (inl same) = let z : ⊥ = omega (arith, ltb-true (ones before) (ones after) more, ap ones same) in absurd z
+    go (inl same) = absurd (more (sym (ap ones same)))
     go (inr added) =
         let difference : after - before ≡ 1 * 2 ^ name = omega (arith, added .0) in
         let other = sym (ne-eqb after before (λ e. omega (arith, added .0, pow-pos name))) in (
@@ -86,10 +85,10 @@ keys-enlarging before after name below is more = go (grown name before after is)
 
 -- and where it has no more: none, and the name
 pub keys-other :
-    (before after name : ℕ) → after ≡ bitOr before (2 ^ name) → ltb (ones before) (ones after) ≡ false →
+    (before after name : ℕ) → after ≡ bitOr before (2 ^ name) → ones after ≤ ones before →
     (name-limit ≡ keyWhere true before after name) × (name ≡ keyWhere false before after name)
 keys-other before after name is no-more =
-    let same : after ≡ before = ⊎-elim (λ e. e) (λ added. absurd (omega (arith, added .1, ltb-false (ones before) (ones after) no-more))) (grown name before after is) in
+    let same : after ≡ before = ⊎-elim (λ e. e) (λ added. absurd (omega (arith, added .1))) (grown name before after is) in
     let both = sym (eq-eqb after before same) in (
       ap (λ (b : Bool). cond (Bool·beq b true) name-limit name) both,
       ap (λ (b : Bool). cond (Bool·beq b false) name-limit name) both,

@@ -2,11 +2,10 @@
 use mathlib.Core.Path.{_≡_}
 use mathlib.Core.Bool.{Bool, true, false, cond, Bool·beq}
 use mathlib.Core.List.{List}
-use Prim.Native.Nat.{ℕ, _^_, _<_, _≤_}
+use Prim.Native.Nat.{ℕ, _^_, _<_}
 use lib.Bits.{bitOr}
-use lib.Count.{ones}
 use lib.Dec.{eqb}
-use lib.ListN.{length, getD}
+use lib.ListN.{getD}
 use Rattle.base.specs.Limits.{name-limit}
 use Rattle.indexed.specs.Passes.{NamesAbove, SeenSets, KeysWhere}
 use Rattle.suffixes.specs.Codes.{Coded}
@@ -19,11 +18,6 @@ keyWhere enlarge before after name = cond (Bool·beq (eqb after before) enlarge)
 pub record KeyAt (enlarge : Bool) (parents names seen : List ℕ) (v answer : ℕ) : Type 0 where
   pub root : v ≡ 0 → answer ≡ name-limit
   pub arc : 0 < v → answer ≡ keyWhere enlarge (getD seen (getD parents v 0) 0) (getD seen v 0) (getD names v 0)
-
--- how many names each set has
-pub record NamesCounted (sets counts : List ℕ) : Type 0 where
-  pub size : length sets ≤ length counts
-  pub count : (v : ℕ) → v < length sets → getD counts v 0 ≡ ones (getD sets v 0)
 
 -- the set of v
 pub record SeenAt (parents names seen : List ℕ) (v answer : ℕ) : Type 0 where

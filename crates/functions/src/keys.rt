@@ -1,18 +1,15 @@
 // Keys of arcs for passes against them: names by whether the seen set grows.
 use base::limits::NAME_LIMIT;
-use base::limits::STATE_LIMIT;
 use base::numbers;
 ghost use mathlib.Core.Path.{_≡_};
 ghost use mathlib.Core.Bool.{true, false};
-ghost use Prim.Native.Nat.{_^_, _<_, _≤_};
+ghost use Prim.Native.Nat.{_^_, _<_};
 ghost use lib.Bits.{bitOr};
-ghost use lib.Count.{ones};
-ghost use lib.Dec.{ltb};
 ghost use lib.ListN.{length};
 ghost use Rattle.base.specs.Limits.{name-limit};
 ghost use Rattle.indexed.specs.Trees.{Arrays};
 ghost use Rattle.indexed.specs.Passes.{SeenSets, KeysWhere};
-ghost use Rattle.functions.specs.Parts.{keyWhere, KeyAt, NamesCounted};
+ghost use Rattle.functions.specs.Parts.{keyWhere, KeyAt};
 
 // The keys of one arc among the arcs that enlarge the seen set, and among the others; NAME_LIMIT, no key, at one of the two.
 pub struct Keys {
@@ -20,33 +17,22 @@ pub struct Keys {
     pub others: u8,
 }
 
-// How many names each set has.
-fn count_names(sets: &[u64], counts: &mut [u8])
-    requires { ⌜ length (now sets) ≤ length (now counts) ⌝ }
-    ensures { λ _. ⌜ NamesCounted (now (sets .entry)) (now (counts .exit)) ⌝ }
-{
-    let mut v = 0;
-    while v < sets.len() {
-        counts[v] = u64::count_ones(sets[v]) as u8;
-        v += 1;
-    }
-}
-
-// The keys of an arc by its name, the seen sets before and after it, and whether the set after it has more names than the set before
-// it. Where it has, the arc enlarges the set: its key is the lowest name added, among the enlarging ones; else it is the name, among
-// the others.
-fn keys_of(enlarges: bool, before: u64, after: u64, name: u8) -> Keys
-    requires counted { ⌜ enlarges ≡ ltb (ones before) (ones after) ⌝ }
+// The keys of an arc by its name and the seen sets before and after it. It enlarges the set where the set after it has more names
+// than the set before it: its key is then the lowest name added, among the enlarging ones; else it is the name, among the others.
+// The names of equal sets are not counted.
+fn keys_of(before: u64, after: u64, name: u8) -> Keys
     requires name_below { ⌜ name < name-limit ⌝ }
     requires with_name { ⌜ after ≡ bitOr before (2 ^ name) ⌝ }
     ensures enlarging { λ r. ⌜ r .enlarging ≡ keyWhere true before after name ⌝ }
     ensures others { λ r. ⌜ r .others ≡ keyWhere false before after name ⌝ }
 {
-    if enlarges {
-        return Keys {
-            enlarging: u64::trailing_zeros(after - before) as u8,
-            others: NAME_LIMIT,
-        };
+    if before != after {
+        if u64::count_ones(before) < u64::count_ones(after) {
+            return Keys {
+                enlarging: u64::trailing_zeros(after - before) as u8,
+                others: NAME_LIMIT,
+            };
+        }
     }
     Keys {
         enlarging: NAME_LIMIT,
@@ -54,18 +40,17 @@ fn keys_of(enlarges: bool, before: u64, after: u64, name: u8) -> Keys
     }
 }
 
-// The keys of the arc to state v, by the seen sets and how many names each has.
-fn keys_at(parents: &[u16], names: &[u8], seen: &[u64], counts: &[u8], v: usize) -> Keys
+// The keys of the arc to state v.
+fn keys_at(parents: &[u16], names: &[u8], seen: &[u64], v: usize) -> Keys
     requires arrays { ⌜ Arrays (length (now seen)) (now parents) (now names) ⌝ }
     requires sets { ⌜ SeenSets (length (now seen)) (now parents) (now names) (now seen) ⌝ }
-    requires counted { ⌜ NamesCounted (now seen) (now counts) ⌝ }
     requires not_root { ⌜ 0 < v ⌝ }
     requires inside { ⌜ v < length (now seen) ⌝ }
     ensures enlarging { λ r. ⌜ KeyAt true (now (parents .entry)) (now (names .entry)) (now (seen .entry)) v (r .enlarging) ⌝ }
     ensures others { λ r. ⌜ KeyAt false (now (parents .entry)) (now (names .entry)) (now (seen .entry)) v (r .others) ⌝ }
 {
     let parent = numbers::wide16(parents[v]);
-    keys_of(counts[parent] < counts[v], seen[parent], seen[v], names[v])
+    keys_of(seen[parent], seen[v], names[v])
 }
 
 // The names of the arcs that enlarge the seen set, and those of the arcs that do not; no key at the others and at the root.
@@ -86,13 +71,11 @@ pub fn seen_keys(
         ⌜ KeysWhere (length (now (enlarging .entry))) false (now (parents .entry)) (now (names .entry)) (now (seen .entry))
         (now (others .exit)) ⌝ }
 {
-    let mut counts = [0u8; STATE_LIMIT];
-    count_names(seen, &mut counts);
     enlarging[0] = NAME_LIMIT;
     others[0] = NAME_LIMIT;
     let mut v = 1;
     while v < enlarging.len() {
-        let keys = keys_at(parents, names, seen, &counts, v);
+        let keys = keys_at(parents, names, seen, v);
         enlarging[v] = keys.enlarging;
         others[v] = keys.others;
         v += 1;

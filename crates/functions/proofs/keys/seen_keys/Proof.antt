@@ -9,23 +9,19 @@ use Rattle.indexed.specs.Passes.{SeenSets}
 use Rattle.base.proofs.Fills.{Filled, filled-more}
 use Rattle.functions.specs.Parts.{KeyAt}
 use Rattle.functions.proofs.FillLaws.{keys-root, keys-all}
-use borrow.Author.Needs.{needs}
 use Rattle.functions.proofs.keys.seen_keys.Statement.{statement}
 use Rattle.functions.proofs.keys.seen_keys.Tie as tie
 
 abbrev Inv-loop : tie.InvT-loop
-Inv-loop parents names seen enlarging₀ others₀ counts v₀ enlarging others v =
+Inv-loop parents names seen enlarging₀ others₀ v₀ enlarging others v =
     (0 < v) × (v ≤ length enlarging₀) × Filled (KeyAt true parents names seen) v enlarging₀ enlarging
     × Filled (KeyAt false parents names seen) v others₀ others
 
 abbrev μ-loop : tie.MeasureT-loop
-μ-loop parents names seen enlarging₀ others₀ counts v₀ enlarging others v = length enlarging₀ - v
-
-abbrev entry : tie.After-counts2 Inv-loop μ-loop → tie.Start Inv-loop μ-loop
-entry c = c .before .before .before .before .before .before .before .before
+μ-loop parents names seen enlarging₀ others₀ v₀ enlarging others v = length enlarging₀ - v
 
 abbrev start : tie.At-loop Inv-loop μ-loop → tie.Start Inv-loop μ-loop
-start c = entry (c .before)
+start c = c .before .before .before .before .before .before
 
 -- as many keys of either kind as states, also where the root's are written
 sizes :
@@ -37,25 +33,17 @@ sizes at = (
   length-set (at .args .others .now) 0 64 ∙ at .pre .1 .1,
 )
 
-slice-aggregate-count-names : tie.Need-slice-aggregate-count-names Inv-loop μ-loop
-slice-aggregate-count-names c = search needs
-
-count-names-requires : tie.Need-count-names-requires Inv-loop μ-loop
-count-names-requires c κs =
-    let at = c .before .before .before .before .before .before in
-    omega (arith, at .pre .0 .few-states, at .pre .1 .0 .size)
-
 slice-write-enlarging : tie.Need-slice-write-enlarging Inv-loop μ-loop
-slice-write-enlarging c = entry c .pre .0 .some-state
+slice-write-enlarging c = c .before .before .before .before .before .pre .0 .some-state
 
 slice-write-others : tie.Need-slice-write-others Inv-loop μ-loop
 slice-write-others c =
-    let at = entry c in
+    let at = c .before .before .before .before .before in
     omega (arith, at .pre .0 .some-state, at .pre .1 .1)
 
 loop-holds : tie.Need-loop-holds Inv-loop μ-loop
 loop-holds c =
-    let at = entry c in
+    let at = c .before .before .before .before .before in
     let args = at .args in
     let some = at .pre .0 .some-state in (
       omega arith,
@@ -65,19 +53,16 @@ loop-holds c =
           (omega (arith, at .pre .1 .1)),
     )
 
-slice-aggregate-keys-at : tie.Need-slice-aggregate-keys-at Inv-loop μ-loop
-slice-aggregate-keys-at c = search needs
-
 keys-at-requires : tie.Need-keys-at-requires Inv-loop μ-loop
 keys-at-requires c κs =
-    let here = c .before .before in
+    let here = c .before in
     let at = start here in
     let size = at .pre .1 .0 .size in (
       subst (λ (m : ℕ). Arrays m (at .args .parents .now) (at .args .names .now)) (sym size) (at .pre .0),
       (
         subst (λ (m : ℕ). SeenSets m (at .args .parents .now) (at .args .names .now) (at .args .seen .now)) (sym size)
             (at .pre .1 .0),
-        (here .before .before .count-names .ensures, (here .loop .inv .0, omega (arith, size, here .loop .inv .2 .size, sizes at .0))),
+        (here .loop .inv .0, omega (arith, size, here .loop .inv .2 .size, sizes at .0)),
       ),
     )
 
@@ -90,22 +75,22 @@ slice-write-enlarging-2 c = omega arith
 
 slice-write-others-2 : tie.Need-slice-write-others-2 Inv-loop μ-loop
 slice-write-others-2 c =
-    let turn = c .before .before in
+    let turn = c .before in
     omega (arith, inside turn, turn .before .loop .inv .3 .size, sizes (start (turn .before)) .1)
 
 add-v : tie.Need-add-v Inv-loop μ-loop
 add-v c =
-    let turn = c .before .before in
+    let turn = c .before in
     omega (arith, inside turn, start (turn .before) .pre .0 .few-states)
 
 loop-less : tie.Need-loop-less Inv-loop μ-loop
 loop-less c =
-    let turn = c .before .before in
+    let turn = c .before in
     omega (arith, inside turn, sizes (start (turn .before)) .0)
 
 loop-again : tie.Need-loop-again Inv-loop μ-loop
 loop-again c =
-    let turn = c .before .before in
+    let turn = c .before in
     let here = turn .before in
     let at = start here in
     let args = at .args in
@@ -152,12 +137,9 @@ seen-keys-spec =
     (tie.spec
     Inv-loop
     μ-loop
-    slice-aggregate-count-names
-    count-names-requires
     slice-write-enlarging
     slice-write-others
     loop-holds
-    slice-aggregate-keys-at
     keys-at-requires
     slice-write-enlarging-2
     slice-write-others-2
