@@ -1,4 +1,4 @@
-/* Builds the table of the scope document's example book, prints its bytes, and walks two rows over it. `make example` builds it,
+/* Builds the table of the example book of docs/SCOPE.md, prints its bytes, and walks two rows over it. `make example` builds it,
  * runs it and compares what it prints with examples/build.stdout. */
 #include <stdio.h>
 

@@ -1,4 +1,4 @@
-/* Walks rows over the table of the scope document's example, whose one name is snack, and prints how each walk ends. Then it
+/* Walks rows over the table of the example of docs/SCOPE.md, whose one name is snack, and prints how each walk ends. Then it
  * rewrites the table. `make example` builds it, runs it and compares what it prints with examples/walk.stdout. */
 #include <stdio.h>
 #include <string.h>

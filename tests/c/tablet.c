@@ -57,7 +57,7 @@ static plans_walked walk_day(const char *day)
     return walk(&table, row, length, PLANS_WORK_BYTES);
 }
 
-/* Worked days P6 and P7 of the scope document. */
+/* Worked days P6 and P7 of docs/SCOPE.md. */
 static void worked_days(void)
 {
     static const char *const days[] = {"bsl", "dsl", "bsb"};
@@ -131,7 +131,7 @@ static void rewrite_it(void)
     check("to the same bytes", again.length == table.length && memcmp(again.bytes, table.bytes, table.length) == 0);
 }
 
-/* Worked day P2 of the scope document, whose listing is that of its example. */
+/* Worked day P2 of docs/SCOPE.md, whose listing is that of its example. */
 static void list_it(void)
 {
     static const char listing[] = "states 2 joins 1\n0 - snack>1\n1 + snack>1\n";

@@ -26,7 +26,7 @@ static plans_writer book;
 static areas alone;
 static areas lent[THREADS];
 
-/* Worked day P6 of the scope document. */
+/* Worked day P6 of docs/SCOPE.md. */
 static void write_book(void)
 {
     static const char *const names[] = {"breakfast", "dinner", "lunch", "snack"};

@@ -1,6 +1,6 @@
-"""The table of a book, by the rules of document 01 taken one step at a time: slow, only for tests, and without any code of the module
+"""The table of a book, by the rules of docs/SCOPE.md taken one step at a time: slow, only for tests, and without any code of the module
 plans. A step joins two groups of states of the prefix tree. Forks (one group, one name, two targets) are joined before the class's
-rule is asked, so that the rule is asked of deterministic automata only; document 01 lets any open step come next."""
+rule is asked, so that the rule is asked of deterministic automata only; docs/SCOPE.md lets any open step come next."""
 from typing import NamedTuple, Optional, Tuple
 
 CONTEXT, SEEN = 0, 1

@@ -15,7 +15,7 @@ EXAMPLES = ROOT / "examples"
 PROGRAM = ROOT / "crates" / "worked_days"
 TEXTS = sorted(EXAMPLES.glob("*/*.txt"))
 
-# Document 01's table: states of the prefix tree, states, joins. Q1 to Q3 stand in crates/model/specs/WorkedDays.antt.
+# The table of docs/SCOPE.md, section 10: states of the prefix tree, states, joins. Q1 to Q3 stand in crates/model/specs/WorkedDays.antt.
 WORKED_DAYS = {
     "P1": (1, 1, 0), "P2": (3, 2, 1), "P3": (3, 3, 0), "P4": (7, 5, 2), "P5": (7, 6, 1), "P6": (8, 6, 2), "P7": (8, 7, 1),
     "P8": (3, 2, 1), "P9": (3, 1, 2), "P10": (3, 2, 1), "P11": (5, 4, 1), "P12": (3, 3, 0), "Q1": (6, 5, 1), "Q2": (7, 5, 2),

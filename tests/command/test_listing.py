@@ -1,4 +1,4 @@
-"""The listing program itself, target/bin/listing, on what document 01 shows of it."""
+"""The listing program itself, target/bin/listing, on what docs/SCOPE.md shows of it."""
 import subprocess
 import unittest
 from pathlib import Path

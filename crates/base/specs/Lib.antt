@@ -1,4 +1,4 @@
--- What many crates share: the numbers that document 01 fixes, tests and choices over lists, the bits of a
+-- What many crates share: the numbers that docs/SCOPE.md fixes, tests and choices over lists, the bits of a
 -- number, and what the lent working area holds. Assumes nothing.
 pub mod Limits
 pub mod Lists

@@ -1,5 +1,5 @@
--- The numbers that document 01 fixes, each in one place: the limits, the marks of fields and the stages of reading them, the kinds of
--- classes, the ends of a walk, and the refusals (its table "What is given back"). src/limits.rt has them by the same names.
+-- The numbers that docs/SCOPE.md fixes, each in one place: the limits, the marks of fields and the stages of reading them, the kinds of
+-- classes, the ends of a walk, and the refusals (section 4.1). src/limits.rt has them by the same names.
 -- Assumes nothing.
 use mathlib.Core.Bool.{Bool, true, false}
 use Prim.Native.Nat.{ℕ, zero, suc}

@@ -1,4 +1,4 @@
-// What many crates share: the numbers that document 01 fixes, widths of numbers, sets of names, and the
+// What many crates share: the numbers that docs/SCOPE.md fixes, widths of numbers, sets of names, and the
 // working area's cells.
 pub mod cells;
 pub mod limits;

@@ -1,4 +1,4 @@
-// The numbers that document 01 fixes, by the names that specs/Limits has for them.
+// The numbers that docs/SCOPE.md fixes, by the names that specs/Limits has for them.
 
 // At most so many names, of at most so many bytes.
 pub const NAME_LIMIT: u8 = 64;

@@ -1,4 +1,4 @@
--- Which two names in succession lead on from each group, as sets of 16 bits: the names of a set by their low two bits, one arc
+-- Which two names in succession can be walked from each group, as sets of 16 bits: the names of a set by their low two bits, one arc
 -- more, that sets of one bit have it in common, and why one name in common is in both sets of names and two in succession are a
 -- bit in common. Assumes nothing.
 use mathlib.Core.Path.{_≡_, refl, sym, ap, _∙_, subst, subst₂}

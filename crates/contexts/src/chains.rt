@@ -1,10 +1,10 @@
 // The sweep: groups with the same last names out of which m names in succession lead in common are joined. Arcs are compared, the
 // first of each name out of each group, by classes. The sources of two arcs of a class have the same last names, and are joined
-// where m - 1 names lead on after both arcs. An arc goes by the state that it leads into.
+// where m - 1 names in succession can be walked after both arcs. An arc goes by the state that it leads into.
 //
-// Most pairs are left out: an arc is near where fewer than m - 1 arcs lead on from where it leads to a group that has grown since
-// the last sweep, else far, and what leads on from two far arcs was compared by the last sweep. So the chain of a class has its
-// near arcs alone; each of them is compared with those before it, and each far arc with all of them.
+// Most pairs are left out: an arc is near where a group that has grown since the last sweep is fewer than m - 1 arcs after it, else
+// far, and what can be walked after two far arcs was compared by the last sweep. So the chain of a class has its near arcs alone;
+// each of them is compared with those before it, and each far arc with all of them.
 use base::limits::NO_STATE;
 use base::limits::STATE_LIMIT;
 use base::numbers::narrow16;

@@ -1,4 +1,4 @@
-// How near each group is to one that has grown since an earlier partition, in arcs: from there on the names that lead on may be
+// How near each group is to one that has grown since an earlier partition, in arcs: from there on the names that can be walked may be
 // others than they were. A group goes by its label, an arc by the state that it leads into.
 use base::limits::STATE_LIMIT;
 use base::numbers::narrow8;

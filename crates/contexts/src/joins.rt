@@ -1,5 +1,5 @@
 // The comparisons of a sweep, and the joins that they lead to. Each arc is compared with those further down its chain; where m - 1
-// names in succession lead on after both, their sources are joined, and forks are closed at once, so that what comes later is
+// names in succession can be walked after both, their sources are joined, and forks are closed at once, so that what comes later is
 // looked for among groups that are as large as they can be. The chains stay those of the groups at the beginning of the sweep.
 use crate::ahead::names_ahead;
 use crate::chains::link_arcs;
@@ -24,7 +24,7 @@ ghost use Rattle.partition.specs.Forests.{rootsOf};
 ghost use Rattle.worklist.specs.Forks.{Kept};
 ghost use Rattle.contexts.specs.Joins.{Live, Apart, Comparing, Chains, PairJoined, ChainJoined, PairsJoined, SweptBy};
 
-// Whether the groups that arcs v and w led into at first tell by their sets that no names lead on after both.
+// Whether the groups that arcs v and w led into at first tell by their sets that no names can be walked after both.
 fn apart(v: usize, w: usize, old: &[u16], next: &[u64], ahead: &[u16; STATE_LIMIT]) -> bool
     requires labelled { ⌜ Labelled (length (now old)) (now old) ⌝ }
     requires few { ⌜ length (now old) ≤ state-limit ⌝ }
@@ -41,8 +41,8 @@ fn apart(v: usize, w: usize, old: &[u16], next: &[u64], ahead: &[u16; STATE_LIMI
     next[into] & next[other] == 0
 }
 
-// Joins the sources of arcs v and w where j names in succession lead on after both, and closes forks; true where they were in two
-// groups. The sets of the groups at first tell most pairs apart; what leads on is looked for among the groups as they are.
+// Joins the sources of arcs v and w where j names in succession can be walked after both, and closes forks; true where they were in
+// two groups. The sets of the groups at first tell most pairs apart; the names are looked for among the groups as they are.
 fn join_pair(
     j: usize,
     v: usize,
@@ -100,7 +100,7 @@ fn join_pair(
     true
 }
 
-// Joins the source of arc v with those of the arcs further down its chain after which j names in succession lead on as after v;
+// Joins the source of arc v with those of the arcs further down its chain after which j names in succession can be walked as after v;
 // true where anything was joined.
 fn join_chain(
     j: usize,

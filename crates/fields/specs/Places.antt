@@ -93,7 +93,7 @@ abbrev pub Turned : FileKind → List ℕ → Place → Step → Type 0
 Turned kind s p (step.Go q) = Goes kind s p q
 Turned kind s p (step.Refused k) = RefusedAt kind s p k
 
--- what an answer stands for: document 01's number, and the file
+-- what an answer stands for: the refusal's number, and the file
 abbrev pub answerOf : List ℕ → Fields → Read
 answerOf s (fields.Accepted p) = accepted-file (fileOf s p)
 answerOf s (fields.Refused k) = refused k

@@ -53,7 +53,7 @@ pub struct Settings {
     pub second: u8,
 }
 
-// The settings of document 01: context, k = 2, h = 1.
+// The settings of docs/SCOPE.md, section 3.5: context, k = 2, h = 1.
 pub const STANDARD: Settings = Settings {
     kind: CONTEXT_KIND,
     first: 2,

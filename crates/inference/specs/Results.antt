@@ -1,4 +1,4 @@
--- What is given back for an accepted book (document 01, "What is given back"): 10, then 13, and where neither is the table's bytes in the
+-- What is given back for an accepted book (docs/SCOPE.md, section 4): 10, then 13, and where neither is the table's bytes in the
 -- output, their number, the states and the joins. Assumes nothing.
 use mathlib.Core.List.{List, [], _∷_}
 use Prim.Native.Nat.{ℕ}

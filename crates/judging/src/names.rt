@@ -1,11 +1,11 @@
 // Names: which bytes they have, their order, and the refusals 5, 6 and 7; and the n-th of them, by its number.
+use crate::offsets::body;
+use crate::offsets::next_field;
 use base::limits::BAD_NAME;
 use base::limits::NAME_BYTES;
 use base::limits::NAME_LIMIT;
 use base::limits::NAME_ORDER;
 use base::limits::TOO_MANY;
-use crate::offsets::body;
-use crate::offsets::next_field;
 ghost use mathlib.Core.Path.{_≡_};
 ghost use Prim.Native.Nat.{_≤_};
 ghost use lib.ListN.{length};

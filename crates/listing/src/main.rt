@@ -1,4 +1,4 @@
-// The listing program (document 01, "Worked days"): reads a book from standard input and prints its listing,
+// The listing program (docs/SCOPE.md, section 8): reads a book from standard input and prints its listing,
 // or `refused` and the refusal's number. Given arguments, it says how it is used, and reads nothing.
 use libc::STDERR_FILENO;
 use libc::STDIN_FILENO;

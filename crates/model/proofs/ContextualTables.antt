@@ -198,7 +198,7 @@ module _ (c : Class) (rows : List Word) (groups : List ℕ) (joined : Joined c r
       ts : List Transition
       ts = transitionsOf nodes groups
 
-      -- the rest of the names leads on from the group after the i-th
+      -- the rest of the names can be walked from the group after the i-th
       onward :
           (from at to i : ℕ) (a : Word) → Walks ts from (take i a) at → Walks ts from a to → Walks ts at (drop i a) to
       onward from at to i a f g =

@@ -53,6 +53,6 @@ pub mod ContextualRows
 pub mod Samples
 pub mod Identified
 pub mod Sources
--- tables that admit rows of bounded length only, and the worked days of document 01
+-- tables that admit rows of bounded length only, and the worked days of docs/SCOPE.md
 pub mod Walkable
 pub mod WorkedDays

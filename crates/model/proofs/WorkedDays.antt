@@ -1,4 +1,4 @@
--- The worked days hold: what document 01's table of days, its notes and its listing say is so of the definitions. In order: the
+-- The worked days hold: what the days, notes and listing of docs/SCOPE.md say is so of the definitions. In order: the
 -- tests that compute, all in one lemma, whose line `unfolding` names every definition that computes; the default class, told by
 -- Q3's states; and the theorem. Assumes nothing.
 use mathlib.Core.Path.{_≡_, refl, sym, ap, ap₂, _∙_, subst}
@@ -153,7 +153,7 @@ default-told settings ok e = class-told (settings .default-class) ok e
 
 -- ---- the theorem
 
--- document 01's days, and all that is claimed of them
+-- the days of docs/SCOPE.md, section 10, and all that is claimed of them
 pub worked-days-hold : DaysClaimed
 unfolding isExact
 worked-days-hold =

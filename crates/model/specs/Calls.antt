@@ -1,4 +1,4 @@
--- What is given back (document 01): what every call says of its answer and of each lent byte; then which refusal a build, a
+-- What is given back (docs/SCOPE.md, section 4): what every call says of its answer and of each lent byte; then which refusal a build, a
 -- rewriting and a walk come to, in the order in which they are judged, and what is written where there is none. The crate `plans`
 -- puts the two together, one definition for each public entry. Assumes nothing.
 use mathlib.Core.Path.{_≡_}

@@ -1,4 +1,4 @@
--- The two families (document 01): (k,h)-contextual sets of words, after Ahonen, and f-distinguishable ones, after Fernau.
+-- The classes (docs/SCOPE.md, section 6): (k,h)-contextual sets of words, after Ahonen, and f-distinguishable ones, after Fernau.
 -- A word is a row of any length. A set of words is any predicate, finite or not, whether or not an automaton carries it.
 -- Assumes nothing.
 use mathlib.Core.Path.{_≡_}

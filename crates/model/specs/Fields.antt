@@ -1,4 +1,4 @@
--- Fields of books and tables (document 01, "Fields"), read in file order with refusals 2 to 9 and 11. One reading serves both
+-- Fields of books and tables (docs/SCOPE.md, section 3), read in file order with refusals 2 to 9 and 11. One reading serves both
 -- kinds of file. Names, rows and state fields are lists of bytes; what a state field means is in Tables. Assumes nothing.
 use mathlib.Core.Path.{_≡_}
 use mathlib.Core.Bool.{Bool, true, false, _&&_, _||_, not, cond}
@@ -44,7 +44,7 @@ pub record Settings : Type 0 where
 abbrev pub Allowed : Settings → Type 0
 Allowed settings = ClassOk (settings .default-class)
 
--- the settings of document 01: context, k = 2, h = 1
+-- the settings of docs/SCOPE.md, section 3.5: context, k = 2, h = 1
 abbrev pub standard : Settings
 standard = record { default-class = class-of context-kind 2 1 }
 

@@ -1,4 +1,4 @@
--- The prefix tree of a book's rows and its joinings (document 01, "Both" and "A joining"; in the literature: state merging of
+-- The prefix tree of a book's rows and its joinings (docs/SCOPE.md, section 7; in the literature: state merging of
 -- the prefix-tree acceptor). A tree state is the word that leads to it. A partition of the tree's states into groups is a list
 -- that gives each state, in the tree's order, the number of its group. Assumes nothing.
 use mathlib.Core.Path.{_≡_}

@@ -1,4 +1,4 @@
--- The listing of a book (document 01, "Worked days") as bytes; then the text that the listing program prints, a refusal's included.
+-- The listing of a book (docs/SCOPE.md, section 8) as bytes; then the text that the listing program prints, a refusal's included.
 -- Assumes nothing.
 use mathlib.Core.Bool.{true, false, cond}
 use mathlib.Core.List.{List, [], _∷_, _++_, flatMap}

@@ -1,4 +1,4 @@
--- The automaton of a partition, the quotient of the prefix tree, its states numbered first-met (document 01, "Numbering"):
+-- The automaton of a partition, the quotient of the prefix tree, its states numbered first-met (docs/SCOPE.md, section 7.4):
 -- the table of a joining and of a book. Assumes nothing.
 use mathlib.Core.Bool.{true, false, cond}
 use mathlib.Core.List.{List, [], _∷_, _++_, map}

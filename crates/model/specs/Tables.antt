@@ -1,5 +1,5 @@
 -- Tables: deterministic automata as lists of states, written as fields, read back from them, checked for first-met numbering,
--- and walked (document 01, "Fields" and "Walking a row"). State 0 is the start. Assumes nothing.
+-- and walked (docs/SCOPE.md, sections 3 and 5). State 0 is the start. Assumes nothing.
 use mathlib.Core.Bool.{Bool, true, false, _&&_, cond}
 use mathlib.Core.List.{List, [], _∷_, _++_, map, flatMap}
 use Prim.Native.Nat.{ℕ, zero, suc, _+_, _-_, _*_, _/_, _%_, _^_, _≤_}

@@ -1,4 +1,4 @@
--- The worked days (document 01): twelve days over four names, and three more, each with its book's bytes and what they come to,
+-- The worked days (docs/SCOPE.md, section 10): twelve over four names, and three more, each with its book's bytes and what they come to,
 -- written out; the example book of the listing; one test that compares everything written here with what the definitions
 -- compute; and what is claimed of the days: that test, rows of any length, and the default class. `worked-days-hold` of
 -- proofs/WorkedDays.antt proves it all. Byte values of names and text are hexadecimal, sets of names binary (s l d b from the
@@ -478,7 +478,7 @@ P12 =
           remark (s ∷ s ∷ s ∷ []) stops 2 (s ∷ s ∷ []) 0b0000 0 ∷ [];
     }
 
--- the twelve days that document 01 marks P
+-- the twelve days that docs/SCOPE.md (section 10) marks P
 abbrev pub workedDays : List Day
 workedDays = P1 ∷ P2 ∷ P3 ∷ P4 ∷ P5 ∷ P6 ∷ P7 ∷ P8 ∷ P9 ∷ P10 ∷ P11 ∷ P12 ∷ []
 
@@ -678,7 +678,7 @@ dayHolds day =
     && isFullJoining (f .class-is) (f .items) (day .joining)
     && same (tableAfter f (day .joining)) (day .table-bytes)
 
--- the example book is accepted and read as it should be; its table and its listing are those printed in document 01
+-- the example book is accepted and read as it should be; its table and its listing are those printed in docs/SCOPE.md, section 8
 unfoldable pub exampleHolds : Bool
 exampleHolds =
     eqb (bookFault standard example-book) 0

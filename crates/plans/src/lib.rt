@@ -3,9 +3,9 @@
 // it was where it refuses.
 pub mod printing;
 
+use base::cells::clear;
 use book_calls::building;
 use book_calls::listing;
-use base::cells::clear;
 use fields::STANDARD;
 use results::Built;
 use results::Walked;

@@ -1,5 +1,5 @@
 -- The prefix tree as it grows in lent arrays. In order: the arrays, the tree that they hold so far, and what each function
--- promises: a child looked up, a state appended, one step, one row, and all rows, with document 01's number for the answer. Assumes
+-- promises: a child looked up, a state appended, one step, one row, and all rows, with the refusal's number for the answer. Assumes
 -- nothing.
 use mathlib.Core.Path.{_≡_}
 use mathlib.Core.Logic.{_↔_}
@@ -148,7 +148,7 @@ pub record RowBelow (row : Word) : Type 0 where
 abbrev pub RowsBelow : List Word → Type 0
 RowsBelow rows = (row : Word) → In row rows → RowBelow row
 
--- document 01's number for an answer, 0 for none
+-- the refusal's number for an answer, 0 for none
 abbrev pub numberOf : Tree → ℕ
 numberOf (tree.Built n) = 0
 numberOf tree.TooLarge = tree-too-large

@@ -1,4 +1,4 @@
--- What the public entries say (document 01, "What is given back", "Walking a row" and the listing of "Worked days"): each entry is one
+-- What the public entries say (docs/SCOPE.md, sections 4, 5 and 8): each entry is one
 -- call in the shape of model's Calls, so that its result and every lent byte are equal to what a definition of `model` gives.
 -- Assumes nothing.
 use mathlib.Core.Path.{_≡_}

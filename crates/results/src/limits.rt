@@ -1,4 +1,4 @@
-// The sizes of outputs that a caller may lend, which follow from document 01's limits.
+// The sizes of outputs that a caller may lend, which follow from the limits of docs/SCOPE.md, section 9.
 
 // A book's table has at most so many bytes: table-bytes of model/proofs/WrittenLengths.
 pub const TABLE_BYTES: usize = 5830;

@@ -1,6 +1,6 @@
 // A table rewritten, before the working area is cleared: an accepted table is copied, since it is written to the same bytes.
-use results::Built;
 use base::limits::OUTPUT_TOO_SHORT;
+use results::Built;
 use results::not_built;
 use tables::Accepted;
 use tables::open_table;

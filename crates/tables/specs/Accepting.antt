@@ -45,7 +45,7 @@ pub record TableAt (s work : List ℕ) (p : Place) : Type 0 where
   pub kept-offsets : (i : ℕ) → i < p .items → cellAt work i 0 ≡ offsetAt s (p .start) i
   pub ready : Ready s work
 
--- document 01's number for an answer, 0 for none
+-- the refusal's number for an answer, 0 for none
 abbrev pub numberOf : Accepted → ℕ
 numberOf (answer.Table p) = 0
 numberOf (answer.Refused k) = k

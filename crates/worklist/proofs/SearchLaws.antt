@@ -1,5 +1,5 @@
 -- Laws of the search on two lists of arcs: both are followed by ascending name, and every pair of arcs of one name after which
--- enough names lead on is still to come; at the end of a list there is none. Assumes nothing.
+-- enough names can be walked is still to come; at the end of a list there is none. Assumes nothing.
 use mathlib.Core.Path.{_≡_, refl, sym, ap, _∙_, subst, subst₂}
 use mathlib.Core.Logic.{_⊎_, ⊎-elim}
 use mathlib.Core.List.{List}
@@ -16,7 +16,7 @@ use Rattle.worklist.specs.Forks.{ForkLists}
 use Rattle.worklist.specs.Searches.{Past, ShareAfter}
 use Rattle.worklist.proofs.ListLaws.{same-at, left, next-after, follow-less}
 
--- only the groups of two states tell whether names lead on in common
+-- only the groups of two states tell whether names can be walked in common
 pub share-groups :
     (n : ℕ) (parents names groups : List ℕ) (j v w v′ w′ : ℕ) → getD groups v 0 ≡ getD groups v′ 0 →
     getD groups w 0 ≡ getD groups w′ 0 → Share n parents names groups j v w → Share n parents names groups j v′ w′
@@ -24,7 +24,7 @@ share-groups n parents names groups zero v w v′ w′ e f share = tt
 share-groups n parents names groups (suc j) v w v′ w′ e f (x, y, hx, hy, ix, iy, name, from-x, from-y, share) =
     (x, y, hx, hy, ix, iy, name, from-x ∙ e, from-y ∙ f, share)
 
--- no name leads on in any case
+-- no name can be walked in any case
 pub share-none : (n : ℕ) (parents names groups : List ℕ) (j v w : ℕ) → j ≡ 0 → Share n parents names groups j v w
 share-none n parents names groups zero v w none = tt
 share-none n parents names groups (suc j) v w none = absurd (omega arith)
@@ -69,7 +69,7 @@ module _
       ⊎-elim (λ (lower : getD names u 0 ≤ name). omega (arith, past-less lower))
       (λ (higher : name < getD names u 0). omega (arith, ap (left names) (past .stays higher))) (le-or-lt (getD names u 0) name)
 
--- lists x and y followed up to one name: each pair of arcs of theirs that has one name, after which i names lead on, is still to
+-- lists x and y followed up to one name: each pair of arcs of theirs that has one name, after which i names can be walked, is still to
 -- come
 pub record Walking (n : ℕ) (parents names groups rows : List ℕ) (i x y p q : ℕ) : Type 0 where
   pub from : ℕ

@@ -15,7 +15,7 @@ ghost use Rattle.partition.specs.Forests.{Forest, rootsOf};
 ghost use Rattle.worklist.specs.Forks.{ForkLists};
 ghost use Rattle.worklist.specs.Searches.{Past, ShareAfter};
 
-// Where a list leads on from arc u, plus one: after it where its name is no higher than another, else at it.
+// Where a list goes on from arc u, plus one: after it where its name is no higher than another, else at it.
 fn past(u: usize, name: u8, names: &[u8], links: &[u16; STATE_LIMIT]) -> usize
     requires inside { ⌜ u < length (now names) ⌝ }
     requires few { ⌜ length (now names) ≤ state-limit ⌝ }
@@ -27,7 +27,7 @@ fn past(u: usize, name: u8, names: &[u8], links: &[u16; STATE_LIMIT]) -> usize
     u + 1
 }
 
-// Whether two arcs have one name and after both j - 1 more names lead on in succession.
+// Whether two arcs have one name and after both j - 1 more names can be walked in succession.
 fn lead_after(
     j: usize,
     u: usize,
