@@ -9,9 +9,10 @@
  * What holds of every call:
  * - Every buffer is the caller's, before and after. Nothing is allocated, nothing is kept between calls, and a call writes to no
  *   memory but the buffers that its comment says it writes.
- * - A buffer that a call writes must not overlap another buffer of that call. This is the caller's one duty: a call cannot see it,
- *   and nothing is promised where it is not kept. Buffers that are only read may overlap.
  * - A buffer is given by its first byte and its length in bytes; where the length is 0 the pointer is not read, and may be null.
+ * - The caller's duties, which a call cannot see, and without which nothing is promised: each buffer has the length that is said; a
+ *   buffer that a call writes overlaps no other buffer of that call (those that are only read may overlap); and nobody else touches
+ *   the buffers during the call.
  * - Any bytes may be passed as book, table and row: what is wrong with them is told by a refusal.
  * - The working area is of PLANS_WORK_BYTES or more. What it holds before the call does not matter. After the call every byte of
  *   it is 0, also where the call is refused, and also where the area was too short.

@@ -29,7 +29,7 @@ bytes-parts [] ys h = (tt, h)
 bytes-parts (x ∷ xs) ys h = let r = bytes-parts xs ys (h .1) in ((h .0, r .0), r .1)
 
 -- a field as it was read
-field-again :
+pub field-again :
     (mark a b : ℕ) (body rest : List ℕ) → length body ≡ 256 * a + b → b < 256 →
     mark ∷ (a ∷ (b ∷ (body ++ rest))) ≡ fieldBytes mark body ++ rest
 unfolding fieldBytes
@@ -39,7 +39,7 @@ field-again mark a b body rest size low =
     ap₂ (λ (x y : ℕ). mark ∷ (x ∷ (y ∷ (body ++ rest)))) high-byte low-byte
 
 -- fields with one more at the end
-fields-more :
+pub fields-more :
     (mark : ℕ) (bodies : List (List ℕ)) (body rest : List ℕ) →
     flatMap (fieldBytes mark) (bodies ++ (body ∷ [])) ++ rest ≡ flatMap (fieldBytes mark) bodies ++ (fieldBytes mark body ++ rest)
 unfolding flatMap
@@ -48,6 +48,14 @@ fields-more mark (n ∷ bodies) body rest =
     append-assoc (fieldBytes mark n) (flatMap (fieldBytes mark) (bodies ++ (body ∷ []))) rest
     ∙ ap (λ (z : List ℕ). fieldBytes mark n ++ z) (fields-more mark bodies body rest)
     ∙ sym (append-assoc (fieldBytes mark n) (flatMap (fieldBytes mark) bodies) (fieldBytes mark body ++ rest))
+
+-- what a field does to a file and to what is left, for the mark as it was read
+pub at-mark :
+    (P : File → List ℕ → Type 0) (f : File) (a b : ℕ) (body rest : List ℕ) (mark m : ℕ) → mark ≡ m →
+    (P f (m ∷ (a ∷ (b ∷ (body ++ rest)))) → P (withField f m body) rest) →
+    P f (mark ∷ (a ∷ (b ∷ (body ++ rest)))) → P (withField f mark body) rest
+at-mark P f a b body rest mark m e step h =
+    subst (λ (z : ℕ). P (withField f z body) rest) (sym e) (step (subst (λ (z : ℕ). P f (z ∷ (a ∷ (b ∷ (body ++ rest))))) e h))
 
 -- a class field holds its class
 class-again : (body : List ℕ) → classOk body ≡ true → classField (classFrom body) ≡ fieldBytes 2 body
@@ -136,23 +144,14 @@ module _ (s : List ℕ) (f : File) (a b : ℕ) (body rest : List ℕ) (size : le
             (List·Memᴰ·append-cases (f .items) m);
       }
 
-  -- for the mark as it was read
-  at-mark :
-      (mark m : ℕ) → mark ≡ m →
-      (Rewrites s f (m ∷ (a ∷ (b ∷ (body ++ rest)))) → Rewrites s (withField f m body) rest) →
-      Rewrites s f (mark ∷ (a ∷ (b ∷ (body ++ rest)))) → Rewrites s (withField f mark body) rest
-  at-mark mark m e step h =
-      subst (λ (z : ℕ). Rewrites s (withField f z body) rest) (sym e)
-      (step (subst (λ (z : ℕ). Rewrites s f (z ∷ (a ∷ (b ∷ (body ++ rest))))) e h))
-
   -- so it does after any field without a fault
   table-step :
       (mark : ℕ) → Fitting table f mark body → Rewrites s f (mark ∷ (a ∷ (b ∷ (body ++ rest)))) →
       Rewrites s (withField f mark body) rest
-  table-step mark (a-name e low fits) h = at-mark mark 1 e (with-name low) h
-  table-step mark (a-class e at fits) h = at-mark mark 2 e (with-class at fits) h
+  table-step mark (a-name e low fits) h = at-mark (Rewrites s) f a b body rest mark 1 e (with-name low) h
+  table-step mark (a-class e at fits) h = at-mark (Rewrites s) f a b body rest mark 2 e (with-class at fits) h
   table-step mark (a-row k e high fits) h = absurd (true≢false k)
-  table-step mark (a-state k e high fits) h = at-mark mark 4 e (with-state high fits) h
+  table-step mark (a-state k e high fits) h = at-mark (Rewrites s) f a b body rest mark 4 e (with-state high fits) h
 
 -- before the first field
 nothing-read : (s : List ℕ) → Bytes s → Rewrites s (unread (standard .default-class)) s
