@@ -1,5 +1,5 @@
 -- What is given back (docs/SCOPE.md, section 4): what every call says of its answer and of each lent byte; then which refusal a build, a
--- rewriting and a walk come to, in the order in which they are judged, and what is written where there is none. The crate `plans`
+-- rewriting and a walk come to, in the order in which they are judged, and what is written where there is none. The crate `results`
 -- puts the two together, one definition for each public entry. Assumes nothing.
 use mathlib.Core.Path.{_≡_}
 use mathlib.Core.Bool.{Bool, true, false, _||_, not, cond}
