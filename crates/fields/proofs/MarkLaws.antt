@@ -43,9 +43,9 @@ module _ (kind : FileKind) (s : List ℕ) (p : Place) where
   by-mark r mark fault m e h = rw (m, e) h
 
   pub name-arm : (r : Step) → getD s (p .at) 0 ≡ 1 → p .stage ≤ 1
-      → StepBy nameFault 1 s p r → FieldStep kind s p r
+      → StepBy (λ f. nameFault (f .names)) 1 s p r → FieldStep kind s p r
   unfolding fieldFault
-  name-arm r m h = by-mark r 1 (nameFault (fileOf s p) (bodyAt s (p .at))) m (rw (le-leb (p .stage) 1 h))
+  name-arm r m h = by-mark r 1 (nameFault (fileOf s p .names) (bodyAt s (p .at))) m (rw (le-leb (p .stage) 1 h))
 
   pub class-arm : (r : Step) → getD s (p .at) 0 ≡ 2 → p .stage ≡ 1
       → StepBy (λ _. classFault) 2 s p r → FieldStep kind s p r

@@ -100,14 +100,14 @@ module _ (s : List ℕ) (p : Place) (whole : Whole s p) where
         some-items = λ (g : 3 ≤ 1). let z : ⊥ = omega arith in absurd z;
       }
 
-  name-grows : p .stage ≤ 1 → nameFault (fileOf s p) (bodyAt s (p .at)) ≡ 0
-      → Grown s p (nameFault (fileOf s p) (bodyAt s (p .at))) (withField (fileOf s p) 1 (bodyAt s (p .at)))
+  name-grows : p .stage ≤ 1 → nameFault (fileOf s p .names) (bodyAt s (p .at)) ≡ 0
+      → Grown s p (nameFault (fileOf s p .names) (bodyAt s (p .at))) (withField (fileOf s p) 1 (bodyAt s (p .at)))
       (namePlace p (nextAt s (p .at)) (lengthAt s (p .at)))
   unfolding withField fieldsAt
   name-grows h e =
       record {
         no-fault = e;
-        sound = name-sound h (omega (arith, name-fits (fileOf s p) (bodyAt s (p .at)) e .few, length-fields s 0 (p .names)));
+        sound = name-sound h (omega (arith, name-fits (fileOf s p .names) (bodyAt s (p .at)) e .few, length-fields s 0 (p .names)));
         file-is = rw (names-more h, no-items-yet (omega arith));
         after = refl;
       }
@@ -171,18 +171,18 @@ refuses-some fault number e n = record { is = e; some = omega arith }
 -- What the code has at hand after judging a field: the field's bytes, its fault, where the next field begins. Of a name:
 module _ (s : List ℕ) (p : Place) (whole : Whole s p) (name : List ℕ) (fault : ℕ) (bytes : name ≡ bodyAt s (p .at))
     (judged : NameJudged (take (p .last + p .width - p .last) (drop (p .last) s)) (p .names) name fault) where
-  name-fault-is : nameFault (fileOf s p) (bodyAt s (p .at)) ≡ fault
+  name-fault-is : nameFault (fileOf s p .names) (bodyAt s (p .at)) ≡ fault
   name-fault-is =
       let q : p .last + p .width - p .last ≡ p .width = omega arith in
       let last : lastOr [] (fieldsAt s 0 (p .names)) ≡ take (p .last + p .width - p .last) (drop (p .last) s) =
       rw q (whole .sound .last-is) in
-      subst (λ (b : List ℕ). nameFault (fileOf s p) b ≡ fault) bytes (judged .is (fileOf s p) last (length-fields s 0 (p .names)))
+      subst (λ (b : List ℕ). nameFault (fileOf s p .names) b ≡ fault) bytes (judged .is (fileOf s p .names) last (length-fields s 0 (p .names)))
 
-  pub name-refused : (fault ≡ 0 → ⊥) → Refuses (nameFault (fileOf s p) (bodyAt s (p .at))) fault
-  name-refused n = refuses-some (nameFault (fileOf s p) (bodyAt s (p .at))) fault name-fault-is n
+  pub name-refused : (fault ≡ 0 → ⊥) → Refuses (nameFault (fileOf s p .names) (bodyAt s (p .at))) fault
+  name-refused n = refuses-some (nameFault (fileOf s p .names) (bodyAt s (p .at))) fault name-fault-is n
 
   pub name-goes : (next : ℕ) → next ≡ nextAt s (p .at) → p .stage ≤ 1 → fault ≡ 0
-      → Grown s p (nameFault (fileOf s p) (bodyAt s (p .at))) (withField (fileOf s p) 1 (bodyAt s (p .at)))
+      → Grown s p (nameFault (fileOf s p .names) (bodyAt s (p .at))) (withField (fileOf s p) 1 (bodyAt s (p .at)))
       (namePlace p next (length name))
   name-goes next n h e = rw (n, bytes, length-body s (p .at) (whole .fits)) (name-grows s p whole h (name-fault-is ∙ e))
 

@@ -76,7 +76,7 @@ pub enum Fields {
 fn name_field(s: &[u8], p: Place) -> Step
     requires { ⌜ Whole (now s) p ⌝ }
     requires { ⌜ p .stage ≤ names-met ⌝ }
-    ensures { λ r. ⌜ StepBy nameFault name-mark (now (s .entry)) p r ⌝ }
+    ensures { λ r. ⌜ StepBy (λ f. nameFault (f .names)) name-mark (now (s .entry)) p r ⌝ }
 {
     let at = p.at;
     let last = p.last;

@@ -1,19 +1,13 @@
 -- Items, that is rows and states: what refuses one, by how many there may be and by the test of its bytes. Assumes nothing.
 use mathlib.Core.Path.{_≡_}
-use mathlib.Core.Bool.{Bool, true, false, not}
+use mathlib.Core.Bool.{Bool, true, false}
 use mathlib.Core.List.{List}
 use Prim.Native.Nat.{ℕ, _≤_, _<_}
 use borrow.Author.Tests.{le-leb, lt-leb}
-use lib.Dec.{leb}
 use lib.ListN.{length}
-use Rattle.base.specs.Limits.{too-many, when, firstOf}
-use Rattle.model.specs.Fields.{File}
+use Rattle.base.specs.Limits.{too-many}
+use Rattle.model.specs.Fields.{File, itemFault}
 use Rattle.judging.specs.Judged.{ItemJudged}
-
--- rowFault is this of book-rows, rowOk and bad-row, stateFault of state-limit, stateOk and bad-state
-abbrev pub itemFault : ℕ → (ℕ → List ℕ → Bool) → ℕ → File → List ℕ → ℕ
-itemFault limit ok bad f item =
-    firstOf (when (leb limit (length (f .items))) too-many) (when (not (ok (length (f .names)) item)) bad)
 
 module _ (limit : ℕ) (ok : ℕ → List ℕ → Bool) (bad names count : ℕ) (item : List ℕ) where
   pub item-too-many : limit ≤ count → ItemJudged (itemFault limit ok bad) names count item too-many

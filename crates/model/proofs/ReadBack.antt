@@ -36,8 +36,7 @@ reads-name :
     ReadsTo (file 1 (names ++ (body ∷ [])) c []) rest r → ReadsTo (file stage names c []) (fieldBytes 1 body ++ rest) r
 unfolding fieldFault withField
 reads-name stage names c body rest r low fits again =
-    let f = file stage names c [] in
-    reads-field f 1 body rest r (rw (le-leb stage 1 low, fits-name f body fits)) again
+    reads-field (file stage names c []) 1 body rest r (rw (le-leb stage 1 low, fits-name names body fits)) again
 
 -- at least one name is among those read and these
 reads-names :

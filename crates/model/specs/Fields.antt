@@ -125,12 +125,12 @@ unfoldable pub above : List (List ℕ) → List ℕ → Bool
 above [] b = true
 above (n ∷ names) b = before (lastOr n names) b
 
--- one more name: 5, 6 and 7, 0 for no fault
-unfoldable pub nameFault : File → List ℕ → ℕ
-nameFault f body =
+-- one more name after those so far: 5, 6 and 7, 0 for no fault
+unfoldable pub nameFault : List (List ℕ) → List ℕ → ℕ
+nameFault names body =
     firstOf (when (not (nameOk body)) bad-name)
-    (firstOf (when (not (above (f .names) body)) name-order)
-    (when (leb name-limit (length (f .names))) too-many))
+    (firstOf (when (not (above names body)) name-order)
+    (when (leb name-limit (length names)) too-many))
 
 -- a class: 8
 unfoldable pub classFault : List ℕ → ℕ
@@ -140,17 +140,18 @@ classFault body = when (not (classOk body)) bad-class
 abbrev pub rowOk : ℕ → List ℕ → Bool
 rowOk n body = leb (length body) row-limit && allBelow n body
 
+-- one more item, a row or a state: 7 where there are as many as the limit, then its own refusal where it is not allowed
+abbrev pub itemFault : ℕ → (ℕ → List ℕ → Bool) → ℕ → File → List ℕ → ℕ
+itemFault limit ok bad f body =
+    firstOf (when (leb limit (length (f .items))) too-many) (when (not (ok (length (f .names)) body)) bad)
+
 -- one more row: 7 and 9
 unfoldable pub rowFault : File → List ℕ → ℕ
-rowFault f body =
-    firstOf (when (leb book-rows (length (f .items))) too-many)
-    (when (not (rowOk (length (f .names)) body)) bad-row)
+rowFault f body = itemFault book-rows rowOk bad-row f body
 
 -- one more state: 7 and 11
 unfoldable pub stateFault : File → List ℕ → ℕ
-stateFault f body =
-    firstOf (when (leb state-limit (length (f .items))) too-many)
-    (when (not (stateOk (length (f .names)) body)) bad-state)
+stateFault f body = itemFault state-limit stateOk bad-state f body
 
 -- the mark decides how a field is read: one choice for each mark, the last also for every number that is none
 abbrev pub byMark : {A : Type 0} → ℕ → A → A → A → A → A
@@ -161,7 +162,7 @@ byMark mark name class row state =
 unfoldable pub fieldFault : FileKind → File → ℕ → List ℕ → ℕ
 fieldFault kind f mark body =
     firstOf (when (not (mayCome kind (f .stage) mark)) misplaced)
-    (byMark mark (nameFault f body) (classFault body) (rowFault f body) (stateFault f body))
+    (byMark mark (nameFault (f .names) body) (classFault body) (rowFault f body) (stateFault f body))
 
 -- the file with one field more
 unfoldable pub withField : File → ℕ → List ℕ → File
