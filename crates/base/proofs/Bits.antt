@@ -1,13 +1,12 @@
 -- The bits of a number: of a number with one bit set besides, that numbers with the same bits are equal, the bits that two numbers
--- have in common, the bits of a shifted number, and numbers with one bit. Assumes nothing.
+-- have in common, and the bits of a shifted number. Assumes nothing.
 use mathlib.Core.Path.{_≡_, refl, sym, ap, _∙_, subst}
 use mathlib.Core.Logic.{_⊎_, inl, inr, ⊎-elim, _↔_}
 use Prim.Native.Nat.{ℕ, zero, suc, _+_, _-_, _*_, _/_, _%_, _^_, _<_, _≤_, max, min}
 use native.Mathlib.Nat.{zero-add, suc-add, mul-one, one-mul, div-one, pow-suc, mod-eq-of-lt}
 use native.Mathlib.Numerals.{add-one, one-add}
 use native.Mathlib.Omega.{arith}
-use lib.Bits.{bitAnd, bitOr, and-step, and-self, or-step, shifted-half}
-use lib.Count.{ones, ones-step, ones-le}
+use lib.Bits.{bitAnd, bitOr, and-step, or-step, shifted-half}
 use lib.Pow.{field, mod-mod-pow, shr-shr, pow-lt}
 use Rattle.base.specs.Limits.{name-limit}
 use Rattle.base.specs.Bits.{bit}
@@ -196,21 +195,3 @@ pub shifted-one : (a : ℕ) → a < name-limit → 1 * 2 ^ a % 2 ^ 64 ≡ 2 ^ a
 shifted-one a h =
     let fits : 1 * 2 ^ a < 2 ^ 64 = omega (arith, pow-lt {i = a} {j = 64} h) in
     mod-eq-of-lt fits ∙ one-mul (2 ^ a)
-
--- a set that has nothing in common with the number before it has one name
-pub one-name : (n : ℕ) → 0 < n → bitAnd n (n - 1) ≡ 0 → ones n ≡ 1
-one-name n some apart = go n n (omega arith) some apart
-  where
-    go : (fuel m : ℕ) → m ≤ fuel → 0 < m → bitAnd m (m - 1) ≡ 0 → ones m ≡ 1
-    go zero m few some apart = let z : ⊥ = omega arith in absurd z
-    go (suc fuel) m few some apart =
-        ⊎-elim
-        (λ (even : m % 2 ≡ 0).
-        let half : (m - 1) / 2 ≡ m / 2 - 1 = omega arith in
-        let low : bitAnd (m / 2) (m / 2 - 1) ≡ 0 = omega (arith, and-step m (m - 1), ap (bitAnd (m / 2)) half) in
-        omega (arith, ones-step m, go fuel (m / 2) (omega arith) (omega arith) low))
-        (λ (odd : m % 2 ≡ 0 → ⊥).
-        let half : (m - 1) / 2 ≡ m / 2 = omega (arith, odd) in
-        let none : m / 2 ≡ 0 = omega (arith, odd, and-step m (m - 1), ap (bitAnd (m / 2)) half, and-self (m / 2)) in
-        omega (arith, odd, ones-step m, ap ones none, ones-le 0 0 (omega arith)))
-        (eq-dec (m % 2) 0)

@@ -12,16 +12,10 @@ pub fn lowest(names: u64) -> usize
     u64::trailing_zeros(names) as usize
 }
 
-// How many names a set has. Most states have one next name or none: such sets are told without counting.
+// How many names a set has.
 pub fn how_many(names: u64) -> usize
     ensures { λ r. ⌜ r ≡ ones names ⌝ }
 {
-    if names == 0 {
-        return 0;
-    }
-    if names & (names - 1) == 0 {
-        return 1;
-    }
     u64::count_ones(names) as usize
 }
 
