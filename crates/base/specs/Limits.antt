@@ -1,5 +1,5 @@
--- The numbers that docs/SCOPE.md fixes, each in one place: the limits, the marks of fields and the stages of reading them, the kinds of
--- classes, the ends of a walk, and the refusals (section 4.1). src/limits.rt has them by the same names.
+-- The numbers that docs/SCOPE.md fixes, each in one place: the limits and what follows from them, the marks of fields and the stages of
+-- reading them, the kinds of classes, the ends of a walk, and the refusals (section 4.1). src/limits.rt has them by the same names.
 -- Assumes nothing.
 use mathlib.Core.Bool.{Bool, true, false}
 use Prim.Native.Nat.{ℕ, zero, suc}
@@ -35,6 +35,19 @@ input-limit = 65535
 -- the shortest working area, in bytes
 abbrev pub work-bytes : ℕ
 work-bytes = 65536
+
+-- a class field has so many bytes
+abbrev pub class-bytes : ℕ
+class-bytes = 6
+
+-- a book's table has at most so many bytes: 64 names, the class, 512 states and as many arcs. It follows from the limits:
+-- `written-length` of model/proofs/Reading.antt
+abbrev pub table-bytes : ℕ
+table-bytes = 5830
+
+-- a book's listing has at most so many bytes, which follows too: `book-listing-length` of listings/proofs/Lengths.antt
+abbrev pub listing-bytes : ℕ
+listing-bytes = 32768
 
 -- numbers of two bytes are below this
 abbrev pub number-limit : ℕ
@@ -134,7 +147,7 @@ bad-state = 11
 abbrev pub bad-numbering : ℕ
 bad-numbering = 12
 
--- 13: the lent output is shorter than the table
+-- 13: the lent output is shorter than the table, or the lent text than the listing
 abbrev pub output-too-short : ℕ
 output-too-short = 13
 

@@ -24,6 +24,13 @@ pub const INPUT_LIMIT: usize = 65535;
 
 pub const WORK_BYTES: usize = 65536;
 
+// A class field has so many bytes; a book's table at most so many, and its listing.
+pub const CLASS_BYTES: usize = 6;
+
+pub const TABLE_BYTES: usize = 5830;
+
+pub const LISTING_BYTES: usize = 32768;
+
 // The marks of fields.
 pub const NAME_MARK: u8 = 1;
 

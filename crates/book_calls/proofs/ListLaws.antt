@@ -7,7 +7,7 @@ use Prim.Native.Nat.{ℕ, _≤_, _<_}
 use native.Mathlib.Omega.{arith}
 use borrow.Author.Tests.{le-ltb}
 use lib.ListN.{length, take}
-use Rattle.base.specs.Limits.{work-bytes, output-too-short}
+use Rattle.base.specs.Limits.{work-bytes, table-bytes, listing-bytes, output-too-short}
 use Rattle.model.specs.Fields.{Settings, Allowed, Read, readTable}
 use Rattle.model.specs.Tables.{State}
 use Rattle.model.specs.Quotients.{bookTable}
@@ -18,12 +18,11 @@ use Rattle.model.specs.Claims.{Accepted}
 use Rattle.model.proofs.FieldLaws.{first-of}
 use Rattle.model.proofs.CallLaws.{call-refused, refusal-is, fault-roomy, sizes-fit}
 use Rattle.model.proofs.CallLaws.{short-is, call-one-short, call-one-wrote, FrontOf, front-of}
-use Rattle.model.proofs.WrittenLengths.{table-bytes}
 use Rattle.model.proofs.Demands.{demands, book-writable, read-table, table-length}
 use Rattle.writing.specs.Writing as writing
 use Rattle.writing.proofs.WritingLaws.{written-from-zero}
 use Rattle.writing.specs.Writing.{Put}
-use Rattle.listings.proofs.Lengths.{listing-bytes, book-listing-length}
+use Rattle.listings.proofs.Lengths.{book-listing-length}
 use Rattle.results.specs.declared.Built.{Built}
 use Rattle.results.specs.declared.Written.{Written}
 use Rattle.results.specs.Says.{building, written, not-written, copying, listingBook}

@@ -2,12 +2,13 @@
 // which holds nothing more by then and takes every listing; from there it is copied to the text, where it fits.
 use crate::building;
 use base::limits::OUTPUT_TOO_SHORT;
+use base::limits::TABLE_BYTES;
 use fields::Fields;
 use fields::Settings;
 use fields::read_table;
 use listings::list_table;
 use results::Written;
-use results::limits::TABLE_BYTES;
+use results::not_written;
 use writing::copy_in;
 ghost use mathlib.Core.Path.{_≡_};
 ghost use mathlib.Core.List.{[], _∷_};
@@ -19,7 +20,7 @@ ghost use Rattle.model.specs.Listing.{listing};
 ghost use Rattle.model.specs.Calls.{Gives, tableOf, tableStates};
 ghost use Rattle.fields.specs.Places.{settingsOf};
 ghost use Rattle.writing.specs.Writing.{Fits, Put};
-ghost use Rattle.results.specs.Says.{not-written, copying, listingBook};
+ghost use Rattle.results.specs.Says.{copying, listingBook};
 
 // The listing of a table that was accepted, at the front of the text; its length.
 fn list_accepted(table: &[u8], joins: usize, text: &mut [u8]) -> usize
@@ -37,23 +38,13 @@ fn list_accepted(table: &[u8], joins: usize, text: &mut [u8]) -> usize
     }
 }
 
-// A refusal: nothing was written.
-fn refused(refusal: u8) -> Written
-    ensures { λ r. ⌜ r ≡ not-written refusal ⌝ }
-{
-    Written {
-        refusal: refusal,
-        length: 0,
-    }
-}
-
 // Refusal 13; otherwise the bytes stand at the front of the text.
 fn copy_out(bytes: &[u8], text: &mut [u8]) -> Written
     requires { ⌜ length (now bytes) ≤ work-bytes ⌝ }
     ensures { λ r. ⌜ Gives (copying (now (bytes .entry))) (now (text .entry) ∷ []) (now (text .exit) ∷ []) r ⌝ }
 {
     if text.len() < bytes.len() {
-        return refused(OUTPUT_TOO_SHORT);
+        return not_written(OUTPUT_TOO_SHORT);
     }
     copy_in(text, 0, bytes);
     Written {
@@ -71,7 +62,7 @@ pub fn list(settings: Settings, book: &[u8], work: &mut [u8], text: &mut [u8]) -
     let mut table = [0u8; TABLE_BYTES];
     let built = building::build(settings, book, work, &mut table);
     if built.refusal != 0 {
-        return refused(built.refusal);
+        return not_written(built.refusal);
     }
     let end = built.length as usize;
     let length = list_accepted(&table[..end], built.joins as usize, work);

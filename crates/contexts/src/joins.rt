@@ -8,6 +8,7 @@ use crate::distances::distances;
 use base::limits::SETTING_LIMIT;
 use base::limits::STATE_LIMIT;
 use base::numbers::wide16;
+use base::slices::copy;
 use partition::forest;
 use worklist::forks::join_two;
 use worklist::lists::PAIR_LIMIT;
@@ -245,7 +246,7 @@ pub fn sweep(
     let j = m - 1;
     let mut dist = [SETTING_LIMIT; STATE_LIMIT];
     distances(j, parents, before, groups, &mut dist);
-    suffixes::copy(groups, before);
+    copy(groups, before);
     let mut next = [0u64; STATE_LIMIT];
     let mut links = [0u16; STATE_LIMIT];
     let mut heads = [0u16; STATE_LIMIT];

@@ -7,6 +7,7 @@ pub mod joins;
 
 use base::limits::STATE_LIMIT;
 use base::numbers::wide16;
+use base::slices::copy;
 use joins::sweep;
 use partition::forest;
 use worklist::forks::start;
@@ -98,7 +99,7 @@ fn climb_starts(m: usize, parents: &[u16], groups: &mut [u16])
 {
     let n = groups.len();
     let mut starts = [0u16; STATE_LIMIT];
-    suffixes::copy(groups, &mut starts[..n]);
+    copy(groups, &mut starts[..n]);
     climb_all(m, parents, &starts[..n], groups);
     forest::flatten(groups);
 }

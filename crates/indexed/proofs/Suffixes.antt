@@ -49,9 +49,6 @@ module _ (n : ℕ) (parents names : List ℕ) (arrays : Arrays n parents names) 
   parent-below zero h = rw (arrays .root-parent) h
   parent-below (suc v) h = omega (arith, arrays .parent-before (suc v) (omega arith) h)
 
-  ancestor : (i v : ℕ) → v < n → up parents i v < n
-  ancestor = up-below n parents parent-below
-
   pub suffix-refl : (i v w : ℕ) → SameSuffix parents names i v w → SameSuffix parents names i v v
   suffix-refl zero v w s = tt
   suffix-refl (suc i) v w s = (s .0, s .0, refl, suffix-refl i (getD parents v 0) (getD parents w 0) (s .3))
@@ -108,8 +105,8 @@ module _ (n : ℕ) (parents names : List ℕ) (arrays : Arrays n parents names) 
         up parents i w,
         here .0,
         here .1,
-        ancestor i v h,
-        ancestor i w k,
+        up-below n parents parent-below i v h,
+        up-below n parents parent-below i w k,
         here .2,
         ap (λ (x : ℕ). getD groups x 0) (up-parent parents i v),
         ap (λ (x : ℕ). getD groups x 0) (up-parent parents i w),
@@ -134,7 +131,8 @@ module _ (n : ℕ) (parents names : List ℕ) (arrays : Arrays n parents names) 
           let shared : Share n parents names groups m (up parents i v) (up parents i w) =
           subst (λ (k : ℕ). Share n parents names groups k (up parents i v) (up parents i w)) (sym at-m)
           (share-up groups i h v w hv hw cut) in
-          context (up parents i v) (up parents i w) (ancestor i v hv) (ancestor i w hw) (suffix-up i h v w cut) shared
+          context (up parents i v) (up parents i w) (up-below n parents parent-below i v hv)
+          (up-below n parents parent-below i w hw) (suffix-up i h v w cut) shared
       climb (suc d) i e =
           let sum-is : h + m ≡ i + suc (h + d) = omega arith in
           let here : SameSuffix parents names (suc (h + d)) (up parents i v) (up parents i w) =
@@ -143,4 +141,5 @@ module _ (n : ℕ) (parents names : List ℕ) (arrays : Arrays n parents names) 
           climb d (suc i) (omega arith) in
           let one : getD groups (getD parents (up parents i v) 0) 0 ≡ getD groups (getD parents (up parents i w) 0) 0 =
           rw (up-parent parents i v, up-parent parents i w) above in
-          fork (up parents i v) (up parents i w) (here .0) (here .1) (ancestor i v hv) (ancestor i w hw) (here .2) one
+          fork (up parents i v) (up parents i w) (here .0) (here .1) (up-below n parents parent-below i v hv)
+          (up-below n parents parent-below i w hw) (here .2) one

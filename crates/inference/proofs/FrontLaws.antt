@@ -4,6 +4,7 @@ use mathlib.Core.List.{List, _++_, append-assoc}
 use Prim.Native.Nat.{ℕ, _+_, _<_}
 use native.Mathlib.Omega.{arith}
 use lib.ListN.{length, getD, take, length-append}
+use Rattle.base.specs.Limits.{class-bytes}
 use Rattle.model.specs.Tables.{classField, stateFields, tableBytes}
 use Rattle.model.specs.Quotients.{bookStates, bookTable}
 use Rattle.fields.specs.Places.{fileOf}
@@ -26,6 +27,6 @@ module _ (s : List ℕ) (p : Place) (at : BookAt s p) (bytes : (i : ℕ) → i <
       ap (λ (z : List ℕ). z ++ (classField (classAt p) ++ states)) (names-front s p at bytes)
       ∙ sym (append-assoc (take (namesEnd p) s) (classField (classAt p)) states)
 
-  pub table-length : length (bookTable (fileOf s p)) ≡ (namesEnd p + 6) + length states
+  pub table-length : length (bookTable (fileOf s p)) ≡ (namesEnd p + class-bytes) + length states
   table-length =
       omega (arith, ap length table-parts, length-append front states, front-length s (namesEnd p) (classAt p) (names-fit s p at))

@@ -15,7 +15,7 @@ use Rattle.model.specs.Tables.{State, stateFields}
 use Rattle.model.specs.Classes.{Word}
 use Rattle.model.specs.Joinings.{treeOf}
 use Rattle.model.specs.Quotients.{statesOf, bookStates, bookTable}
-use Rattle.base.specs.Limits.{output-too-short}
+use Rattle.base.specs.Limits.{class-bytes, output-too-short}
 use Rattle.model.specs.Calls.{over, joinsOf}
 use Rattle.model.proofs.Notions.{Fits}
 use Rattle.model.proofs.Trees.{treeOf-tree}
@@ -82,7 +82,7 @@ module _ (s : List ℕ) (p : Place) (parents names accepts groups : List ℕ) (a
   states-same = joined .states
 
   -- the table's length, as it is known before anything is written
-  total : (size : ℕ) → size ≡ length (stateFields made) → (namesEnd p + 6) + size ≡ length (bookTable (fileOf s p))
+  total : (size : ℕ) → size ≡ length (stateFields made) → (namesEnd p + class-bytes) + size ≡ length (bookTable (fileOf s p))
   total size e =
       omega (
         arith,
@@ -91,14 +91,14 @@ module _ (s : List ℕ) (p : Place) (parents names accepts groups : List ℕ) (a
       )
 
   pub table-too-short :
-      (out : List ℕ) (size : ℕ) → size ≡ length (stateFields made) → leb ((namesEnd p + 6) + size) (length out) ≡ false →
+      (out : List ℕ) (size : ℕ) → size ≡ length (stateFields made) → leb ((namesEnd p + class-bytes) + size) (length out) ≡ false →
       Infers (fileOf s p) out out (refused-with output-too-short)
   table-too-short out size e over-room =
       gives-too-short (fileOf s p) out (tree .few)
-      (omega (arith, leb-false ((namesEnd p + 6) + size) (length out) over-room, total size e))
+      (omega (arith, leb-false ((namesEnd p + class-bytes) + size) (length out) over-room, total size e))
 
   pub table-written :
-      (out mid out′ : List ℕ) (next end states size : ℕ) → leb ((namesEnd p + 6) + size) (length out) ≡ true →
+      (out mid out′ : List ℕ) (next end states size : ℕ) → leb ((namesEnd p + class-bytes) + size) (length out) ≡ true →
       states ≡ length made → size ≡ length (stateFields made) → Put out mid 0 (frontOf s (namesEnd p) (classAt p)) next →
       Put mid out′ next (stateFields made) end →
       Infers (fileOf s p) out out′ (record { refusal = 0; length = end; states = states; joins = length groups - states })
@@ -109,7 +109,7 @@ module _ (s : List ℕ) (p : Place) (parents names accepts groups : List ℕ) (a
       ap (λ (z : List State). frontOf s (namesEnd p) (classAt p) ++ stateFields z) states-same ∙ sym (table-parts s p at bytes) in
       let as-many : states ≡ length (bookStates (fileOf s p)) = counted ∙ ap length states-same in
       gives-table (fileOf s p) out out′ end states (length groups - states) (tree .few)
-      (omega (arith, leb-true ((namesEnd p + 6) + size) (length out) fits, total size e))
+      (omega (arith, leb-true ((namesEnd p + class-bytes) + size) (length out) fits, total size e))
       (subst (λ (z : List ℕ). out′ ≡ over z out) all (written-from-zero (whole .written)))
       (whole .ends ∙ zero-add _ ∙ ap length all)
       as-many

@@ -2,6 +2,7 @@
 // written before it is known that the table fits.
 pub mod classes;
 
+use base::limits::CLASS_BYTES;
 use base::limits::OUTPUT_TOO_SHORT;
 use base::limits::STATE_LIMIT;
 use base::limits::TREE_TOO_LARGE;
@@ -19,9 +20,6 @@ ghost use Rattle.base.specs.Limits.{input-limit, work-bytes};
 ghost use Rattle.fields.specs.Places.{fileOf};
 ghost use Rattle.inference.specs.Books.{BookAt, rowsAt, classAt, TreeIn, JoinedBy};
 ghost use Rattle.inference.specs.Results.{Infers, refused-with};
-
-// How many bytes a class field takes.
-const CLASS_BYTES: usize = 6;
 
 // What is given back: the refusal, or 0 with the table's length, its states, and the joins.
 pub struct Inferred {

@@ -4,7 +4,7 @@ use mathlib.Core.List.{List, [], _∷_, _++_, flatMap}
 use Prim.Native.Nat.{ℕ, zero, suc, _+_, _*_, _≤_}
 use native.Mathlib.Omega.{arith}
 use lib.ListN.{length, getD, length-append}
-use Rattle.base.specs.Limits.{name-bytes}
+use Rattle.base.specs.Limits.{name-bytes, listing-bytes}
 use Rattle.model.specs.Fields.{Settings, Allowed}
 use Rattle.model.specs.Tables.{Arc, State}
 use Rattle.model.specs.Listing.{decimal, arcText, stateLine, stateLines, listing, refusalText}
@@ -69,10 +69,6 @@ module _ (names : List (List ℕ)) (short : NamesShort names) where
   listing-length states joins =
       simp length-append
       (omega (arith, decimal-length (length states), decimal-length joins, state-lines-length 0 states))
-
--- a text of so many bytes takes every listing
-abbrev pub listing-bytes : ℕ
-listing-bytes = 32768
 
 -- the listing of an accepted book, of states that can be written
 pub book-listing-length :

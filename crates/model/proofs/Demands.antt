@@ -9,7 +9,7 @@ use native.Mathlib.Omega.{arith}
 use lib.Dec.{ltb}
 use lib.ListN.{length}
 use borrow.Author.Tests.{ltb-false, le-ltb}
-use Rattle.base.specs.Limits.{state-limit, input-limit, work-bytes, when, bad-sizes, tree-too-large}
+use Rattle.base.specs.Limits.{state-limit, input-limit, work-bytes, table-bytes, when, bad-sizes, tree-too-large}
 use Rattle.model.specs.Fields.{Settings, Allowed, File, file, Class, Read, readBook, readTable, accepted-file}
 use Rattle.model.specs.Tables.{State, stateBody, statesIn, isFirstMet, tableBytes}
 use Rattle.model.specs.Classes.{Word}
@@ -29,7 +29,7 @@ use Rattle.model.proofs.Writable.{Writable}
 use Rattle.model.proofs.FieldLaws.{first-of, when-none}
 use Rattle.model.proofs.StateBodies.{states-read-back}
 use Rattle.model.proofs.WritableStates.{states-writable}
-use Rattle.model.proofs.WrittenLengths.{table-bytes}
+use Rattle.model.proofs.Identified.{among-itself}
 use Rattle.model.proofs.Reading.{accepted-has-row, accepted-entries, reads-written, written-length, rewrites-same}
 
 -- ---- what an accepted book and a like book give
@@ -51,10 +51,9 @@ all-there rows others e = tells-all (λ r. tells-hasRow r others) rows .fact e
 
 -- a book is like itself
 like-itself : (f : File) → SameBook f f
-unfolding allAmong
 like-itself f =
-    let all-in : allAmong (f .items) (f .items) ≡ true = tells-all (λ r. tells-hasRow r (f .items)) (f .items) .test (λ r m. m) in
-    record { names-same = refl; class-same = refl; rows-there = all-in; rows-back = all-in }
+    let rows = among-itself (f .items) in
+    record { names-same = refl; class-same = refl; rows-there = rows; rows-back = rows }
 
 -- like books have the same set of rows
 same-rows : (f g : File) → SameBook f g → (r : Word) → In r (f .items) ↔ In r (g .items)

@@ -29,9 +29,9 @@ abbrev pub book-of : ℕ → ℕ → List Word → File
 book-of k h rows = file 3 [] (class-of 0 k h) rows
 
 -- rows are among themselves
-pub all-there : (rows : List Word) → allAmong rows rows ≡ true
+pub among-itself : (rows : List Word) → allAmong rows rows ≡ true
 unfolding allAmong
-all-there rows = tells-all (λ r. tells-hasRow r rows) rows .test (λ r m. m)
+among-itself rows = tells-all (λ r. tells-hasRow r rows) rows .test (λ r m. m)
 
 -- a list has an element or none
 some-row : (rows : List Word) → ((r : Word) × In r rows) ⊎ ((r : Word) → In r rows → ⊥)

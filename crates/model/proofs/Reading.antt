@@ -6,7 +6,7 @@ use mathlib.Core.List.{List, [], _∷_, _++_, map, List·Memᴰ as In, List·Mem
 use Prim.Native.Nat.{ℕ, suc, _≤_, _<_}
 use native.Mathlib.Omega.{arith}
 use lib.ListN.{length, length-append}
-use Rattle.base.specs.Limits.{name-limit, state-limit, when, firstOf, bad-numbering}
+use Rattle.base.specs.Limits.{name-limit, state-limit, table-bytes, when, firstOf, bad-numbering}
 use Rattle.model.specs.Fields.{Settings, Allowed, standard, file, readTable, readWith, accepted-file}
 use Rattle.model.specs.Tables.{State, fieldBytes, nameFields, classField, stateFields, stateBody, tableBytes}
 use Rattle.model.specs.Tables.{isFirstMet}
@@ -17,7 +17,7 @@ use Rattle.model.proofs.FieldLaws.{first-of}
 use Rattle.model.proofs.StateBodies.{body-ok}
 use Rattle.model.proofs.Books.{accepted-book, tells-allBelow}
 use Rattle.model.proofs.ReadBack.{reads-table}
-use Rattle.model.proofs.WrittenLengths.{table-bytes, name-fields-length, names-few, state-fields-length}
+use Rattle.model.proofs.WrittenLengths.{name-fields-length, names-few, state-fields-length}
 use Rattle.model.proofs.Rewriting.{bytes-of, rewritten-same}
 
 -- a list that is not empty has an element

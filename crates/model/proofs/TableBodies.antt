@@ -12,7 +12,7 @@ use lib.Dec.{ltb, leb}
 use lib.ListN.{length, getD, drop, length-append}
 use Rattle.base.specs.Limits.{name-limit, bad-numbering, when, firstOf}
 use Rattle.model.specs.Fields.{File, unread, standard, table, withField, arcsOk, stateOk, readTable, readWith}
-use Rattle.model.specs.Tables.{Arc, no-state, arcsIn, stateIn, statesIn, isFirstMet, Ascending}
+use Rattle.model.specs.Tables.{Arc, empty-state, arcsIn, stateIn, statesIn, isFirstMet, Ascending}
 use Rattle.model.specs.Calls.{sizesFault, tableOf, tableStates, tableFault}
 use Rattle.model.specs.Sources.{AllReached}
 use Rattle.model.proofs.FieldLaws.{Fitting, a-name, a-class, a-row, a-state, fitting, first-of, when-not}
@@ -110,7 +110,7 @@ bodies-ok s ok =
 -- arcs that ascend in each field ascend in each state
 ascending-at :
     (items : List (List ℕ)) → ((r : List ℕ) → In r items → Ascending 0 (stateIn r .arcs)) → (q : ℕ) →
-    Ascending 0 (getD (map stateIn items) q no-state .arcs)
+    Ascending 0 (getD (map stateIn items) q empty-state .arcs)
 ascending-at [] up q = tt
 ascending-at (r ∷ items) up zero = up r (here refl)
 ascending-at (r ∷ items) up (suc q) = ascending-at items (λ x m. up x (there m)) q

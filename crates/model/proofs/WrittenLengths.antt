@@ -16,10 +16,6 @@ use Rattle.model.proofs.Writable.{arcCount}
 use Rattle.model.proofs.StateBodies.{body-length}
 use Rattle.model.proofs.Books.{NamesOk}
 
--- a book's table takes at most so many: 64 names, the class in 6 bytes, 512 states and as many arcs
-abbrev pub table-bytes : ℕ
-table-bytes = 5830
-
 -- a field has three bytes before its body
 field-length : (mark : ℕ) (body : List ℕ) → length (fieldBytes mark body) ≡ 3 + length body
 unfolding fieldBytes

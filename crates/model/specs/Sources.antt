@@ -10,7 +10,7 @@ use lib.ListN.{length, getD, take, drop}
 use Rattle.base.specs.Lists.{all, hasRow}
 use Rattle.base.specs.Limits.{context-kind, seen-set-kind}
 use Rattle.model.specs.Fields.{Class, class-of, allBelow, File}
-use Rattle.model.specs.Tables.{State, state, arc, no-state, walk-at, walkFrom, admits}
+use Rattle.model.specs.Tables.{State, state, arc, empty-state, walk-at, walkFrom, admits}
 use Rattle.model.specs.Classes.{Word, fOf, TailsEqual, Contextual, Distinguishable}
 use Rattle.model.specs.Quotients.{bookStates}
 use Rattle.model.specs.Calls.{tableFault, tableStates}
@@ -104,7 +104,7 @@ pub record Reaches (states : List State) (p : ℕ) (w : Word) (q : ℕ) : Type 0
 pub record AdmittedFrom (states : List State) (p : ℕ) (w : Word) : Type 0 where
   pub end : ℕ
   pub way : Reaches states p w end
-  pub accepting : getD states end no-state .accepts ≡ true
+  pub accepting : getD states end empty-state .accepts ≡ true
 
 -- two states have the same tails: the same words are admitted from both
 pub record SameTails (states : List State) (p q : ℕ) : Type 0 where

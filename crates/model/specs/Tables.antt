@@ -107,8 +107,8 @@ isFirstMet states = eqb (metByStates 0 1 states) (length states)
 -- ---- walked
 
 -- a state that does not accept and has no arc: what stands past the end of a table
-abbrev pub no-state : State
-no-state = state false []
+abbrev pub empty-state : State
+empty-state = state false []
 
 -- the target of the arc with this name plus 1, or 0 where there is no such arc
 unfoldable pub targetIn : ℕ → List Arc → ℕ
@@ -128,7 +128,7 @@ walk-at q n = record { at-state = q; taken = n }
 unfoldable pub walkFrom : List State → ℕ → ℕ → List ℕ → Walk
 walkFrom states q n [] = walk-at q n
 walkFrom states q n (x ∷ xs) =
-    let t = targetIn x (getD states q no-state .arcs) in
+    let t = targetIn x (getD states q empty-state .arcs) in
     elim (eqb t 0) [ true ↦ walk-at q n | false ↦ walkFrom states (t - 1) (suc n) xs ]
 
 -- the walk of a row from the start
@@ -137,7 +137,7 @@ walk states row = walkFrom states 0 0 row
 
 -- the state that a row's walk reaches
 unfoldable pub reachedState : List State → List ℕ → State
-reachedState states row = getD states (walk states row .at-state) no-state
+reachedState states row = getD states (walk states row .at-state) empty-state
 
 -- a row is admitted: all names walked, and the last state accepts
 unfoldable pub admits : List State → List ℕ → Bool

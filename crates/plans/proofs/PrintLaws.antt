@@ -8,7 +8,7 @@ use native.Mathlib.Omega.{arith}
 use borrow.Author.Tests.{le-ltb, eq-eqb, ne-eqb}
 use lib.Dec.{eqb, ltb}
 use lib.ListN.{length, getD}
-use Rattle.base.specs.Limits.{when, firstOf, input-limit, work-bytes, bad-sizes}
+use Rattle.base.specs.Limits.{when, firstOf, input-limit, work-bytes, listing-bytes, bad-sizes}
 use Rattle.model.specs.Fields.{Settings, Allowed}
 use Rattle.model.specs.Calls.{Says, tooShort, faultWith, over, sizesFault, bookOf, bookFault, buildFault}
 use Rattle.model.specs.Listing.{bookListing, refusalText, listingFault, listingOf}
@@ -16,7 +16,6 @@ use Rattle.model.proofs.FieldLaws.{first-of}
 use Rattle.model.proofs.CallLaws.{call-answered, refusal-is, answered, untouched, fault-roomy, short-is, one-wrote, front-of}
 use Rattle.writing.proofs.WritingLaws.{written-from-zero}
 use Rattle.writing.specs.Writing.{Put}
-use Rattle.listings.proofs.Lengths.{listing-bytes}
 use Rattle.results.specs.declared.Written.{Written}
 use Rattle.results.specs.Says.{listingBook, ListSays, printing, PrintSays}
 use Rattle.book_calls.proofs.ListLaws.{listing-short}

@@ -1,8 +1,8 @@
 // The text that the listing program prints for a book: its listing, or `refused` and the refusal's number.
 use crate::list_book;
+use base::limits::LISTING_BYTES;
 use base::limits::WORK_BYTES;
 use listings::refusal_text;
-use results::limits::LISTING_BYTES;
 ghost use Rattle.model.specs.Fields.{standard};
 ghost use Rattle.results.specs.Says.{PrintSays};
 

@@ -67,12 +67,16 @@ abbrev pub walked-over : List State → List ℕ → Walked
 walked-over states row =
     walked-as 0 (outcome states row) (length (longestBeginning states row)) (nextNames states row) (nextCount states row)
 
--- a row walked over a table; a refused walk gives its number, an empty beginning, no names and a count of 0
+-- a refused walk gives its number, an empty beginning, no names and a count of 0
+abbrev pub not-walked : ℕ → Walked
+not-walked refusal = walked-as refusal 0 0 0 0
+
+-- a row walked over a table
 unfoldable pub walking : List ℕ → List ℕ → List ℕ → Call Walked
 walking table row work =
     record {
       refusal = walkFault table row work;
-      none = λ k. walked-as k 0 0 0 0;
+      none = not-walked;
       answer = walked-over (tableStates table) row;
       writes = [];
     }

@@ -1,8 +1,6 @@
 // What the public entries give back, in Rattle and C alike.
-pub mod limits;
-
 ghost use mathlib.Core.Path.{_≡_};
-ghost use Rattle.results.specs.Says.{not-built};
+ghost use Rattle.results.specs.Says.{not-built, not-walked, not-written};
 
 // What a call that writes a table gives back: its refusal or 0, then the table's length in bytes, its states, and the joins: tree
 // states less table states.
@@ -41,5 +39,28 @@ pub fn not_built(refusal: u8) -> Built
         length: 0,
         states: 0,
         joins: 0,
+    }
+}
+
+// A refused walk: no outcome, no names.
+pub fn not_walked(refusal: u8) -> Walked
+    ensures { λ r. ⌜ r ≡ not-walked refusal ⌝ }
+{
+    Walked {
+        refusal: refusal,
+        outcome: 0,
+        next_count: 0,
+        walked: 0,
+        next_names: 0,
+    }
+}
+
+// A refused call that writes bytes: none.
+pub fn not_written(refusal: u8) -> Written
+    ensures { λ r. ⌜ r ≡ not-written refusal ⌝ }
+{
+    Written {
+        refusal: refusal,
+        length: 0,
     }
 }

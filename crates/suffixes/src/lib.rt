@@ -26,18 +26,6 @@ pub fn class_above(old: &[u16], parents: &[u16], v: usize) -> usize
     wide16(old[parent])
 }
 
-// Copies the numbers of one slice into another of the same length.
-pub fn copy(from: &[u16], to: &mut [u16])
-    requires { ⌜ length (now to) ≡ length (now from) ⌝ }
-    ensures { λ _. ⌜ now (to .exit) ≡ now (from .entry) ⌝ }
-{
-    let mut v = 0;
-    while v < to.len() {
-        to[v] = from[v];
-        v += 1;
-    }
-}
-
 // Ones in the bits of i names.
 fn mask_of(i: usize) -> u64
     requires { ⌜ i ≤ setting-limit ⌝ }

@@ -22,7 +22,7 @@ use Rattle.writing.specs.Writing.{Written}
 use Rattle.writing.proofs.WritingLaws.{written-from-zero}
 use Rattle.tables.specs.Accepting.{TableRead}
 use Rattle.results.specs.declared.Walked.{Walked}
-use Rattle.results.specs.Says.{built, not-built, rewriting, walked-as, walked-over, walking}
+use Rattle.results.specs.Says.{built, not-built, rewriting, not-walked, walked-over, walking}
 
 -- ---- a table rewritten
 
@@ -65,12 +65,12 @@ take-again n l =
 
 module _ (table row work : List ℕ) where
   pub walk-refused :
-      (k : ℕ) → Refuses (tableFault table work) k → Gives (walking table row work) [] [] (walked-as k 0 0 0 0)
+      (k : ℕ) → Refuses (tableFault table work) k → Gives (walking table row work) [] [] (not-walked k)
   unfolding walking walkFault
   walk-refused k r = call-refused (walking table row work) [] (refuses-first _ r)
 
   module _ (names : ℕ) (none : tableFault table work ≡ 0) (count : length (tableOf table .names) ≡ names) where
-    pub walk-row-refused : rowOk names row ≡ false → Gives (walking table row work) [] [] (walked-as bad-row 0 0 0 0)
+    pub walk-row-refused : rowOk names row ≡ false → Gives (walking table row work) [] [] (not-walked bad-row)
     unfolding walking walkFault
     walk-row-refused bad =
         call-refused (walking table row work) []
@@ -97,13 +97,13 @@ module _ (table row work : List ℕ) where
   unfolding walking tooShort longestBeginning
   beginning-told r gives =
       ap (λ (w : Walked). take (w .walked) row) (gives .answer-is)
-      ∙ ap (λ (k : ℕ). take (unless k (walked-as k 0 0 0 0) (walked-over (tableStates table) row) .walked) row)
+      ∙ ap (λ (k : ℕ). take (unless k (not-walked k) (walked-over (tableStates table) row) .walked) row)
       (fault-roomy (walking table row work) [] (λ none. refl))
       ∙ go (eqb (walkFault table row work) 0)
     where
       go :
           (b : Bool) →
-          take (cond b (walked-over (tableStates table) row) (walked-as (walkFault table row work) 0 0 0 0) .walked) row
+          take (cond b (walked-over (tableStates table) row) (not-walked (walkFault table row work)) .walked) row
           ≡ cond b (longestBeginning (tableStates table) row) []
       go true = take-again (walk (tableStates table) row .taken) row
       go false = refl

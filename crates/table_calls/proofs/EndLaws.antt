@@ -10,7 +10,7 @@ use lib.Count.{ones}
 use lib.ListN.{length, getD}
 use lib.Seq.{length-take-le}
 use Rattle.model.specs.Tables as model
-use Rattle.model.specs.Tables.{State, no-state, stateIn, nameSet, walk, reachedState, outcome}
+use Rattle.model.specs.Tables.{State, empty-state, stateIn, nameSet, walk, reachedState, outcome}
 use Rattle.model.specs.Tables.{longestBeginning, nextNames, nextCount}
 use Rattle.model.specs.Calls.{tableStates}
 use Rattle.judging.specs.Offsets.{bodyAt}
@@ -32,7 +32,7 @@ module _ (s work row : List ℕ) (w : Walk) (ready : Ready s work) (walked : Wal
   state-reached at e =
       ap (λ (a : ℕ). stateIn (bodyAt s a)) e
       ∙ ready .means (w .state) (walked .in-table)
-      ∙ ap (λ (v : model.Walk). getD (tableStates s) (v .at-state) no-state) (walked .is)
+      ∙ ap (λ (v : model.Walk). getD (tableStates s) (v .at-state) empty-state) (walked .is)
 
   -- how many next names: the number of bits of their set
   bits-are : (at : ℕ) → StateField s at → ones (nameSet (stateIn (bodyAt s at) .arcs)) ≡ length (stateIn (bodyAt s at) .arcs)

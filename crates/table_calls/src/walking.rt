@@ -6,6 +6,7 @@ use base::limits::ON_THE_WAY;
 use base::limits::STOPS;
 use judging::rows::row_ok;
 use results::Walked;
+use results::not_walked;
 use tables::Accepted;
 use tables::accepts;
 use tables::next_names;
@@ -19,20 +20,7 @@ ghost use lib.ListN.{length};
 ghost use Rattle.base.specs.Limits.{row-limit, admitted, on-the-way, stops};
 ghost use Rattle.model.specs.Calls.{Gives, tableStates};
 ghost use Rattle.tables.specs.Accepting.{Ready};
-ghost use Rattle.results.specs.Says.{walked-as, walked-over, walking};
-
-// A refused walk.
-fn refused(refusal: u8) -> Walked
-    ensures { λ r. ⌜ r ≡ walked-as refusal 0 0 0 0 ⌝ }
-{
-    Walked {
-        refusal: refusal,
-        outcome: 0,
-        next_count: 0,
-        walked: 0,
-        next_names: 0,
-    }
-}
+ghost use Rattle.results.specs.Says.{walked-over, walking};
 
 // How a walk ends that stopped before the row's end or not, in a state that accepts or not.
 fn outcome_of(stopped: bool, accepting: bool) -> u8
@@ -75,10 +63,10 @@ pub fn walk(table: &[u8], row: &[u8], work: &mut [u8]) -> Walked
     match opened {
         Accepted::Table(p) => {
             if !row_ok(p.names, row) {
-                return refused(BAD_ROW);
+                return not_walked(BAD_ROW);
             }
             walk_over(table, row, work)
         }
-        Accepted::Refused(k) => refused(k),
+        Accepted::Refused(k) => not_walked(k),
     }
 }

@@ -11,7 +11,7 @@ use lib.Dec.{ltb}
 use lib.ListN.{length, getD, drop, length-map, List·getD-map}
 use Rattle.base.specs.Limits.{work-bytes, bad-sizes, bad-numbering}
 use Rattle.model.specs.Fields.{File, Read, readTable}
-use Rattle.model.specs.Tables.{State, no-state, stateIn, statesIn, metByArcs, metByStates, isFirstMet}
+use Rattle.model.specs.Tables.{State, empty-state, stateIn, statesIn, metByArcs, metByStates, isFirstMet}
 use Rattle.model.specs.Calls.{Refuses, sizesFault, tableOf, tableStates, tableFault}
 use Rattle.model.proofs.CallLaws.{SizesBad, refuses-first, refuses-then, sizes-refuse, sizes-fit}
 use Rattle.base.proofs.Places.{nth-in}
@@ -58,12 +58,12 @@ module _ (s : List ℕ) (p : Place) (t : TableRead s p) where
       }
 
   -- and means the i-th state
-  pub field-means : (i : ℕ) → i < p .items → stateIn (bodyAt s (offsetAt s (p .start) i)) ≡ getD (tableStates s) i no-state
+  pub field-means : (i : ℕ) → i < p .items → stateIn (bodyAt s (offsetAt s (p .start) i)) ≡ getD (tableStates s) i empty-state
   unfolding stateIn
   field-means i h =
       ap stateIn (sym (field-at s (p .start) (p .items) i h))
       ∙ sym (List·getD-map stateIn (fieldsAt s (p .start) (p .items)) i [])
-      ∙ ap (λ (l : List State). getD l i no-state) (sym states-are)
+      ∙ ap (λ (l : List State). getD l i empty-state) (sym states-are)
 
 -- ---- the pass over the states
 
@@ -113,7 +113,7 @@ module _ (s : List ℕ) (p : Place) (t : TableRead s p) (lent work : List ℕ) (
       let room = sizes-fit s lent (now .sized) .work-fits in
       let few : i < 512 = omega (arith, t .sound .few-items) in
       let big : work-bytes ≤ length work = omega (arith, now .same-length) in
-      let state-is : stateIn (bodyAt s at) ≡ getD (tableStates s) i no-state =
+      let state-is : stateIn (bodyAt s at) ≡ getD (tableStates s) i empty-state =
       ap (λ (a : ℕ). stateIn (bodyAt s a)) (now .at-is) ∙ field-means s p t i h in
       let there-is : i < length (tableStates s) = omega (arith, states-count s p t) in
       record {

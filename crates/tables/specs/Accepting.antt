@@ -7,7 +7,7 @@ use Prim.Native.Nat.{ℕ, _≤_, _<_}
 use lib.ListN.{length, getD}
 use Rattle.base.specs.Limits.{state-limit, work-bytes}
 use Rattle.model.specs.Fields.{readTable}
-use Rattle.model.specs.Tables.{stateIn, isFirstMet, no-state}
+use Rattle.model.specs.Tables.{stateIn, isFirstMet, empty-state}
 use Rattle.model.specs.Calls.{tableOf, tableStates, tableFault}
 use Rattle.judging.specs.Offsets.{bodyAt, nextAt, offsetAt}
 use Rattle.fields.specs.Places.{fileOf, Sound}
@@ -35,7 +35,7 @@ pub record Ready (s work : List ℕ) : Type 0 where
   pub few-states : length (tableStates s) ≤ state-limit
   pub first-met : isFirstMet (tableStates s) ≡ true
   pub field : (i : ℕ) → i < length (tableStates s) → StateField s (cellAt work i 0)
-  pub means : (i : ℕ) → i < length (tableStates s) → stateIn (bodyAt s (cellAt work i 0)) ≡ getD (tableStates s) i no-state
+  pub means : (i : ℕ) → i < length (tableStates s) → stateIn (bodyAt s (cellAt work i 0)) ≡ getD (tableStates s) i empty-state
 
 -- an accepted table
 pub record TableAt (s work : List ℕ) (p : Place) : Type 0 where

@@ -5,8 +5,8 @@ use crate::parts::count;
 use crate::parts::put;
 use crate::parts::put_names;
 use crate::parts::say;
+use base::limits::LISTING_BYTES;
 use plans::printing::print_book;
-use results::limits::LISTING_BYTES;
 ghost use Prim.Native.Nat.{_≤_};
 ghost use Rattle.io.specs.Counts.{Counts};
 

@@ -5,9 +5,9 @@ mod books;
 mod parts;
 mod tables;
 
+use base::limits::LISTING_BYTES;
 use libc::STDOUT_FILENO;
 use plans::printing::print_book;
-use results::limits::LISTING_BYTES;
 
 // The days and the example of docs/SCOPE.md, and three days more. One more is a file in data/ and a line here.
 fn days() {

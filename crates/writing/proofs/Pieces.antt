@@ -6,6 +6,7 @@ use Prim.Native.Nat.{ℕ, _+_, _*_, _/_, _%_, _≤_}
 use native.Mathlib.Omega.{arith}
 use lib.ListN.{length, take, length-append}
 use lib.Seq.{length-take-le}
+use Rattle.base.specs.Limits.{class-bytes}
 use Rattle.model.specs.Fields.{Class}
 use Rattle.model.specs.Tables.{Arc, State, fieldBytes, classField, arcBytes, stateBody}
 use Rattle.model.proofs.StateBodies.{body-length}
@@ -21,11 +22,11 @@ pub state-bytes-length : (s : State) → length (fieldBytes 4 (stateBody s)) ≡
 unfolding fieldBytes
 state-bytes-length s = omega (arith, body-length s)
 
-class-field-length : (c : Class) → length (classField c) ≡ 6
+class-field-length : (c : Class) → length (classField c) ≡ class-bytes
 unfolding classField fieldBytes
 class-field-length c = refl
 
-pub front-length : (file : List ℕ) (names : ℕ) (c : Class) → names ≤ length file → length (frontOf file names c) ≡ names + 6
+pub front-length : (file : List ℕ) (names : ℕ) (c : Class) → names ≤ length file → length (frontOf file names c) ≡ names + class-bytes
 front-length file names c h =
     omega (arith, length-append (take names file) (classField c), length-take-le names file h, class-field-length c)
 

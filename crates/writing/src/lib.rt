@@ -8,7 +8,7 @@ ghost use mathlib.Core.Path.{_≡_};
 ghost use mathlib.Core.List.{[], _∷_};
 ghost use Prim.Native.Nat.{_≤_, _<_};
 ghost use lib.ListN.{length};
-ghost use Rattle.base.specs.Limits.{when, number-limit};
+ghost use Rattle.base.specs.Limits.{when, name-limit, number-limit};
 ghost use Rattle.model.specs.Fields.{class-of};
 ghost use Rattle.model.specs.Tables.{twoBytes, fieldBytes, classField};
 ghost use Rattle.writing.specs.Writing.{Fits, Put, fieldHead, stateHead, arcPart, frontOf};
@@ -102,7 +102,7 @@ fn accepts_byte(accepting: bool) -> u8
 // The first four bytes of a state field with so many arcs.
 pub fn put_state(out: &mut [u8], at: usize, accepting: bool, arcs: usize) -> usize
     requires { ⌜ Fits (now out) at (stateHead accepting arcs) ⌝ }
-    requires { ⌜ arcs < 21845 ⌝ }
+    requires { ⌜ arcs ≤ name-limit ⌝ }
     ensures { λ r. ⌜ Put (now (out .entry)) (now (out .exit)) at (stateHead accepting arcs) r ⌝ }
 {
     let next = put_head(out, at, STATE_MARK, 1 + 3 * arcs);

@@ -8,7 +8,7 @@ use borrow.Author.Tests.{leb-true, not-true, not-false}
 use lib.Dec.{leb}
 use lib.ListN.{length, getD}
 use borrow.Author.Needs.{needs}
-use Rattle.base.specs.Limits.{state-limit, input-limit}
+use Rattle.base.specs.Limits.{state-limit, input-limit, class-bytes}
 use Rattle.model.specs.Fields.{File}
 use Rattle.model.specs.Classes.{Word}
 use Rattle.fields.specs.Places.{fileOf}
@@ -68,12 +68,12 @@ names-low c = omega (arith, named c, c .pre .0 .1)
 
 front-size :
     (c : tie.Start) →
-    length (frontOf (c .args .book .now) (namesEnd (c .args .place)) (classAt (c .args .place))) ≡ namesEnd (c .args .place) + 6
+    length (frontOf (c .args .book .now) (namesEnd (c .args .place)) (classAt (c .args .place))) ≡ namesEnd (c .args .place) + class-bytes
 front-size c = front-length (c .args .book .now) (namesEnd (c .args .place)) (classAt (c .args .place)) (named c)
 
 -- how long the table is, and what the test says of it
 abbrev size : tie.After-fits2 → ℕ
-size c = namesEnd (start (made c) .args .place) + 6 + made c .prepare .result .bytes
+size c = namesEnd (start (made c) .args .place) + class-bytes + made c .prepare .result .bytes
 
 abbrev room : tie.After-fits2 → ℕ
 room c = length (start (made c) .args .out .now)

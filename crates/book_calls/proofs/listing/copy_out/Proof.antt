@@ -6,13 +6,13 @@ use borrow.Author.Needs.{needs}
 use Rattle.book_calls.proofs.listing.copy_out.Statement.{statement}
 use Rattle.book_calls.proofs.listing.copy_out.Tie as tie
 
-refused-requires : tie.Need-refused-requires
-refused-requires c κs = search needs
+not-written-requires : tie.Need-not-written-requires
+not-written-requires c κs = search needs
 
 returns : tie.Need-returns
 returns c =
     let at = c .before .before .before .before .args in
-    gives-as _ _ (c .refused .ensures) (copy-short (at .bytes .now) (at .text .now) (omega arith))
+    gives-as _ _ (c .not-written .ensures) (copy-short (at .bytes .now) (at .text .now) (omega arith))
 
 copy-in-requires : tie.Need-copy-in-requires
 copy-in-requires c κs = search needs
@@ -31,4 +31,4 @@ returns-2 c =
 
 pub copy-out-spec : {M : Type 1} → statement M
 copy-out-spec =
-    tie.close (tie.spec refused-requires returns copy-in-requires cast-t8 same-length returns-2)
+    tie.close (tie.spec not-written-requires returns copy-in-requires cast-t8 same-length returns-2)

@@ -9,7 +9,7 @@ use Rattle.model.specs.Fields.{Settings}
 use Rattle.model.specs.Quotients.{bookTable}
 use Rattle.model.specs.Calls.{bookOf}
 use Rattle.model.specs.Listing.{bookListing}
-use Rattle.model.proofs.WrittenLengths.{table-bytes}
+use Rattle.base.specs.Limits.{table-bytes}
 use Rattle.model.proofs.CallLaws.{gives-as, FrontOf}
 use Rattle.fields.specs.Places.{settingsOf}
 use Rattle.book_calls.proofs.BuildLaws.{built-front}
@@ -79,8 +79,8 @@ slice-aggregate-build c = search needs
 build-requires : tie.Need-build-requires
 build-requires c κs = c .before .before .before .before .before .pre
 
-refused-requires : tie.Need-refused-requires
-refused-requires c κs = search needs
+not-written-requires : tie.Need-not-written-requires
+not-written-requires c κs = search needs
 
 same-length : tie.Need-same-length
 same-length c = search needs
@@ -88,7 +88,7 @@ same-length c = search needs
 returns : tie.Need-returns
 returns c =
     let after = c .before .before .before .before .before .before in
-    gives-as _ _ (c .refused .ensures)
+    gives-as _ _ (c .not-written .ensures)
     (listing-refused (settings after) (start after .pre) (book after) (work after) zeros (output after) (after .build .result)
     (after .build .ensures) (start after .args .text .now) long (omega (arith, c .before .if1 .taken)))
 
@@ -145,7 +145,7 @@ list-spec =
     (tie.spec
     slice-aggregate-build
     build-requires
-    refused-requires
+    not-written-requires
     same-length
     returns
     cast-end

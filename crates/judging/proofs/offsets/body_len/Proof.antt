@@ -1,5 +1,4 @@
 -- `offsets::body_len` meets its contract. Assumes nothing.
-use mathlib.Core.Path.{sym, _∙_}
 use Rattle.judging.proofs.OffsetLaws.{length-at}
 use borrow.Author.Needs.{needs}
 use Rattle.judging.proofs.offsets.body_len.Statement.{statement}

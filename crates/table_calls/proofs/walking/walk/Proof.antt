@@ -44,8 +44,8 @@ enum-known-opened c = search needs
 row-ok-requires : tie.Need-row-ok-requires
 row-ok-requires c κs = search needs
 
-refused-requires : tie.Need-refused-requires
-refused-requires c κs = search needs
+not-walked-requires : tie.Need-not-walked-requires
+not-walked-requires c κs = search needs
 
 same-length : tie.Need-same-length
 same-length c = search needs
@@ -54,7 +54,7 @@ returns : tie.Need-returns
 returns c =
     let tested = c .before .before in
     let at = tested .before .before in
-    gives-as _ [] (c .refused .ensures)
+    gives-as _ [] (c .not-walked .ensures)
     (walk-row-refused (table at) (row at) (work at) _ (opened at .not-refused) (counted at)
     (sym (tested .row-ok .ensures) ∙ not-true (tested .row-ok .result) (c .before .if1 .taken)))
 
@@ -70,8 +70,8 @@ walk-over-requires c κs =
 enum-known-opened-2 : tie.Need-enum-known-opened-2
 enum-known-opened-2 c = search needs
 
-refused-requires-2 : tie.Need-refused-requires-2
-refused-requires-2 c κs = search needs
+not-walked-requires-2 : tie.Need-not-walked-requires-2
+not-walked-requires-2 c κs = search needs
 
 same-length-2 : tie.Need-same-length-2
 same-length-2 c = search needs
@@ -91,7 +91,7 @@ returns-3 c =
     let answered = c .before .before in
     let opening = answered .before .before .before .before in
     let at = start opening .args in
-    gives-as _ [] (c .refused2 .ensures)
+    gives-as _ [] (c .not-walked2 .ensures)
     (walk-refused (at .table .now) (at .row .now) (at .work .now) _
     (opened-refused (opening .open-table .ensures) (answered .opened2 .given .1)))
 
@@ -102,12 +102,12 @@ walk-spec =
     open-table-requires
     enum-known-opened
     row-ok-requires
-    refused-requires
+    not-walked-requires
     same-length
     returns
     walk-over-requires
     enum-known-opened-2
-    refused-requires-2
+    not-walked-requires-2
     same-length-2
     returns-2
     same-length-3

@@ -1,12 +1,12 @@
--- `suffixes::copy` meets its contract. The invariant: what was passed is as in the other slice. Assumes nothing.
+-- `slices::copy` meets its contract. The invariant: what was passed is as in the other slice. Assumes nothing.
 use mathlib.Core.Path.{_≡_, refl, sym, _∙_}
 use Prim.Native.Nat.{ℕ, _-_, _<_, _≤_}
 use native.Mathlib.Omega.{arith}
 use lib.ListN.{length, getD, length-set}
 use lib.Seq.{ext-getD}
 use Rattle.base.proofs.Fills.{fill-more}
-use Rattle.suffixes.proofs.copy.Statement.{statement}
-use Rattle.suffixes.proofs.copy.Tie as tie
+use Rattle.base.proofs.slices.copy.Statement.{statement}
+use Rattle.base.proofs.slices.copy.Tie as tie
 
 abbrev Inv-loop : tie.InvT-loop
 Inv-loop from to₀ v₀ to v = (v ≤ length from) × (length to ≡ length from) × ((w : ℕ) → w < v → getD to w 0 ≡ getD from w 0)
