@@ -1,4 +1,4 @@
-"""crates/*/must-fail/*.edit: each says first what it makes wrong, and docs/PROOFS.md counts them."""
+"""crates/*/must-fail/*.edit: each says first what it makes wrong, its old text is there, and docs/PROOFS.md counts them."""
 import re
 import unittest
 from pathlib import Path
@@ -20,18 +20,16 @@ class Edits(unittest.TestCase):
         self.assertEqual(tuple(map(int, counted.groups())), (len(EDITS), len(EDITS) - statements, statements))
 
     def test_old_text_stands_once_in_its_file(self):
-        """But for texts that several edits of one file change one after the other."""
-        wrong = []
+        """An edit whose file or text has moved away changes nothing."""
+        stale = []
         for path, text in EDITS.items():
-            files = re.findall(r"^file: *(\S+)$", text, re.MULTILINE)
-            self.assertEqual(len(files), 1, path)
-            file = path.parents[1] / files[0]
-            self.assertTrue(file.is_file(), f"{path} names {file}")
+            (file,) = re.findall(r"^file: *(\S+)$", text, re.MULTILINE)
+            source = path.parents[1] / file
+            code = source.read_text() if source.is_file() else ""
             old = re.findall(r"^old: (.*)$", text, re.MULTILINE)
-            self.assertTrue(old, path)
-            source = file.read_text()
-            wrong += [(str(path.relative_to(ROOT)), line) for line in old if source.count(line) != 1]
-        self.assertEqual(wrong, [])
+            if not old or any(code.count(line) != 1 for line in old):
+                stale.append(str(path.relative_to(ROOT)))
+        self.assertEqual(sorted(stale), [])
 
     def test_says_what_it_makes_wrong(self):
         self.assertEqual([path for path, text in EDITS.items() if not text.startswith("# ")], [])
