@@ -281,5 +281,5 @@ def write_table(table: Table) -> bytes:
     states = []
     for state in table.states:
         arcs = (numbers.of(name) + _fitted(target, 2) for name, target in state.arcs)
-        states.append(field(STATE, bytes([state.accepting]) + b"".join(arcs)))
+        states.append(field(STATE, _fitted(int(state.accepting), 1) + b"".join(arcs)))
     return _front(table.names, table.named_class) + b"".join(states)

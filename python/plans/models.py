@@ -42,8 +42,8 @@ def _table_bytes(table: Union[Table, Bytes]) -> bytes:
 
 
 def _day(day: Iterable[str]) -> Row:
-    names = () if isinstance(day, (str, bytes)) else tuple(day)
-    if isinstance(day, (str, bytes)) or not all(isinstance(name, str) for name in names):
+    names = tuple(day)
+    if isinstance(day, str) or not all(isinstance(name, str) for name in names):
         raise TypeError("a day must be given as its names, each a str, such as ['breakfast', 'lunch']")
     return names
 

@@ -113,7 +113,7 @@ class WrongArguments(unittest.TestCase):
         row, front = ("lunch",), (("lunch",), plans.Class(0, 2, 1))
         for given, reason in [(plans.Book(("lunch",), None, (("tea",),)), "the name 'tea' cannot be written: it is not among the names"),
                               (plans.Book(("thé",), None, ()), "the name 'thé' cannot be written: it is not ASCII"),
-                              (plans.Book(("lunch",), plans.Class(0, 256, 1), (row,)), "the number 256 cannot be written: it must be .* 255"),
+                              (plans.Book(("lunch",), plans.Class(0, 256, 1), (row,)), "the number 256 cannot be written"),
                               (plans.Book(many, None, (many[-1:],)), "the number 256 cannot be written: it must be from 0 to 255"),
                               (plans.Book(("lunch",), None, (65536 * row,)), "the number 65536 cannot be written: it must be .* 65535"),
                               (plans.Table(*front, (plans.State(True, (("lunch", 65536),)),)), "the number 65536 cannot be written"),
