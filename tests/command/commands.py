@@ -8,7 +8,6 @@ from pathlib import Path
 
 ROOT = Path(__file__).resolve().parents[2]
 PLANS = str(ROOT / "scripts" / "plans")
-COMPILED = tempfile.TemporaryDirectory()  # the module is compiled once for all runs, and not in the repository
 
 
 class InFolder(unittest.TestCase):
@@ -29,9 +28,9 @@ class InFolder(unittest.TestCase):
 
     def plans(self, *words: str, **settings) -> subprocess.CompletedProcess:
         settings = {"stdin": subprocess.DEVNULL, **settings} if "input" not in settings else settings
-        environment = {**os.environ, "PYTHONPYCACHEPREFIX": COMPILED.name, **settings.pop("env", {})}
+        environment = {**os.environ, **settings.pop("env", {})}
         settings = {"stdout": subprocess.PIPE, "stderr": subprocess.PIPE, **settings}
-        command = [sys.executable, PLANS, *words]
+        command = [sys.executable, "-B", PLANS, *words]
         return subprocess.run(command, cwd=self.folder, check=False, env=environment, timeout=60, **settings)
 
     def answers(self, status: int, out: str, *words: str, said: str = "", **settings):
