@@ -75,7 +75,7 @@ listing: $(LISTING)
 $(LISTING): always
 	@scripts/anew $@ listing
 
-install: lib listing
+install: python lib listing
 	@scripts/install put
 
 uninstall:

@@ -3,18 +3,18 @@ import sys
 from typing import Optional, Sequence
 
 from . import __version__, helps
-from .command import run
+from .command import ERROR, run
 from .files import Failure, put, say
 from .library import LibraryMissing
-
-ERROR = 2
 
 
 def main(words: Optional[Sequence[str]] = None) -> int:
     """Runs the command and gives its exit status: 0 yes or done, 1 no, 2 an error."""
     words = sys.argv[1:] if words is None else words
     try:
-        if list(words) in (["--help"], ["-h"], ["help"]):
+        if words and words[0] in ("--help", "-h", "help"):
+            if len(words) > 1:
+                return run([words[1], "--help"])
             put(helps.MAIN.encode("ascii"))
             return 0
         if list(words) == ["--version"]:
@@ -22,8 +22,7 @@ def main(words: Optional[Sequence[str]] = None) -> int:
             return 0
         return run(words)
     except Failure as problem:
-        for line in problem.lines:
-            say(line)
+        problem.say()
     except LibraryMissing as problem:
         say(f"plans: {problem}")
     except KeyboardInterrupt:

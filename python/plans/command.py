@@ -7,12 +7,12 @@ from typing import Callable, Dict, Iterable, List, NamedTuple, Optional, Sequenc
 from . import drawings, helps
 from .differences import Difference, compare
 from .fields import ENTRY_LIMIT, ROW_LIMIT, Book, Class, Refused, Row, Table, read_table, write_book
-from .files import Failure, Input, Kind, put, read_input, say, write_output
+from .files import Failure, Input, Kind, label_of, put, read_input, say, write_output
 from .models import Built, Outcome, Walked, build, judged_book, judged_table, list_book, list_table, rewrite, walk
 from .showing import counted, cut, nearest, plain, shown
 from .texts import BadClass, BadText, Text, name_problem, read_class, read_text, write_text
 
-YES, NO = 0, 1
+YES, NO, ERROR = 0, 1, 2
 
 
 @dataclass(frozen=True)
@@ -41,8 +41,8 @@ def told(source: Input, problem: BadText) -> List[str]:
 def notes(source: Input, text: Text, copies: bool) -> List[str]:
     """What was read of a text, so that slips of the pen are seen."""
     names = text.names()
-    different = len(set(text.days))
-    lines = [f"{source.label}: {counted(len(text.days), 'day')}, {different:,} of them different; {counted(len(names), 'name')}:"]
+    different = counted(len(set(text.days)), "different day")
+    lines = [f"{source.label}: {counted(len(text.days), 'day')}, {different}; {counted(len(names), 'name')}:"]
     # a hard space keeps a name and its count in one line
     words = ", ".join(f"{name}\xa0{names[name]:,}" for name in sorted(names, key=lambda name: (name.lower(), name)))
     wrapped = textwrap.wrap(words, 80, initial_indent="  ", subsequent_indent="  ", break_long_words=False, break_on_hyphens=False)
@@ -117,7 +117,7 @@ def listing(asked: Asked) -> int:
 def written(asked: Asked, source: Input, data: bytes, what: str) -> int:
     write_output(asked.out, data, [source])
     if asked.out not in (None, "-") and not asked.quiet:
-        say(f"{cut(plain(asked.out), 200)}: {what}")
+        say(f"{label_of(asked.out, '')}: {what}")
     return YES
 
 
@@ -137,6 +137,9 @@ def day_of(words: Sequence[str]) -> Row:
     for word in day:
         if any(letter.isspace() for letter in word):
             raise Failure(f"plans: {name_problem(word)}, or give each name by itself")
+        parting = next((letter for letter in word if letter in ",;"), None)
+        if parting:
+            raise Failure(f"plans: {shown(word)} holds {shown(parting)}, and no name may: give each name by itself")
     if len(day) > ENTRY_LIMIT:
         raise Failure(f"plans: a day of {len(day)} names: at most {ENTRY_LIMIT} are allowed")
     return day
@@ -188,13 +191,23 @@ def judged(source: Input, asked: Asked) -> Tuple[bool, List[str]]:
     except BadText as problem:
         return False, told(source, problem)
     except Refused as problem:
-        return False, [f"{source.label}: refused: {problem}"]
+        what = f" (this is {source.kind.value})" if source.kind in (Kind.EMPTY, Kind.NEITHER, Kind.ARCHIVE) else ""
+        return False, [f"{source.label}: refused: {problem}{what}"]
 
 
 def checking(asked: Asked) -> int:
-    results = [judged(read_input(path), asked) for path in asked.words]
-    put_lines(line for _, lines in results for line in lines)
-    return YES if all(accepted for accepted, _ in results) else NO
+    """A file that cannot be read is told of, and the others are judged all the same."""
+    status = YES
+    for path in asked.words:
+        try:
+            accepted, lines = judged(read_input(path), asked)
+        except Failure as problem:
+            problem.say()
+            status = ERROR
+            continue
+        put_lines(lines)
+        status = max(status, YES if accepted else NO)
+    return status
 
 
 def difference_lines(ours: Model, theirs: Model, found: Difference) -> List[str]:

@@ -2,7 +2,7 @@
 import re
 from dataclasses import dataclass
 from pathlib import Path
-from typing import Dict, Iterable, Iterator, List, Optional, Sequence, Tuple
+from typing import Dict, Iterable, Iterator, List, Optional, Sequence, Tuple, Union
 
 INPUT_LIMIT = 65535
 NAME_LIMIT = 64
@@ -36,6 +36,9 @@ class Refused(Exception):
         self.offset = offset
         place = "" if offset is None else f"offset {offset}: "
         super().__init__(f"{place}refusal {number}: {self.words}")
+
+    def __reduce__(self) -> Tuple:
+        return Refused, (self.number, self.offset)
 
 
 @dataclass(frozen=True)
@@ -96,6 +99,7 @@ def prefix_tree(rows: Iterable[Sequence]) -> Dict[tuple, int]:
 
 
 Field = Tuple[int, int, bytes]  # offset, mark, body
+Bytes = Union[bytes, bytearray, memoryview]
 
 
 def fields_of(data: bytes) -> Iterator[Field]:
@@ -173,7 +177,15 @@ class _Reading:
         return tuple(name.decode("ascii") for name in self.names)
 
 
-def _read(data: bytes, last: int) -> _Reading:
+def as_bytes(given: Bytes, wanted: str = "bytes") -> bytes:
+    """What was given, as bytes; TypeError if it is something else, such as a text or a number."""
+    if not isinstance(given, (bytes, bytearray, memoryview)):
+        raise TypeError(f"{wanted} must be given, not {type(given).__name__}")
+    return bytes(given)
+
+
+def _read(data: Bytes, last: int) -> _Reading:
+    data = as_bytes(data)
     if len(data) > INPUT_LIMIT:
         raise Refused(1, INPUT_LIMIT)
     reading = _Reading(last)
@@ -184,7 +196,7 @@ def _read(data: bytes, last: int) -> _Reading:
     return reading
 
 
-def read_book(data: bytes) -> Book:
+def read_book(data: Bytes) -> Book:
     """The book that the bytes are; Refused, with the offset, if they are none."""
     reading = _read(data, ROW)
     beginnings = {b""}
@@ -212,7 +224,7 @@ def _judge_numbering(items: Sequence[Tuple[int, bytes]]) -> None:
             met = max(met, target + 1)
 
 
-def read_table(data: bytes) -> Table:
+def read_table(data: Bytes) -> Table:
     """The table that the bytes are; Refused, with the offset, if they are none."""
     reading = _read(data, STATE)
     _judge_numbering(reading.items)
@@ -221,29 +233,53 @@ def read_table(data: bytes) -> Table:
     return Table(reading.all_names(), reading.named_class, states)
 
 
+def _fitted(number: int, size: int) -> bytes:
+    """The number in so many bytes."""
+    if not 0 <= number < 256 ** size:
+        raise ValueError(f"the number {number} cannot be written: it must be from 0 to {256 ** size - 1}")
+    return number.to_bytes(size, "big")
+
+
 def field(mark: int, body: bytes) -> bytes:
-    return bytes([mark]) + len(body).to_bytes(2, "big") + body
+    return _fitted(mark, 1) + _fitted(len(body), 2) + body
 
 
 def _front(names: Sequence[str], named_class: Optional[Class]) -> bytes:
+    strange = next((name for name in names if not name.isascii()), None)
+    if strange is not None:
+        raise ValueError(f"the name {strange!r} cannot be written: it is not ASCII")
     front = b"".join(field(NAME, name.encode("ascii")) for name in names)
     if named_class is None:
         return front
-    return front + field(CLASS, bytes([named_class.kind, named_class.one, named_class.two]))
+    settings = (named_class.kind, named_class.one, named_class.two)
+    return front + field(CLASS, b"".join(_fitted(number, 1) for number in settings))
+
+
+class _Numbers:
+    """Each name's number, as it is written."""
+
+    def __init__(self, names: Sequence[str]):
+        self.names = {name: number for number, name in enumerate(names)}
+
+    def of(self, name: str) -> bytes:
+        if name not in self.names:
+            raise ValueError(f"the name {name!r} cannot be written: it is not among the names")
+        return _fitted(self.names[name], 1)
 
 
 def write_book(book: Book) -> bytes:
-    """The book's bytes. They are not judged: what is wrong with the book, a call's refusal says."""
-    numbers = {name: number for number, name in enumerate(book.names)}
-    rows = (field(ROW, bytes(numbers[name] for name in row)) for row in book.rows)
+    """The book's bytes. They are not judged: what is wrong with the book, a call's refusal says. ValueError where there can be no
+    bytes: a row has a name that is not among the names, a name is not ASCII, or a number is too large for its bytes."""
+    numbers = _Numbers(book.names)
+    rows = (field(ROW, b"".join(map(numbers.of, row))) for row in book.rows)
     return _front(book.names, book.named_class) + b"".join(rows)
 
 
 def write_table(table: Table) -> bytes:
-    """The table's bytes, not judged either."""
-    numbers = {name: number for number, name in enumerate(table.names)}
+    """The table's bytes, not judged either; ValueError as for a book."""
+    numbers = _Numbers(table.names)
     states = []
     for state in table.states:
-        arcs = (bytes([numbers[name]]) + target.to_bytes(2, "big") for name, target in state.arcs)
-        states.append(field(STATE, bytes([state.accepting]) + b"".join(arcs)))
+        arcs = (numbers.of(name) + _fitted(target, 2) for name, target in state.arcs)
+        states.append(field(STATE, _fitted(int(state.accepting), 1) + b"".join(arcs)))
     return _front(table.names, table.named_class) + b"".join(states)

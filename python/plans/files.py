@@ -32,6 +32,10 @@ class Failure(Exception):
         super().__init__("\n".join(lines))
         self.lines = lines
 
+    def say(self) -> None:
+        for line in self.lines:
+            say(line)
+
 
 @dataclass(frozen=True)
 class Input:
@@ -49,7 +53,7 @@ class Input:
 
 
 def label_of(path: str, standard: str) -> str:
-    return standard if path == STANDARD else cut(plain(path), NAME_CUT)
+    return standard if path == STANDARD else cut(plain(path), NAME_CUT) or "''"
 
 
 def failed(label: str, problem: OSError) -> Failure:

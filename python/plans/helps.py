@@ -70,7 +70,8 @@ plans check FILE... [-q]
 
 Says of each file whether it is accepted; if not, which refusal it gets, and at
 which offset the field begins that it is about. Of a text each faulty line is
-told. The exit status is 0 if all are accepted, else 1.
+told. The exit status is 0 if all are accepted, 1 if one is not, and 2 if one
+cannot be read.
 
   $ printf '\\001\\000\\0019' > bad.table
   $ plans check bad.table
@@ -111,7 +112,7 @@ their copies. A line is a day: names parted by spaces, or by commas, semicolons
 or tabs. A line with a single - is the empty day; # begins a comment.
 
   $ printf 'class = seen\\ntea cake\\n\\n-\\n' | plans book - -o tea.book
-  standard input: 2 days, 2 of them different; 2 names:
+  standard input: 2 days, 2 different days; 2 names:
     cake 1, tea 1
   standard input: 1 blank line passed over (a single - is the empty day)
   tea.book: 27 bytes

@@ -1,11 +1,11 @@
 """The library's calls with names in place of numbers and bits. A refusal is raised as Refused."""
 import enum
 from dataclasses import dataclass
-from typing import Callable, Sequence, Tuple, TypeVar, Union
+from typing import Callable, Iterable, Sequence, Tuple, TypeVar, Union
 
 from . import library
-from .fields import (ENTRY_LIMIT, INPUT_LIMIT, NAME, Book, Refused, Row, Table, fields_of, read_book, read_table, write_book,
-                     write_table)
+from .fields import (ENTRY_LIMIT, INPUT_LIMIT, NAME, Book, Bytes, Refused, Row, Table, as_bytes, fields_of, read_book, read_table,
+                     write_book, write_table)
 
 File = TypeVar("File", Book, Table)
 
@@ -33,12 +33,19 @@ class Walked:
     next_names: Tuple[str, ...]
 
 
-def _book_bytes(book: Union[Book, bytes]) -> bytes:
-    return write_book(book) if isinstance(book, Book) else bytes(book)
+def _book_bytes(book: Union[Book, Bytes]) -> bytes:
+    return write_book(book) if isinstance(book, Book) else as_bytes(book, "a Book or its bytes")
 
 
-def _table_bytes(table: Union[Table, bytes]) -> bytes:
-    return write_table(table) if isinstance(table, Table) else bytes(table)
+def _table_bytes(table: Union[Table, Bytes]) -> bytes:
+    return write_table(table) if isinstance(table, Table) else as_bytes(table, "a Table or its bytes")
+
+
+def _day(day: Iterable[str]) -> Row:
+    names = tuple(day)
+    if isinstance(day, str) or not all(isinstance(name, str) for name in names):
+        raise TypeError("a day must be given as its names, each a str, such as ['breakfast', 'lunch']")
+    return names
 
 
 def _written(call: str, data: bytes, room: int) -> Tuple:
@@ -48,14 +55,14 @@ def _written(call: str, data: bytes, room: int) -> Tuple:
     return result, out
 
 
-def build(book: Union[Book, bytes]) -> Built:
-    """The table of a book."""
+def build(book: Union[Book, Bytes]) -> Built:
+    """The table of a book. A book that cannot be written is a ValueError (see write_book)."""
     result, table = _written("plans_build", _book_bytes(book), INPUT_LIMIT)
     return Built(table, result.states, result.joins)
 
 
-def rewrite(table: Union[Table, bytes]) -> Built:
-    """The table judged and written again, to the same bytes."""
+def rewrite(table: Union[Table, Bytes]) -> Built:
+    """The table judged and written again, to the same bytes. A table that cannot be written is a ValueError (see write_book)."""
     result, again = _written("plans_rewrite", _table_bytes(table), INPUT_LIMIT)
     return Built(again, result.states, result.joins)
 
@@ -83,12 +90,12 @@ def judged_table(data: bytes) -> Table:
     return _judged(rewrite, read_table, data)
 
 
-def list_book(book: Union[Book, bytes]) -> str:
+def list_book(book: Union[Book, Bytes]) -> str:
     """The listing of a book's table."""
     return _written("plans_list", _book_bytes(book), library.LISTING_BYTES)[1].decode("ascii")
 
 
-def list_table(table: Union[Table, bytes]) -> str:
+def list_table(table: Union[Table, Bytes]) -> str:
     """The listing of a table. Its first line has no joins: a table does not say how many there were."""
     states = read_table(rewrite(table).table).states
     lines = [f"states {len(states)}"]
@@ -111,9 +118,10 @@ def _front_names(table: bytes) -> Sequence[str]:
     return names
 
 
-def walk(table: Union[Table, bytes], day: Sequence[str]) -> Walked:
+def walk(table: Union[Table, Bytes], day: Iterable[str]) -> Walked:
     """Walks a day's names over a table from its start. A name that the table does not have stops the walk."""
     data = _table_bytes(table)
+    day = _day(day)
     names = _front_names(data)
     numbers = {name: number for number, name in enumerate(names[:256])}
     known = next((place for place, name in enumerate(day) if name not in numbers), len(day))
@@ -126,4 +134,4 @@ def walk(table: Union[Table, bytes], day: Sequence[str]) -> Walked:
         raise Refused(result.refusal)
     outcome = Outcome(result.outcome) if known == len(day) else Outcome.STOPS
     following = tuple(name for number, name in enumerate(names) if result.next_names >> number & 1)
-    return Walked(outcome, tuple(day[:result.walked]), following)
+    return Walked(outcome, day[:result.walked], following)

@@ -1,20 +1,23 @@
 """Books as text, one day a line: read as people and spreadsheets write it, and written. The format is in docs/FORMATS.md."""
 import re
+import unicodedata
 from collections import Counter
 from dataclasses import dataclass
-from typing import Dict, FrozenSet, List, Optional, Set, Tuple, Union
+from typing import Dict, FrozenSet, Iterable, List, Optional, Set, Tuple, Union
 
 from .fields import (CONTEXT, ENTRY_LIMIT, LAST, NAME_BYTES, NAME_LIMIT, NAME_SHAPE, ROW_LIMIT, SEEN, SETTING_LIMIT, STATE_LIMIT,
                      Book, Class, Row)
-from .showing import shown, suggested
+from .showing import counted, shown, suggested
 
 EMPTY_DAY = "-"
 LINE_ENDS = re.compile("\r\n|\r|\n")
 FAULT_LIMIT = 1000
 MARKS = re.compile('["#,;\t]')
-# in a line: a quoted cell, a comment, what parts cells, blanks, and anything else
-TOKENS = re.compile(r'(?P<quoted>"(?:[^"]|"")*")|(?P<comment>#.*)|(?P<parting>[,;\t])|(?P<blank> +)|(?P<word>"|[^",;\t #]+)')
-SETTING = re.compile(r'[\s",;]*([^\s",;=#]*)[\s",;]*=([^#]*)')
+# in a line: a quoted cell, in which "" stands for a quote, a comment, what parts cells, blanks, and anything else
+TOKENS = re.compile(r'(?P<quoted>(?:"[^"]*")+)|(?P<comment>#.*)|(?P<parting>[,;\t]+)|(?P<blank> +)|(?P<word>"|[^",;\t #]+)')
+# two expressions: one for both would try every part of a long front
+FRONT = re.compile(r'[\s",;]*')
+SETTING = re.compile(r'([^\s",;=#]*)[\s",;]*=([^#]*)')
 SMALLER = "take a smaller element, such as a meal in place of a day"
 BYTE_ORDER_MARK = "\ufeff"
 UTF_16 = {b"\xff\xfe": "utf-16-le", b"\xfe\xff": "utf-16-be"}
@@ -30,9 +33,12 @@ class Problem:
 class BadText(Exception):
     """A text that describes no book: every problem, in the order of the lines."""
 
-    def __init__(self, problems: List[Problem]):
+    def __init__(self, problems: Iterable[Problem]):
         self.problems = tuple(sorted(problems, key=lambda problem: problem.line))
         super().__init__("; ".join(f"line {problem.line}: {problem.reason}" for problem in self.problems))
+
+    def __reduce__(self) -> Tuple:
+        return BadText, (self.problems,)
 
 
 class BadClass(ValueError):
@@ -69,11 +75,13 @@ def name_problem(name: str) -> Optional[str]:
     """Why the word is no name, with a suggestion, or None."""
     if NAME_SHAPE.fullmatch(name) and len(name) <= NAME_BYTES:
         return None
-    wrong = next((letter for letter in name if not NAME_SHAPE.fullmatch("a" + letter)), None)
-    if wrong is not None and wrong.isspace():
+    allowed = len(NAME_SHAPE.match("a" + name)[0]) - 1
+    wrong = name[allowed:allowed + 1]
+    if wrong and unicodedata.category(wrong) == "Zs":
         reason = "holds a space, and no name may"
-    elif wrong is not None:
+    elif wrong:
         reason = f"holds {shown(wrong)}, which the format does not allow yet: ASCII letters, digits, _ : . and - are"
+        reason += " (a cell may not hold a line break)" if name.count('"') % 2 else ""
     elif len(name) > NAME_BYTES:
         reason = f"has {len(name)} letters: at most {NAME_BYTES} are allowed"
     else:
@@ -89,26 +97,27 @@ def _unquoted(cell: str) -> str:
     return cell
 
 
+def _uncommented(line: str) -> Tuple[str, bool]:
+    """The line without a comment and the blanks before that, and whether there was one."""
+    comments = (found.start() for found in TOKENS.finditer(line) if found.lastgroup == "comment")
+    start = next(comments, None) if "#" in line else None
+    return (line, False) if start is None else (line[:start].rstrip(" \t"), True)
+
+
 def cells_of(line: str) -> Tuple[List[str], bool]:
     """The cells that hold something, and whether the line holds a comment. Commas, semicolons and tabs part cells where the line
     has any; else blanks do."""
     if not MARKS.search(line):
         return [cell for cell in line.split(" ") if cell], False
-    tokens = [(found.lastgroup, found.group()) for found in TOKENS.finditer(line)]
-    comment = bool(tokens) and tokens[-1][0] == "comment"
-    if comment:
-        tokens.pop()
-        while tokens and tokens[-1][1].isspace():
-            tokens.pop()
-    parts = "parting" if any(kind == "parting" for kind, _ in tokens) else "blank"
-    cells: List[List[str]] = [[]]
-    for kind, text in tokens:
-        if kind == parts:
-            cells.append([])
-        else:
-            cells[-1].append(text)
-    whole = (_unquoted("".join(cell)) for cell in cells)
-    return [cell for cell in whole if cell], comment
+    line, comment = _uncommented(line)
+    parts = "parting" if any(found.lastgroup == "parting" for found in TOKENS.finditer(line)) else "blank"
+    cells, start = [], 0
+    for found in TOKENS.finditer(line):
+        if found.lastgroup == parts:
+            cells.append(_unquoted(line[start:found.start()]))
+            start = found.end()
+    cells.append(_unquoted(line[start:]))
+    return [cell for cell in cells if cell], comment
 
 
 @dataclass(frozen=True)
@@ -140,7 +149,7 @@ def _too_many_days(text: Text, first: Dict[Row, int], once: bool) -> List[Proble
     lines = list(first.values()) if once else text.lines
     if len(lines) <= ROW_LIMIT:
         return []
-    copies = "" if len(first) > ROW_LIMIT else f" (only {len(first)} of them differ: leave copies out)"
+    copies = "" if len(first) > ROW_LIMIT else f" (only {counted(len(first), 'different day')}: leave copies out)"
     what = "different day" if once else "day"
     reason = f"a {ROW_LIMIT + 1}th {what}: at most {ROW_LIMIT} are allowed; give fewer days{copies}"
     return [Problem(lines[ROW_LIMIT], reason)]
@@ -156,14 +165,15 @@ def limit_problems(text: Text, once: bool) -> List[Problem]:
     if len(names) > NAME_LIMIT:
         problems.append(Problem(1, f"{len(names)} names are declared: at most {NAME_LIMIT} are allowed; {SMALLER}"))
     for day, line in first.items():
-        before = len(names), len(beginnings)
-        names.update(day)
-        beginnings.update(day[:end] for end in range(1, len(day) + 1))
-        if before[0] <= NAME_LIMIT < len(names):
-            problems.append(Problem(line, f"with this day there are over {NAME_LIMIT} different names; {SMALLER}"))
-        if before[1] <= STATE_LIMIT < len(beginnings):
-            problems.append(Problem(line, f"with this day the prefix tree needs over {STATE_LIMIT} states; "
-                                          f"give fewer days, or {SMALLER}"))
+        if len(names) <= NAME_LIMIT:
+            names.update(day)
+            if len(names) > NAME_LIMIT:
+                problems.append(Problem(line, f"with this day there are over {NAME_LIMIT} different names; {SMALLER}"))
+        if len(beginnings) <= STATE_LIMIT:
+            beginnings.update(day[:end] for end in range(1, len(day) + 1))
+            if len(beginnings) > STATE_LIMIT:
+                problems.append(Problem(line, f"with this day the prefix tree needs over {STATE_LIMIT} states; "
+                                              f"give fewer days, or {SMALLER}"))
     return problems
 
 
@@ -183,7 +193,7 @@ class _Reader:
         self.problems: List[Problem] = []
 
     def line(self, number: int, line: str) -> None:
-        setting = SETTING.match(line)
+        setting = "=" in line and SETTING.match(line, FRONT.match(line).end())
         if setting:
             ends = '",; \t' if line.lstrip().startswith('"') else ",; \t"  # a cell may hold the whole line, and be quoted
             self.setting(number, setting[1], cells_of(setting[2].rstrip(ends))[0])
@@ -206,7 +216,9 @@ class _Reader:
     def setting(self, number: int, what: str, cells: List[str]) -> None:
         if what.lower() == "sep" and number == 1:
             return  # a spreadsheet's word on what parts its cells
-        if what not in ("class", "names"):
+        if not what:
+            self.wrong(number, "a line with =: only 'class =' and 'names =' can be set")
+        elif what not in ("class", "names"):
             self.wrong(number, f"{shown(what)} cannot be set: only 'class =' and 'names =' can")
         elif self.days:
             self.wrong(number, f"'{what} =' must stand before the first day")
@@ -245,7 +257,7 @@ def decoded(data: bytes) -> str:
 
 
 def read_text(data: Union[str, bytes]) -> Text:
-    """What the text says; BadText, with every faulty line, if it describes no book."""
+    """What the text says; BadText, with every faulty line (up to 1,000 faults), if it describes no book."""
     text = data if isinstance(data, str) else decoded(data)
     lines = LINE_ENDS.split(text.removeprefix(BYTE_ORDER_MARK))
     if not lines[-1]:

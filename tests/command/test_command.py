@@ -9,7 +9,7 @@ from commands import PLANS, ROOT, InFolder
 from reference import field
 
 TEXT = "lunch\nlunch tea\nlunch tea cake\n"
-NOTES = "days.txt: 3 days, 3 of them different; 3 names:\n  cake 1, lunch 3, tea 2\n"
+NOTES = "days.txt: 3 days, 3 different days; 3 names:\n  cake 1, lunch 3, tea 2\n"
 BOOK = plans.write_book(plans.read_text(TEXT).book())
 TABLE = plans.build(BOOK).table
 LISTED = "0 - lunch>1\n1 + tea>2\n2 + cake>3\n3 +\n"
@@ -113,6 +113,10 @@ class Good(InFolder):
             self.assertLessEqual(len(done.stdout.decode().splitlines()), 24)
         self.assertLessEqual(len(self.plans("--help").stdout.splitlines()), 24)
         self.assertLessEqual(max(map(len, shown.splitlines())), 80)
+        walk = self.plans("walk", "--help").stdout.decode()
+        for words in (["help", "walk"], ["--help", "walk"], ["-h", "walk"]):
+            self.answers(0, walk, *words)
+        self.answers(0, self.plans("--help").stdout.decode(), "help")
         self.answers(0, f"plans {(ROOT / 'VERSION').read_text()}", "--version")
 
     def test_as_a_module(self):
@@ -130,7 +134,7 @@ class WhatPeopleType(InFolder):
     def test_names_are_told_so_that_slips_are_seen(self):
         self.put("days.txt", "breakfast lunch\nBreakfast lucnh\n\nbreakfast lunch\n-\n")
         self.answers(0, "", "build", "days.txt", "-o", "out", said=(
-            "days.txt: 4 days, 3 of them different; 4 names:\n  Breakfast 1, breakfast 2, lucnh 1, lunch 2\n"
+            "days.txt: 4 days, 3 different days; 4 names:\n  Breakfast 1, breakfast 2, lucnh 1, lunch 2\n"
             "days.txt: 1 blank line passed over (a single - is the empty day)\nout: 5 states, 0 joins, 78 bytes\n"))
 
     def test_all_faulty_lines_are_told(self):
@@ -145,8 +149,8 @@ class WhatPeopleType(InFolder):
         self.put("days.txt", 150 * "lunch\nlunch tea\n")
         once = "days.txt: over 256 days: each different one is taken once, which gives the same model\n"
         self.answers(0, "states 3 joins 0\n0 - lunch>1\n1 + tea>2\n2 +\n", "list", "days.txt", said=(
-            "days.txt: 300 days, 2 of them different; 2 names:\n  lunch 300, tea 150\n" + once))
-        self.fails("days.txt:257: a 257th day: at most 256 are allowed; give fewer days (only 2 of them differ: leave copies out)",
+            "days.txt: 300 days, 2 different days; 2 names:\n  lunch 300, tea 150\n" + once))
+        self.fails("days.txt:257: a 257th day: at most 256 are allowed; give fewer days (only 2 different days: leave copies out)",
                    "book", "days.txt", "-o", "out")
 
     def test_limits_say_what_to_do(self):
@@ -174,16 +178,30 @@ class Bad(InFolder):
         self.fails("plans: none.txt: No such file or directory", "check", "none.txt")
         (self.folder / "folder").mkdir()
         self.fails("plans: folder: Is a directory", "walk", "folder", "lunch")
+        self.fails("plans: '': No such file or directory", "list", "")
+        self.fails("plans: '': Is a directory", "build", "days.txt", "-q", "-o", "")
         self.fails("plans: folder: Is a directory", "build", "days.txt", "-q", "-o", "folder")
         self.fails("plans: none/out: No such file or directory", "build", "days.txt", "-q", "-o", "none/out")
         self.fails("plans: days.txt/x: Not a directory", "list", "days.txt/x")
+
+    def test_check_judges_the_other_files_where_one_is_missing(self):
+        accepted, missing = "days.book: accepted: a book of 3 names, 3 rows\n", "plans: none: No such file or directory\n"
+        self.answers(2, accepted, "check", "days.book", "none", said=missing)
+        self.put("empty", b"")
+        done = self.plans("check", "none", "empty", "days.book")
+        self.assertEqual((done.returncode, done.stderr.decode()), (2, missing))
+        self.assertRegex(done.stdout.decode(), f"^empty: refused: .*\n{accepted}$")
+        self.assertEqual(self.plans("check", "empty", "days.book").returncode, 1)
 
     def test_binary_rubbish(self):
         rubbish = bytes(range(128, 256)) + bytes(128)
         self.put("rubbish", rubbish)
         self.of_each("rubbish: this is neither a text nor fields, which begin with the byte 01; .* is wanted", "rubbish")
-        self.answers(1, f"rubbish: refused: offset 0: refusal 2: {plans.REFUSALS[2]}\n", "check", "rubbish")
+        neither = "this is neither a text nor fields, which begin with the byte 01"
+        self.answers(1, f"rubbish: refused: offset 0: refusal 2: {plans.REFUSALS[2]} ({neither})\n", "check", "rubbish")
         self.put("book.xlsx", b"PK\x03\x04" + rubbish)
+        archive = "this is an archive, such as a spreadsheet's own file: save it as CSV or as text"
+        self.answers(1, f"book.xlsx: refused: offset 0: refusal 2: {plans.REFUSALS[2]} ({archive})\n", "check", "book.xlsx")
         self.fails("book.xlsx: this is an archive, such as a spreadsheet's own file: save it as CSV or as text; a text is wanted",
                    "book", "book.xlsx")
 
@@ -201,7 +219,8 @@ class Bad(InFolder):
         self.put("empty", b"")
         self.of_each("empty: this is an empty file; .* is wanted", "empty")
         self.fails("standard input: this is an empty file; a text, a book or a table is wanted", "diff", "-", "days.table")
-        self.answers(1, "empty: refused: offset 0: refusal 4: the input ends while a field is still due\n", "check", "empty")
+        self.answers(1, "empty: refused: offset 0: refusal 4: the input ends while a field is still due (this is an empty file)\n",
+                     "check", "empty")
 
     def test_200_megabytes(self):
         for name, start in [("zeros", b""), ("fields", TABLE), ("text", TEXT.encode())]:
@@ -209,7 +228,8 @@ class Bad(InFolder):
                 file.write(start)
                 file.truncate(200_000_000)
         too_long = "refusal 1: the input is over 65,535 bytes, or the working area under 65,536"
-        self.answers(1, f"zeros: refused: offset 65535: {too_long}\n", "check", "zeros")
+        neither = "this is neither a text nor fields, which begin with the byte 01"
+        self.answers(1, f"zeros: refused: offset 65535: {too_long} ({neither})\n", "check", "zeros")
         self.answers(1, f"fields: refused: offset 65535: {too_long}\n", "check", "fields")
         self.fails(f"fields: offset 65535: {too_long}", "walk", "fields", "lunch")
         self.of_each("zeros: this is neither a text nor fields, which begin with the byte 01; .* is wanted", "zeros")
@@ -253,6 +273,8 @@ class Bad(InFolder):
     def test_words_that_are_no_names(self):
         self.fails("plans: the name 'lunch tea' holds a space, and no name may; write lunch_tea, or give each name by itself",
                    "walk", "days.table", "lunch tea")
+        for word, parting in [("lunch,tea", ","), ("lunch;tea,cake", ";")]:
+            self.fails(f"plans: '{word}' holds '{parting}', and no name may: give each name by itself", "walk", "days.table", word)
         self.fails("plans: a day of 65 names: at most 64 are allowed", "walk", "days.table", *65 * ["lunch"])
         self.answers(1, "not allowed: a day may not begin with 'a\\x1b[1m' (the model has no such name)\nnext: lunch\n",
                      "walk", "days.table", "a\x1b[1m")

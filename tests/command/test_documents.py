@@ -93,6 +93,19 @@ class Examples(InFolder):
         self.assertEqual(self.in_terminal("plans build examples/books/days.book"), (refused, 2))
 
 
+class Paths(unittest.TestCase):
+    """What the documents name in backquotes is there. Words such as NAME, and wildcards, stand for any."""
+    PATH = re.compile(r"`((?:crates|tests|scripts|docs|python|include|examples)/[^`\s]*)`")
+    ANY = re.compile(r"NAME|MODULE|[*?]")
+
+    def test_each_is_there(self):
+        pages = [ROOT / "README.md", *ROOT.glob("docs/*.md")]
+        found = {(page.name, path) for page in pages for path in self.PATH.findall(page.read_text())}
+        self.assertGreater(len(found), 20)
+        missing = [(page, path) for page, path in found if not self.ANY.search(path) and not (ROOT / path).exists()]
+        self.assertEqual(sorted(missing), [])
+
+
 class ManPage(unittest.TestCase):
     PAGE = (ROOT / "docs" / "plans.1").read_text()
 

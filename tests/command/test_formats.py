@@ -49,7 +49,7 @@ class Formats(unittest.TestCase):
 
     def test_shipped_books(self):
         shown = re.findall(r"^\| `(\w+)` \| [^|]* \| [^|]* \| (\d+), (\d+), (\d+) \| (\d+), (\d+), (\d+) \|$", FORMATS, re.MULTILINE)
-        self.assertEqual([row[0] for row in shown], ["days", "meal", "course"])
+        self.assertEqual(sorted(row[0] for row in shown), sorted(path.stem for path in (EXAMPLES / "books").glob("*.txt")))
         for name, *numbers in shown:
             path = EXAMPLES / "books" / (name + ".txt")
             book = book_at(path)

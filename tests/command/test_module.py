@@ -2,6 +2,7 @@
 library is missing."""
 import ctypes
 import os
+import pickle
 import random
 import re
 import subprocess
@@ -81,6 +82,56 @@ class Walks(unittest.TestCase):
         self.assertEqual(plans.walk(table, ["lunch", "tee", "tea"]), plans.Walked(plans.Outcome.STOPS, ("lunch",), ("tea",)))
         self.assertEqual(plans.walk(table, ["tea", "tee"]), plans.Walked(plans.Outcome.STOPS, (), ("lunch",)))
         self.assertEqual(plans.walk(table, []), plans.Walked(plans.Outcome.ON_THE_WAY, (), ("lunch",)))
+
+    def test_any_names_in_order_are_a_day(self):
+        table = plans.build(plans.read_text("lunch\nlunch tea\n").book()).table
+        expected = plans.Walked(plans.Outcome.ADMITTED, ("lunch", "tea"), ())
+        for day in (["lunch", "tea"], ("lunch", "tea"), (name for name in ["lunch", "tea"]), {"lunch": 1, "tea": 2}):
+            self.assertEqual(plans.walk(table, day), expected)
+
+
+class WrongArguments(unittest.TestCase):
+    BOOK = plans.read_text("lunch\nlunch tea\n").book()
+    TABLE = plans.build(BOOK).table
+
+    def test_neither_a_book_nor_bytes(self):
+        for call in (plans.build, plans.list_book, plans.rewrite, plans.list_table, plans.judged_book, plans.read_book, plans.read_table,
+                     lambda given: plans.walk(given, ["lunch"])):
+            for given in (5, "lunch", [1, 2], None, plans.read_text("lunch")):
+                with self.assertRaisesRegex(TypeError, f"bytes must be given, not {type(given).__name__}$"):
+                    call(given)
+        for given in (bytearray(self.TABLE), memoryview(self.TABLE)):
+            self.assertEqual(plans.rewrite(given).table, self.TABLE)
+
+    def test_no_day(self):
+        for day in ("lunch", b"lunch", [b"lunch"], [0]):
+            with self.assertRaisesRegex(TypeError, "^a day must be given as its names, each a str"):
+                plans.walk(self.TABLE, day)
+
+    def test_what_cannot_be_written(self):
+        many = tuple(f"n{i:03}" for i in range(257))
+        row, front = ("lunch",), (("lunch",), plans.Class(0, 2, 1))
+        for given, reason in [(plans.Book(("lunch",), None, (("tea",),)), "the name 'tea' cannot be written: it is not among the names"),
+                              (plans.Book(("thé",), None, ()), "the name 'thé' cannot be written: it is not ASCII"),
+                              (plans.Book(("lunch",), plans.Class(0, 256, 1), (row,)), "the number 256 cannot be written"),
+                              (plans.Book(many, None, (many[-1:],)), "the number 256 cannot be written: it must be from 0 to 255"),
+                              (plans.Book(("lunch",), None, (65536 * row,)), "the number 65536 cannot be written: it must be .* 65535"),
+                              (plans.Table(*front, (plans.State(True, (("lunch", 65536),)),)), "the number 65536 cannot be written"),
+                              (plans.Table(*front, (plans.State(True, (("tea", 0),)),)), "the name 'tea' cannot be written")]:
+            write, call = (plans.write_book, plans.build) if isinstance(given, plans.Book) else (plans.write_table, plans.rewrite)
+            for tried in (write, call):
+                with self.assertRaisesRegex(ValueError, "^" + reason):
+                    tried(given)
+
+    def test_what_can_be_written_is_refused_by_the_library(self):
+        for book, number in [(plans.Book(("9",), None, ((),)), 5), (plans.Book(("lunch",), plans.Class(7), ((),)), 8)]:
+            self.assertEqual(number_of(plans.build, book), number)
+
+    def test_refusals_are_pickled(self):
+        for problem in (plans.Refused(9, 4), plans.Refused(1)):
+            again = pickle.loads(pickle.dumps(problem))
+            self.assertEqual((again.number, again.offset, again.words, str(again)),
+                             (problem.number, problem.offset, problem.words, str(problem)))
 
 
 class Layouts(unittest.TestCase):

@@ -1,5 +1,8 @@
 """Texts: there and back, as people and spreadsheets write them, and what is said of a text that describes no book."""
+import pickle
 import random
+import time
+import tracemalloc
 import unittest
 
 from plans import BadClass, BadText, Book, Class, build, read_book, read_class, read_text, write_book, write_text
@@ -110,6 +113,12 @@ class Faults(unittest.TestCase):
                   (3, "'class =' must stand before the first day"),
                   (4, "the name '-x' must begin with an ASCII letter, _ or :; write x"))
 
+    def test_problems_are_pickled(self):
+        with self.assertRaises(BadText) as caught:
+            read_text("9am\n-x\n")
+        again = pickle.loads(pickle.dumps(caught.exception))
+        self.assertEqual((again.problems, str(again)), (caught.exception.problems, str(caught.exception)))
+
     def test_a_thousand_are_told(self):
         for data in ["9\n" * 5000, "9 " * 5000, "\n".join(f"9{i}" for i in range(5000))]:
             with self.assertRaises(BadText) as caught:
@@ -140,7 +149,14 @@ class Faults(unittest.TestCase):
         self.says("朝食", (1, f"the name '朝食' holds '朝', {allowed}"))
         self.says("a\x1b[31mb", (1, f"the name 'a\\x1b[31mb' holds '\\x1b', {allowed}; write a_31mb"))
         self.says("tea\u202ecake", (1, f"the name 'tea\\u202ecake' holds '\\u202e', {allowed}; write tea_cake"))
-        self.says('"tea', (1, f"the name '\"tea' holds '\"', {allowed}; write tea"))
+        self.says("tea\x0bcake", (1, f"the name 'tea\\x0bcake' holds '\\x0b', {allowed}; write tea_cake"))
+        self.says("tea\xa0cake,tea", (1, "the name 'tea\xa0cake' holds a space, and no name may; write tea_cake"))
+        self.says("tea \x0b# tea", (1, f"the name '\\x0b' holds '\\x0b', {allowed}"))
+
+    def test_line_break_in_a_quoted_cell(self):
+        told = "which the format does not allow yet: ASCII letters, digits, _ : . and - are (a cell may not hold a line break)"
+        self.says('"tea\ncake",tea\n', (1, f"the name '\"tea' holds '\"', {told}; write tea"),
+                  (2, f"the name 'cake\"' holds '\"', {told}; write cake"))
 
     def test_mark_of_the_empty_day_beside_names(self):
         self.says("tea -\n", (1, "'-' stands for the empty day, in a line of its own"))
@@ -159,7 +175,7 @@ class Faults(unittest.TestCase):
     def test_257th_day(self):
         read_text(256 * "lunch\n").book()
         self.says(256 * "lunch\n" + "# more\nlunch\n",
-                  (258, "a 257th day: at most 256 are allowed; give fewer days (only 1 of them differ: leave copies out)"))
+                  (258, "a 257th day: at most 256 are allowed; give fewer days (only 1 different day: leave copies out)"))
         different = "\n".join(f"n{i // 26} m{i % 26}" for i in range(257))
         self.says(different, (257, "a 257th different day: at most 256 are allowed; give fewer days"), copies=False)
 
@@ -172,6 +188,8 @@ class Faults(unittest.TestCase):
     def test_settings(self):
         self.says("lunch\nnames = dinner\n", (2, "'names =' must stand before the first day"))
         self.says("class = seen\nclass = seen\nlunch\n", (2, "a second 'class =': one is allowed"))
+        for line in ["=SUM(A1)", "= seen", '"=SUM(A1)",lunch', ";;="]:
+            self.says(f"{line}\nlunch\n", (1, "a line with =: only 'class =' and 'names =' can be set"))
         self.says("colour = red\nlunch\n", (1, "'colour' cannot be set: only 'class =' and 'names =' can"))
         self.says("#\nclass = 2 3\nlunch\n", (2, "h is '3': it must be a number from 1 to 2"))
         self.says("names = lunch 1\nlunch\n", (1, "the name '1' must begin with an ASCII letter, _ or :; write _1"))
@@ -192,6 +210,29 @@ class Faults(unittest.TestCase):
             with self.assertRaises(BadClass) as caught:
                 read_class(given)
             self.assertEqual(str(caught.exception), reason)
+
+
+class LongTexts(unittest.TestCase):
+    """Time and memory go with the length of a text, whatever it holds."""
+
+    def test_long_lines(self):
+        """Each would take hours if every part of it were tried."""
+        for data in [";" * 4_000_000, '"' * 2_000_000, '"' * 2_000_001, ";" * 2_000_000 + "=", "=" * 4_000_000, " " * 2_000_000 + "#",
+                     "names =" + '",' * 500_000, '"a' * 500_000, "; " * 500_000]:
+            started = time.monotonic()
+            with self.assertRaises(BadText):
+                read_text(data)
+            self.assertLess(time.monotonic() - started, 10, data[:10])
+
+    def test_beginnings_are_kept_to_the_limit_only(self):
+        tail = 60 * " x"
+        text = read_text("".join(f"n{i}{tail}\n" for i in range(2000)))
+        tracemalloc.start()
+        self.addCleanup(tracemalloc.stop)
+        with self.assertRaises(BadText) as caught:
+            text.book()
+        self.assertEqual([problem.line for problem in caught.exception.problems], [9, 64, 257])
+        self.assertLess(tracemalloc.get_traced_memory()[1], 2_000_000)
 
 
 class AnyText(unittest.TestCase):
