@@ -19,7 +19,7 @@ use Rattle.model.specs.Quotients.{arcsOutOf, metGroups, renumbered, stateOf, st
 use Rattle.model.proofs.Arcs.{arcsOutOf-in}
 use Rattle.model.proofs.FirstMet.{met-closed, met-few}
 use Rattle.base.proofs.Places.{nth-in}
-use Rattle.model.proofs.StateBodies.{accepts-read}
+use Rattle.model.proofs.StateBodies.{accepts-read, arc-bytes-length}
 use Rattle.model.proofs.Trees.{treeOf-tree}
 use Rattle.base.specs.Cells.{cellAt}
 use Rattle.writing.specs.Writing.{stateHead, arcPart}
@@ -104,10 +104,12 @@ module _ {work : List ℕ} {row set : ℕ} {numbers bytes : List ℕ} where
 
 -- ---- one state
 
--- its head, and its arcs left
+-- its head, and its arcs left, three bytes each
 pub record StateParts (work : List ℕ) (row set accepts : ℕ) (numbers bytes : List ℕ) : Type 0 where
   pub rest : List ℕ
-  pub bytes-are : bytes ≡ stateHead (eqb accepts 1) (ones set) ++ rest
+  pub bytes-are : bytes ≡ stateHead (eqb accepts 1) (length rest) ++ rest
+  pub sized : length bytes ≡ 4 + length rest
+  pub counted : length rest ≡ 3 * ones set
   pub arcs-left : ArcsToWrite work row set numbers rest
 
 pub state-parts :
@@ -117,13 +119,20 @@ state-parts {work} {row} {set} {accepts} {numbers} {bytes} r =
     let arcs = renumbered (r .every) (r .arcs) in
     let test : r .accepting ≡ eqb accepts 1 =
     sym (accepts-read (r .accepting)) ∙ ap (λ (k : ℕ). eqb k 1) (sym (r .accepts-is)) in
-    let size : length arcs ≡ ones set =
-    renumbered-length (r .every) (r .arcs) ∙ sym (arcs-counted (r .arcs) (r .at-row)) in
+    let rest = arcBytes arcs in
+    let whole : bytes ≡ stateHead (eqb accepts 1) (length rest) ++ rest =
+    r .bytes-are ∙ state-bytes (state (r .accepting) arcs) ∙ ap (λ (b : Bool). stateHead b (length rest) ++ rest) test in
     record {
-      rest = arcBytes arcs;
-      bytes-are =
-          r .bytes-are ∙ state-bytes (state (r .accepting) arcs)
-          ∙ ap₂ (λ (b : Bool) (n : ℕ). stateHead b n ++ arcBytes arcs) test size;
+      rest = rest;
+      bytes-are = whole;
+      sized = ap length whole ∙ length-append (stateHead (eqb accepts 1) (length rest)) rest;
+      counted =
+          omega (
+            arith,
+            arc-bytes-length arcs,
+            renumbered-length (r .every) (r .arcs),
+            arcs-counted (r .arcs) (r .at-row),
+          );
       arcs-left =
           record {
             size = r .size;

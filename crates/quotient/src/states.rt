@@ -50,7 +50,8 @@ fn write_arcs(
     end
 }
 
-// Writes a group's state field. Returns the offset after it.
+// Writes a group's state field: the arcs, and then the head in front of them, whose length is known from where they end. Returns the
+// offset after the field.
 fn write_state(
     work: &[u8],
     row: usize,
@@ -65,8 +66,10 @@ fn write_state(
     ensures { λ r. ⌜ ((bytes : List ℕ) → StateToWrite (now (work .entry)) row names accepts (now (numbers .entry)) bytes →
         Put (now (out .entry)) (now (out .exit)) at bytes r) ⌝ }
 {
-    let start = put_state(out, at, accepts == 1, sets::how_many(names));
-    write_arcs(work, row, names, numbers, out, start)
+    let start = at + 4;
+    let end = write_arcs(work, row, names, numbers, out, start);
+    put_state(out, at, accepts == 1, end - start);
+    end
 }
 
 // Writes the states' fields from offset `at` on, each byte once, and leaves the rest of the output as it was. Returns the offset

@@ -12,10 +12,10 @@ use Rattle.model.specs.Tables.{Arc, State, fieldBytes, classField, arcBytes, st
 use Rattle.model.proofs.StateBodies.{body-length}
 use Rattle.writing.specs.Writing.{stateHead, arcPart, frontOf}
 
-pub state-bytes : (s : State) → fieldBytes 4 (stateBody s) ≡ stateHead (s .accepts) (length (s .arcs)) ++ arcBytes (s .arcs)
+pub state-bytes : (s : State) → fieldBytes 4 (stateBody s) ≡ stateHead (s .accepts) (length (arcBytes (s .arcs))) ++ arcBytes (s .arcs)
 unfolding fieldBytes stateBody
 state-bytes s =
-    let size : length (stateBody s) ≡ 1 + 3 * length (s .arcs) = omega (arith, body-length s) in
+    let size : length (stateBody s) ≡ 1 + length (arcBytes (s .arcs)) = omega arith in
     ap (λ (n : ℕ). 4 ∷ (n / 256 ∷ (n % 256 ∷ stateBody s))) size
 
 pub state-bytes-length : (s : State) → length (fieldBytes 4 (stateBody s)) ≡ 4 + 3 * length (s .arcs)

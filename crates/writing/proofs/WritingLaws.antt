@@ -1,5 +1,5 @@
 -- Laws of writings: nothing written, bytes stored one by one, what stands before and after, two writings one after the other, a writing
--- from 0, the length kept, a byte in front, a copy's next byte; then of what the functions give back. Assumes nothing.
+-- from 0, the length kept, a writing or a byte in front, a copy's next byte; then of what the functions give back. Assumes nothing.
 use mathlib.Core.Path.{_≡_, refl, sym, ap, _∙_}
 use mathlib.Core.List.{List, [], _∷_, _++_, append-assoc}
 use Prim.Native.Nat.{ℕ, suc, _+_, _≤_, _<_}
@@ -7,7 +7,7 @@ use native.Mathlib.Nat.{add-zero, zero-add}
 use native.Mathlib.Numerals.{add-one}
 use native.Mathlib.Omega.{arith}
 use lib.ListN.{length, getD, set, take, drop, length-append, length-drop, take-append-drop}
-use lib.Seq.{sets, sets-eq, take-at, drop-at, set-at, drop-drop, length-take-le, take-suc}
+use lib.Seq.{sets, sets-eq, take-at, drop-at, take-append-le, take-take, drop-drop, length-take-le, take-suc}
 use Rattle.writing.specs.Writing.{Written, Fits, Put}
 
 -- nothing written: the output as it was
@@ -95,15 +95,25 @@ written-length {out} {out′} {at} {bytes} w fits =
       length-drop (at + length bytes) out,
     )
 
--- the output in front of a writing, apart at the byte before it
-before-apart :
-    {out mid : List ℕ} {at : ℕ} {bytes : List ℕ} → Written out mid (suc at) bytes → at < length out →
-    mid ≡ take at out ++ (getD out at 0 ∷ (bytes ++ drop (suc at + length bytes) out))
-before-apart {out} {mid} {at} {bytes} w fits =
-    let rest = bytes ++ drop (suc at + length bytes) out in
-    w .becomes
-    ∙ ap (λ (l : List ℕ). l ++ rest) (take-suc out at 0 fits)
-    ∙ append-assoc (take at out) (getD out at 0 ∷ []) rest
+-- a writing in front of one that is there already makes one writing of both
+pub written-before :
+    {out mid out′ : List ℕ} {at next : ℕ} {xs ys : List ℕ} →
+    Written out mid next ys → Written mid out′ at xs → next ≡ at + length xs → next ≤ length out → Written out out′ at (xs ++ ys)
+written-before {out} {mid} {out′} {at} {next} {xs} {ys} v w e fits =
+    let rest = drop (next + length ys) out in
+    let size : length (take next out) ≡ next = length-take-le next out fits in
+    let far : next + length ys ≡ at + length (xs ++ ys) = omega (arith, length-append xs ys) in
+    record {
+      becomes =
+          w .becomes
+          ∙ ap (λ (n : ℕ). take at mid ++ (xs ++ drop n mid)) (sym e)
+          ∙ ap (λ (l : List ℕ). take at l ++ (xs ++ drop next l)) (v .becomes)
+          ∙ ap (λ (l : List ℕ). take at (take next out ++ (ys ++ rest)) ++ (xs ++ l)) (drop-at (take next out) (ys ++ rest) next size)
+          ∙ ap (λ (l : List ℕ). l ++ (xs ++ (ys ++ rest)))
+          (take-append-le at (take next out) (ys ++ rest) (omega arith) ∙ take-take at next out (omega arith))
+          ∙ ap (λ (l : List ℕ). take at out ++ l) (sym (append-assoc xs ys rest))
+          ∙ ap (λ (n : ℕ). take at out ++ ((xs ++ ys) ++ drop n out)) far;
+    }
 
 -- a byte in front of what was written
 pub byte-before :
@@ -111,13 +121,9 @@ pub byte-before :
     Written out (set mid at b) at (b ∷ bytes)
 byte-before {out} {mid} {at} {bytes} b w fits =
     let rest = bytes ++ drop (suc at + length bytes) out in
-    let far : suc at + length bytes ≡ at + suc (length bytes) = omega arith in
-    record {
-      becomes =
-          ap (λ (l : List ℕ). set l at b) (before-apart w fits)
-          ∙ set-at (take at out) (getD out at 0) rest b at (length-take-le at out (omega arith))
-          ∙ ap (λ (n : ℕ). take at out ++ (b ∷ (bytes ++ drop n out))) far;
-    }
+    let low : at < length mid =
+    omega (arith, ap length (w .becomes), length-append (take (suc at) out) rest, length-take-le (suc at) out (omega arith)) in
+    written-before w (byte-written mid at b low) (omega arith) (omega arith)
 
 -- one byte more of a list that is copied in
 pub copy-more :
@@ -153,6 +159,16 @@ put-append {out} {mid} {out′} {at} {next} {after} {xs} {ys} p q fits =
     record {
       written = written-append (p .written) (q .written) e fits;
       ends = omega (arith, length-append xs ys);
+    }
+
+-- and so do two functions of which the second writes in front of the first
+pub put-before :
+    {out mid out′ : List ℕ} {at next after end : ℕ} {xs ys : List ℕ} →
+    Put out mid next ys end → Put mid out′ at xs after → next ≡ at + length xs → next ≤ length out → Put out out′ at (xs ++ ys) end
+put-before {out} {mid} {out′} {at} {next} {after} {end} {xs} {ys} p q e fits =
+    record {
+      written = written-before (p .written) (q .written) e fits;
+      ends = omega (arith, p .ends, length-append xs ys);
     }
 
 -- what fits keeps the length

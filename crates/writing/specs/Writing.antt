@@ -3,7 +3,7 @@
 use mathlib.Core.Path.{_≡_}
 use mathlib.Core.Bool.{Bool}
 use mathlib.Core.List.{List, [], _∷_, _++_}
-use Prim.Native.Nat.{ℕ, _+_, _*_, _≤_}
+use Prim.Native.Nat.{ℕ, _+_, _≤_}
 use lib.ListN.{length, take, drop}
 use Rattle.base.specs.Limits.{when, state-mark}
 use Rattle.model.specs.Fields.{Class}
@@ -26,9 +26,9 @@ pub record Put (out out′ : List ℕ) (at : ℕ) (bytes : List ℕ) (after : �
 abbrev pub fieldHead : ℕ → ℕ → List ℕ
 fieldHead mark count = mark ∷ twoBytes count
 
--- a state field's first four bytes: mark 4, the length of what follows (a byte, and three for each arc), whether the state accepts
+-- a state field's first four bytes: mark 4, the length of what follows (a byte, and those of the arcs), whether the state accepts
 abbrev pub stateHead : Bool → ℕ → List ℕ
-stateHead accepts arcs = fieldHead state-mark (1 + 3 * arcs) ++ (when accepts 1 ∷ [])
+stateHead accepts bytes = fieldHead state-mark (1 + bytes) ++ (when accepts 1 ∷ [])
 
 -- an arc's three bytes: its name, and its target high byte first
 abbrev pub arcPart : ℕ → ℕ → List ℕ

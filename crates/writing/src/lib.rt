@@ -6,9 +6,9 @@ use base::limits::CLASS_MARK;
 use base::limits::STATE_MARK;
 ghost use mathlib.Core.Path.{_≡_};
 ghost use mathlib.Core.List.{[], _∷_};
-ghost use Prim.Native.Nat.{_≤_, _<_};
+ghost use Prim.Native.Nat.{_+_, _≤_, _<_};
 ghost use lib.ListN.{length};
-ghost use Rattle.base.specs.Limits.{when, name-limit, number-limit};
+ghost use Rattle.base.specs.Limits.{when, number-limit};
 ghost use Rattle.model.specs.Fields.{class-of};
 ghost use Rattle.model.specs.Tables.{twoBytes, fieldBytes, classField};
 ghost use Rattle.writing.specs.Writing.{Fits, Put, fieldHead, stateHead, arcPart, frontOf};
@@ -99,13 +99,13 @@ fn accepts_byte(accepting: bool) -> u8
     if accepting { 1 } else { 0 }
 }
 
-// The first four bytes of a state field with so many arcs.
-pub fn put_state(out: &mut [u8], at: usize, accepting: bool, arcs: usize) -> usize
-    requires { ⌜ Fits (now out) at (stateHead accepting arcs) ⌝ }
-    requires { ⌜ arcs ≤ name-limit ⌝ }
-    ensures { λ r. ⌜ Put (now (out .entry)) (now (out .exit)) at (stateHead accepting arcs) r ⌝ }
+// The first four bytes of a state field whose arcs take so many bytes.
+pub fn put_state(out: &mut [u8], at: usize, accepting: bool, bytes: usize) -> usize
+    requires { ⌜ Fits (now out) at (stateHead accepting bytes) ⌝ }
+    requires { ⌜ 1 + bytes < number-limit ⌝ }
+    ensures { λ r. ⌜ Put (now (out .entry)) (now (out .exit)) at (stateHead accepting bytes) r ⌝ }
 {
-    let next = put_head(out, at, STATE_MARK, 1 + 3 * arcs);
+    let next = put_head(out, at, STATE_MARK, 1 + bytes);
     put_byte(out, next, accepts_byte(accepting))
 }
 

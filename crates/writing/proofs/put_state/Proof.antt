@@ -9,9 +9,6 @@ use Rattle.writing.proofs.put_state.Tie as tie
 abbrev start : tie.After-put-head → tie.Start
 start c = c .before .before .before
 
-mul-put-head : tie.Need-mul-put-head
-mul-put-head c = search needs
-
 add-put-head : tie.Need-add-put-head
 add-put-head c = search needs
 
@@ -40,4 +37,4 @@ returns c =
 pub put-state-spec : {M : Type 1} → statement M
 put-state-spec =
     tie.close
-    (tie.spec mul-put-head add-put-head put-head-requires accepts-byte-requires put-byte-requires same-length returns)
+    (tie.spec add-put-head put-head-requires accepts-byte-requires put-byte-requires same-length returns)
