@@ -1,37 +1,47 @@
 # Targets: see `make help`. The toolchain is the Rattle kit; its command is rt.
 .DEFAULT_GOAL := help
-.PHONY: help run test check lib listing example book text picture images test-book test-outside test-c seeded-fault fuzz bench bench-search fmt
+.DELETE_ON_ERROR:
+.NOTPARALLEL:
+.PHONY: help run test check lib listing install uninstall header example images test-command test-outside test-c test-install seeded-fault fuzz bench bench-search fmt
 
 help:
 	@echo "make run           lists a shipped book of forty days: the model that the library infers from it"
 	@echo "make test          the whole gate, from nothing; its last line is 'N passed, 0 failed'"
 	@echo
-	@echo "make book TEXT=days.txt OUT=days.book [CLASS=\"2 1\"]   a book from lines of names"
-	@echo "make text BOOK=days.book [OUT=days.txt]               a book as such text"
-	@echo "make picture BOOK=days.book OUT=days.svg              a drawing of a book's table (Graphviz)"
+	@echo "scripts/plans --help   what the command plans does, over the library that 'make lib' builds"
 	@echo "make images        the drawings under docs/images, anew"
 	@echo
-	@echo "make lib           target/staticlib/libplans.a, for C; its header is include/plans.h"
+	@echo "make install       [PREFIX=/usr/local] [DESTDIR=]: libraries, headers, plans.pc, commands, module, man page"
+	@echo "make uninstall     removes what that installed"
+	@echo "make lib           target/staticlib/libplans.a and target/lib/libplans.so, for C; headers are in include/"
 	@echo "make example       builds examples/*.c over it with gcc, runs them, and compares what they print"
 	@echo "make listing       target/bin/listing: a book on standard input, its listing on standard output"
+	@echo "make header        puts the version and the refusals' words into include/plans.h"
 	@echo
 	@echo "make check         proves what changed since the last check"
-	@echo "make test-book     tests of the book scripts, the texts, the drawings and the listing program"
+	@echo "make test-command  tests of the command plans and its module, the texts, the drawings and the listing program"
 	@echo "make test-outside  compares the library with an independent implementation on generated inputs"
 	@echo "make test-c        the header and the library from C, with sanitizers and under valgrind"
+	@echo "make test-install  an installation: every example built by pkg-config alone, and nothing left after uninstall"
 	@echo "make seeded-fault  faults put into copies of the library, which test-outside must find"
 	@echo "make fuzz SECONDS=600   the comparison of test-outside with new inputs, as long as asked"
 	@echo "make bench         what calls cost, as multiples of one memset and beside a second implementation"
 	@echo "make bench-search SECONDS=300   looks for books that cost more"
 	@echo "make fmt           puts every .rt and .antt file into the layout"
 
-# What is proved and compiled, made anew where a source is newer.
+# What is proved and compiled: scripts/anew makes it where it was not made from the sources as they are. The kit is asked for only
+# there, so that what is built can be installed without it.
 LIBRARY := target/staticlib/libplans.a
+SHARED := target/lib/libplans.so
 LISTING := target/bin/listing
-SOURCES := crates.txt $(shell find crates -name '*.rt' -o -name '*.antt')
+SONAME := libplans.so.$(firstword $(subst ., ,$(file < VERSION)))
+
+# Where `make install` puts things; DESTDIR stands before every place. They reach scripts/install by the environment.
+PREFIX ?= /usr/local
+export PREFIX DESTDIR
 
 # Every target that needs a tool or a setting asks for it here, so that a newcomer reads what is missing.
-.PHONY: kit python seconds
+.PHONY: kit python seconds always
 kit:
 	@command -v rt >/dev/null || { echo "make: the command 'rt' is missing: it comes with the Rattle kit (rattle-kit-5)"; exit 1; }
 seconds:
@@ -48,46 +58,49 @@ test: kit
 check: kit
 	@scripts/proving rt check
 
-lib: $(LIBRARY)
+lib: $(LIBRARY) $(SHARED)
 
-$(LIBRARY): $(SOURCES) | kit
-	@echo "make: proving the library; from nothing that takes some minutes" >&2
-	@scripts/proving rt check handed_over >&2
-	@scripts/quietly rt staticlib plans
+$(LIBRARY): always
+	@scripts/anew $@ handed_over rt staticlib plans
+
+$(SHARED): $(LIBRARY) VERSION scripts/plans.map
+	@command -v gcc >/dev/null || { echo "make: the command 'gcc' is missing: it is in Debian's package gcc"; exit 1; }
+	@mkdir -p $(@D)
+	@gcc -shared -nostartfiles -Wl,-soname,$(SONAME) -Wl,--version-script=scripts/plans.map -Wl,-z,defs -Wl,-z,now \
+		-Wl,--whole-archive $(LIBRARY) -Wl,--no-whole-archive -o $@
+	@ln -sf libplans.so $(@D)/$(SONAME)
 
 listing: $(LISTING)
 
-$(LISTING): $(SOURCES) | kit
-	@echo "make: proving the listing program; from nothing that takes some minutes" >&2
-	@scripts/proving rt check listing >&2
-	@touch $(LISTING)
+$(LISTING): always
+	@scripts/anew $@ listing
+
+install: python lib listing
+	@scripts/install put
+
+uninstall:
+	@scripts/install remove
+
+header: python
+	@scripts/header
 
 example: lib
 	@scripts/example
 
-book: python
-	@[ -n "$(TEXT)" ] && [ -n "$(OUT)" ] || { echo 'make book: say TEXT=days.txt OUT=days.book, and CLASS="2 1", CLASS=seen or CLASS="last 1" if wanted'; exit 1; }
-	@scripts/book book "$(TEXT)" "$(OUT)" $(if $(CLASS),--class "$(CLASS)")
-
-text: python
-	@[ -n "$(BOOK)" ] || { echo "make text: say BOOK=days.book, and OUT=days.txt if wanted"; exit 1; }
-	@scripts/book text "$(BOOK)" $(if $(OUT),"$(OUT)")
-
-picture: python listing
-	@[ -n "$(BOOK)" ] && [ -n "$(OUT)" ] || { echo "make picture: say BOOK=days.book OUT=days.svg (or .png)"; exit 1; }
-	@scripts/picture "$(BOOK)" "$(OUT)"
-
-images: python listing
+images: python lib
 	@scripts/images
 
-test-book: python listing
-	@scripts/test-book
+test-command: python lib listing
+	@scripts/test-command
 
 test-outside: lib listing
 	@scripts/test-outside
 
 test-c: lib
 	@scripts/test-c
+
+test-install: lib listing
+	@scripts/test-install
 
 seeded-fault: lib listing
 	@scripts/seeded-fault

@@ -1,9 +1,9 @@
-/* Walks rows over the table of the scope document's example, whose one name is snack, and prints how each walk ends. Then it
+/* Walks rows over the table of the example of docs/SCOPE.md, whose one name is snack, and prints how each walk ends. Then it
  * rewrites the table. `make example` builds it, runs it and compares what it prints with examples/walk.stdout. */
 #include <stdio.h>
 #include <string.h>
 
-#include "plans.h"
+#include "plans_fields.h"
 
 static const uint8_t table[] = {
     0x01, 0x00, 0x05, 0x73, 0x6E, 0x61, 0x63, 0x6B, /* the name snack */
@@ -14,13 +14,20 @@ static const uint8_t table[] = {
 
 static uint8_t work[PLANS_WORK_BYTES];
 
-/* The row's names by their first letters; a number that is no name's as '?'. */
+/* The row in names; a number that is no name's as '?'. */
 static void print_row(const uint8_t *row, size_t length)
 {
+    plans_field name;
+
     if (length == 0)
         printf("empty");
-    for (size_t i = 0; i < length; i++)
-        putchar(row[i] == 0 ? 's' : '?');
+    for (size_t i = 0; i < length; i++) {
+        printf("%s", i == 0 ? "" : " ");
+        if (plans_name_of(table, sizeof table, row[i], &name))
+            printf("%.*s", (int)name.length, (const char *)name.content);
+        else
+            printf("?");
+    }
 }
 
 static void print_walk(const uint8_t *row, size_t row_len)
@@ -30,7 +37,7 @@ static void print_walk(const uint8_t *row, size_t row_len)
 
     print_row(row, row_len);
     if (w.refusal != PLANS_OK) {
-        printf(": refused %u\n", w.refusal);
+        printf(": refused %u, %s\n", w.refusal, plans_refusal_text(w.refusal));
         return;
     }
     printf(": %s, walked %u, next names %u (set %llx)\n", outcomes[w.outcome], (unsigned)w.walked, w.next_count,

@@ -1,17 +1,24 @@
 /*
- * Content models of meal plans: the calls for C. Link target/staticlib/libplans.a (`make lib`).
+ * Content models of meal plans: the calls for C and C++, on x86-64 Linux. After `make install`:
+ *
+ *     cc tablet.c $(pkg-config --cflags --libs plans)
+ *
+ * plans_fields.h, beside this file, writes and reads the fields that books and tables consist of; examples/days.c goes with it from
+ * strings to answers in names.
  *
  * What holds of every call:
  * - Every buffer is the caller's, before and after. Nothing is allocated, nothing is kept between calls, and a call writes to no
  *   memory but the buffers that its comment says it writes.
- * - A buffer that a call writes must not overlap another buffer of that call. This is the caller's one duty: a call cannot see it,
- *   and nothing is promised where it is not kept. Buffers that are only read may overlap.
  * - A buffer is given by its first byte and its length in bytes; where the length is 0 the pointer is not read, and may be null.
+ * - The caller's duties, which a call cannot see, and without which nothing is promised: each buffer has the length that is said; a
+ *   buffer that a call writes overlaps no other buffer of that call (those that are only read may overlap); and nobody else touches
+ *   the buffers during the call.
  * - Any bytes may be passed as book, table and row: what is wrong with them is told by a refusal.
  * - The working area is of PLANS_WORK_BYTES or more. What it holds before the call does not matter. After the call every byte of
  *   it is 0, also where the call is refused, and also where the area was too short.
  * - A call uses no global state: calls on different buffers may run at the same time. It takes less than 40 KiB of stack (measured,
  *   docs/FIGURES.md).
+ * - The library takes two symbols from outside, memcpy and memset.
  */
 #ifndef PLANS_H
 #define PLANS_H
@@ -23,34 +30,67 @@
 extern "C" {
 #endif
 
+/* The version of this header and of the library beside it. scripts/header writes this line from the file VERSION. */
+#define PLANS_VERSION "1.0.0"
+
 /* The least length of a working area, in bytes. */
 #define PLANS_WORK_BYTES 65536
 
 /* The longest table or book, in bytes. */
 #define PLANS_INPUT_LIMIT 65535
 
-/* A built table is never longer, in bytes. */
+/* No table that plans_build writes is longer, in bytes (proved). A table from elsewhere may have up to PLANS_INPUT_LIMIT. */
 #define PLANS_TABLE_BYTES 5830
 
-/* A text of so many bytes is long enough for the listing of every book. */
+/* A text of so many bytes is long enough for the listing of every book (proved). */
 #define PLANS_LISTING_BYTES 32768
 
-/* What `refusal` says: 0, or the one refusal. */
+/* At most so many names, each of 1 to so many bytes. */
+#define PLANS_NAME_LIMIT 64
+#define PLANS_NAME_BYTES 32
+
+/* At most so many rows in a book, each of 0 to so many entries; a row that is walked has the same limit. */
+#define PLANS_BOOK_ROWS 256
+#define PLANS_ROW_LIMIT 64
+
+/* At most so many states, of a table and of a book's prefix tree. */
+#define PLANS_STATE_LIMIT 512
+
+/* k of a context and j of last names are at most this. */
+#define PLANS_SETTING_LIMIT 8
+
+/* The marks of fields: a field is its mark, its content's length in two bytes, the high byte first, and its content. A book is
+ * names, at most one class, and rows; a table is names, one class, and states. */
+enum {
+    PLANS_NAME_MARK = 1,  /* names stand in strictly ascending byte order and are numbered from 0 */
+    PLANS_CLASS_MARK = 2, /* three bytes: kind and two settings */
+    PLANS_ROW_MARK = 3,   /* in each byte a name's number */
+    PLANS_STATE_MARK = 4  /* 1 accepting or 0 not; then for each arc a name's number and a target of two bytes */
+};
+
+/* The kinds of classes, with their settings. A book without a class has PLANS_CONTEXT, 2, 1. */
+enum {
+    PLANS_CONTEXT = 0,   /* k from 1 to 8, h from 1 to k */
+    PLANS_SEEN_SET = 1,  /* 0, 0 */
+    PLANS_LAST_NAMES = 2 /* j from 0 to 8, 0 */
+};
+
+/* What `refusal` says: 0, or the one refusal. plans_refusal_text, below, has the words for each. */
 enum {
     PLANS_OK = 0,
-    PLANS_BAD_SIZES = 1,         /* input over 65,535 bytes, or a working area under 65,536 */
-    PLANS_CUT_OFF = 2,           /* a field, its mark and length included, runs past the end */
-    PLANS_MISPLACED = 3,         /* a mark not allowed next */
-    PLANS_UNFINISHED = 4,        /* the input ends while a field is still due */
-    PLANS_BAD_NAME = 5,          /* a name's length or bytes are wrong */
-    PLANS_NAME_ORDER = 6,        /* a name not above the one before */
-    PLANS_TOO_MANY = 7,          /* a 65th name, 257th row or 513th state */
-    PLANS_BAD_CLASS = 8,         /* a class field of another length or value */
-    PLANS_BAD_ROW = 9,           /* a row over 64 entries, or an entry that is no name's number */
-    PLANS_TREE_TOO_LARGE = 10,   /* the prefix tree needs over 512 states */
-    PLANS_BAD_STATE = 11,        /* a state field of wrong length, first byte, or arc names */
-    PLANS_BAD_NUMBERING = 12,    /* an arc to no state, a state never met, or states not numbered first-met */
-    PLANS_OUTPUT_TOO_SHORT = 13  /* the output is shorter than the table, or the text than the listing */
+    PLANS_BAD_SIZES = 1,
+    PLANS_CUT_OFF = 2,
+    PLANS_MISPLACED = 3,
+    PLANS_UNFINISHED = 4,
+    PLANS_BAD_NAME = 5,
+    PLANS_NAME_ORDER = 6,
+    PLANS_TOO_MANY = 7,
+    PLANS_BAD_CLASS = 8,
+    PLANS_BAD_ROW = 9,
+    PLANS_TREE_TOO_LARGE = 10,
+    PLANS_BAD_STATE = 11,
+    PLANS_BAD_NUMBERING = 12,
+    PLANS_OUTPUT_TOO_SHORT = 13
 };
 
 /* What `outcome` says of a walk that is not refused. */
@@ -122,6 +162,28 @@ plans_walked plans_walk(const uint8_t *table, size_t table_len,
 plans_written plans_list(const uint8_t *book, size_t book_len,
                          uint8_t *work, size_t work_len,
                          uint8_t *text, size_t text_len);
+
+/* What a refusal's number says, in words; never null. scripts/header writes the cases from python/plans/refusals.txt. */
+static inline const char *plans_refusal_text(unsigned number)
+{
+    switch (number) {
+    case PLANS_OK: return "no refusal";
+    case PLANS_BAD_SIZES: return "the input is over 65,535 bytes, or the working area under 65,536";
+    case PLANS_CUT_OFF: return "a field, its mark and length included, runs past the end";
+    case PLANS_MISPLACED: return "a mark that is not allowed next";
+    case PLANS_UNFINISHED: return "the input ends while a field is still due";
+    case PLANS_BAD_NAME: return "a name's length or bytes are wrong";
+    case PLANS_NAME_ORDER: return "a name not above the one before";
+    case PLANS_TOO_MANY: return "a 65th name, 257th row or 513th state";
+    case PLANS_BAD_CLASS: return "a class field of another length or value than allowed";
+    case PLANS_BAD_ROW: return "a row over 64 entries, or an entry that is no name's number";
+    case PLANS_TREE_TOO_LARGE: return "the prefix tree needs over 512 states, the root counted";
+    case PLANS_BAD_STATE: return "a state field of wrong length, first byte, or arc names";
+    case PLANS_BAD_NUMBERING: return "an arc to no state, a state never met, or states not numbered first-met";
+    case PLANS_OUTPUT_TOO_SHORT: return "the output is shorter than the table, or the text than the listing";
+    default: return "no refusal has this number";
+    }
+}
 
 #ifdef __cplusplus
 }

@@ -1,8 +1,8 @@
 #!/usr/bin/env python3
-"""Compares include/plans.h with the library: its functions with the symbols of libplans.a and with the extern "C" functions of
-crates/plans/src/lib.rt, its structs with the #[repr(C)] structs there, its sizes with the constants of src/limits.rt in judging and
-plans.
-The last line is 'N passed, M failed'."""
+"""Compares include/plans.h with the library: its functions with the symbols of libplans.a and libplans.so and with the extern "C"
+functions of the crates, its structs with the #[repr(C)] structs there, its constants with those of the same names, what it says of
+symbols and of state with what the libraries have; and the refusals' words of python/plans/refusals.txt, which scripts/header writes
+into it, with the documents. The last line is 'N passed, M failed'."""
 import re
 import subprocess
 import sys
@@ -52,38 +52,74 @@ def library_functions(text):
     return functions
 
 
-def header_sizes(text):
-    return dict(re.findall(r"^#define PLANS_(\w+) (\d+)$", text, re.M))
+def header_constants(text):
+    """Each number defined, by its name without PLANS_; but for 0, no refusal, and the kinds of classes, which tests/c/tablet.c tries."""
+    numbers = dict(re.findall(r"(?:^#define |^ +)PLANS_(\w+)(?: =)? (\d+)", text, re.M))
+    return {name: number for name, number in numbers.items() if name not in ("OK", "CONTEXT", "SEEN_SET", "LAST_NAMES")}
 
 
-def library_sizes(text, names):
-    """The constants of these names."""
-    return {name: size for name, size in re.findall(r"^pub const (\w+): usize = (\d+);", text, re.M) if name in names}
+def library_constants(text, names):
+    """The constants with these names; all values where crates differ."""
+    found = {}
+    for name, number in re.findall(r"^pub const (\w+): \w+ = (\d+);", text, re.M):
+        if name in names:
+            found.setdefault(name, set()).add(number)
+    return {name: " or ".join(numbers) for name, numbers in found.items()}
 
 
-def exported_symbols(library):
-    listing = subprocess.run(["nm", "--extern-only", "--defined-only", library], check=True, capture_output=True, text=True)
-    return {line.split()[2] for line in listing.stdout.splitlines() if " T " in line}
+def printed(*command):
+    return subprocess.run(command, check=True, capture_output=True, text=True).stdout
+
+
+def symbols(*words):
+    """The symbols that nm prints, without their versions."""
+    lines = printed("nm", *words).splitlines()
+    return {line.split()[-1].split("@")[0] for line in lines if re.search(r" [A-Za-z] ", line)}
+
+
+def writable_sections(library):
+    """Those that a program gets memory for and may write: where a library keeps something between calls."""
+    sections = re.findall(r"^ *\d+ (\S+) +([0-9a-f]+).*\n +(.*)$", printed("objdump", "--section-headers", library), re.M)
+    return {name for name, size, flags in sections if int(size, 16) and "ALLOC" in flags and "READONLY" not in flags}
+
+
+def refusals():
+    """The words for each refusal, as (number, words), 0 left out."""
+    lines = (ROOT / "python/plans/refusals.txt").read_text().splitlines()
+    return [tuple(line.split("\t")) for line in lines][1:]
+
+
+def refusals_in_documents():
+    """The refusals' words in the documents' tables with the head 'refused, when', as one list where they agree."""
+    texts = [path.read_text() for path in [ROOT / "README.md", *ROOT.glob("docs/*.md")]]
+    tables = [table for text in texts for table in re.findall(r"^\| refused \| when \|\n\|[-|]+\n((?:\|.*\n)+)", text, re.M)]
+    words = [re.findall(r"^\| (\d+) \| ([^|]+) \|", table, re.M) for table in tables]
+    return words[0] if words and all(other == words[0] for other in words) else words
 
 
 def main():
     header = re.sub(r"/\*.*?\*/", "", (ROOT / "include/plans.h").read_text(), flags=re.S)
-    source = (ROOT / "crates/plans/src/lib.rt").read_text()
-    limits = "".join((ROOT / "crates" / crate / "src/limits.rt").read_text() for crate in ("judging", "plans"))
-    functions, structs, sizes = header_functions(header), header_structs(header), header_sizes(header)
+    source = "".join(path.read_text() for path in ROOT.glob("crates/*/src/*.rt"))
+    functions, structs, constants = header_functions(header), header_structs(header), header_constants(header)
+    static, shared = sys.argv[1:]
     checks = [
-        ("functions declared and symbols exported", set(functions), exported_symbols(sys.argv[1])),
+        ("functions declared and symbols of libplans.a", set(functions), symbols("--extern-only", "--defined-only", static)),
+        ("functions declared and symbols of libplans.so", set(functions), symbols("--dynamic", "--defined-only", shared)),
+        ("symbols that libplans.a takes", {"memcpy", "memset"}, symbols("--undefined-only", static)),
+        ("symbols that libplans.so takes", {"memcpy", "memset"}, symbols("--dynamic", "--undefined-only", shared)),
+        ("no state is kept in libplans.a", "no section", writable_sections(static) or "no section"),
         ("functions declared and their source", functions, library_functions(source)),
         ("structs declared and their source", {STRUCTS.get(name, name): fields for name, fields in structs.items()},
          library_structs(source)),
-        ("sizes defined and their source", sizes, library_sizes(limits, sizes)),
+        ("constants defined and their source", constants, library_constants(source, constants)),
+        ("the refusals' words and the documents'", refusals(), refusals_in_documents()),
     ]
     failed = 0
     for what, declared, given in checks:
         # two empty readings are no agreement
         if not declared or declared != given:
             failed += 1
-            print(f"FAILED: {what}:\n  include/plans.h: {declared}\n  the library:     {given}")
+            print(f"FAILED: {what}:\n  said:  {declared}\n  found: {given}")
     print(f"{len(checks) - failed} passed, {failed} failed")
     return 1 if failed else 0
 

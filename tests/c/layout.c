@@ -1,4 +1,4 @@
-/* The structs of include/plans.h lie in memory as those of crates/plans/src/lib.rt, which are #[repr(C)]: compiled, never run. */
+/* The structs of include/plans.h lie in memory as those of the library, which are #[repr(C)]: compiled, never run. */
 #include <stddef.h>
 
 #include "plans.h"

@@ -3,6 +3,7 @@
 #include <string.h>
 
 #include "lent.h"
+#include "plans_fields.h"
 
 enum { BEFORE = 0xEE };
 
@@ -27,8 +28,7 @@ unsigned summed_up(void)
     return failed;
 }
 
-/* A buffer of exactly `length` bytes; null where there are none. */
-static uint8_t *lend(size_t length)
+uint8_t *lend(size_t length)
 {
     uint8_t *buffer;
 
@@ -43,7 +43,7 @@ static uint8_t *lend(size_t length)
     return buffer;
 }
 
-static uint8_t *lend_copy(const uint8_t *bytes, size_t length)
+uint8_t *lend_copy(const uint8_t *bytes, size_t length)
 {
     uint8_t *buffer = lend(length);
 
@@ -147,12 +147,9 @@ plans_walked walk(const writing *table, const uint8_t *row, size_t row_len, size
 
 void put_field(writing *to, uint8_t mark, const void *content, size_t length)
 {
-    uint8_t *at = to->bytes + to->length;
+    plans_writer writer = plans_write_to(to->bytes, sizeof to->bytes);
 
-    at[0] = mark;
-    at[1] = (uint8_t)(length >> 8);
-    at[2] = (uint8_t)length;
-    if (length > 0)
-        memcpy(at + 3, content, length);
-    to->length += 3 + length;
+    writer.length = to->length;
+    check("the field fits", plans_write_field(&writer, mark, content, length));
+    to->length = writer.length;
 }

@@ -17,6 +17,10 @@ void check(const char *what, int holds);
 /* How many checks did not hold, after the line 'N passed, M failed' has been printed. */
 unsigned summed_up(void);
 
+/* A buffer from malloc of exactly `length` bytes, null where there are none: filled with other bytes than 0, or with a copy. */
+uint8_t *lend(size_t length);
+uint8_t *lend_copy(const uint8_t *bytes, size_t length);
+
 /* The calls; `work_len`, `out_len` and `text_len` are the lengths lent. What is written goes to `table` or `text`. */
 plans_built build(const writing *book, size_t work_len, size_t out_len, writing *table);
 plans_built rewrite(const writing *from, size_t work_len, size_t out_len, writing *table);

@@ -6,7 +6,7 @@
 
 #include "lent.h"
 
-enum { NAME = 1, CLASS = 2, ROW = 3, STATE = 4, NAMES = 4 };
+enum { NAMES = 4 };
 
 static const char *const names[NAMES] = {"breakfast", "dinner", "lunch", "snack"};
 static const char letters[] = "bdls";
@@ -30,7 +30,7 @@ static void put_day(const char *day)
     uint8_t row[8];
     size_t length = row_of(day, row);
 
-    put_field(&book, ROW, row, length);
+    put_field(&book, PLANS_ROW_MARK, row, length);
 }
 
 /* A book with the four names and the class, and no row. */
@@ -40,8 +40,8 @@ static void start_book(uint8_t kind, uint8_t first, uint8_t second)
 
     book.length = 0;
     for (size_t i = 0; i < NAMES; i++)
-        put_field(&book, NAME, names[i], strlen(names[i]));
-    put_field(&book, CLASS, class_bytes, sizeof class_bytes);
+        put_field(&book, PLANS_NAME_MARK, names[i], strlen(names[i]));
+    put_field(&book, PLANS_CLASS_MARK, class_bytes, sizeof class_bytes);
 }
 
 static plans_built build_all(void)
@@ -57,7 +57,7 @@ static plans_walked walk_day(const char *day)
     return walk(&table, row, length, PLANS_WORK_BYTES);
 }
 
-/* Worked days P6 and P7 of the scope document. */
+/* Worked days P6 and P7 of docs/SCOPE.md. */
 static void worked_days(void)
 {
     static const char *const days[] = {"bsl", "dsl", "bsb"};
@@ -65,7 +65,7 @@ static void worked_days(void)
     plans_walked walked;
 
     for (uint8_t h = 1; h <= 2; h++) {
-        start_book(0, 2, h);
+        start_book(PLANS_CONTEXT, 2, h);
         for (size_t i = 0; i < 3; i++)
             put_day(days[i]);
         built = build_all();
@@ -78,13 +78,29 @@ static void worked_days(void)
     }
 }
 
+/* The rows s and ss in each kind of class; two of them are worked days P8 and P9. */
+static void class_kinds(void)
+{
+    static const struct {
+        uint8_t kind, first, second;
+        uint32_t states;
+    } kinds[] = {{PLANS_CONTEXT, 2, 1, 3}, {PLANS_SEEN_SET, 0, 0, 2}, {PLANS_LAST_NAMES, 0, 0, 1}};
+
+    for (size_t i = 0; i < 3; i++) {
+        start_book(kinds[i].kind, kinds[i].first, kinds[i].second);
+        put_day("s");
+        put_day("ss");
+        check("a kind of class joins by its rule", build_all().states == kinds[i].states);
+    }
+}
+
 /* The user taps names until the day is admitted: of those offered, always the last. */
 static void tap_a_day(void)
 {
     static const char *const offers[] = {"bd", "s", "bl", ""};
     char day[8] = "";
 
-    start_book(0, 2, 1);
+    start_book(PLANS_CONTEXT, 2, 1);
     put_day("bsl");
     put_day("dsl");
     put_day("bsb");
@@ -115,14 +131,14 @@ static void rewrite_it(void)
     check("to the same bytes", again.length == table.length && memcmp(again.bytes, table.bytes, table.length) == 0);
 }
 
-/* Worked day P2 of the scope document, whose listing is that of its example. */
+/* Worked day P2 of docs/SCOPE.md, whose listing is that of its example. */
 static void list_it(void)
 {
     static const char listing[] = "states 2 joins 1\n0 - snack>1\n1 + snack>1\n";
     size_t length = sizeof listing - 1;
     plans_written listed;
 
-    start_book(0, 1, 1);
+    start_book(PLANS_CONTEXT, 1, 1);
     put_day("ss");
     listed = list(&book, PLANS_WORK_BYTES, PLANS_LISTING_BYTES, &again);
     check("a book is listed", listed.refusal == PLANS_OK && listed.length == length);
@@ -168,26 +184,26 @@ static void refused_fields(void)
 
     book.length = 0;
     refused_build("4: an empty book", PLANS_UNFINISHED);
-    start_book(0, 2, 1);
+    start_book(PLANS_CONTEXT, 2, 1);
     refused_build("4: a book with no row", PLANS_UNFINISHED);
-    put_field(&book, ROW, entries, 1);
+    put_field(&book, PLANS_ROW_MARK, entries, 1);
     refused_build("9: an entry that is no name's number", PLANS_BAD_ROW);
     book.length--;
     refused_build("2: a field cut off", PLANS_CUT_OFF);
-    start_book(0, 2, 1);
-    put_field(&book, ROW, entries, sizeof entries);
+    start_book(PLANS_CONTEXT, 2, 1);
+    put_field(&book, PLANS_ROW_MARK, entries, sizeof entries);
     refused_build("9: a row of 65", PLANS_BAD_ROW);
-    start_book(0, 9, 1);
+    start_book(PLANS_CONTEXT, 9, 1);
     refused_build("8: k = 9", PLANS_BAD_CLASS);
     book.length = 0;
-    put_field(&book, ROW, NULL, 0);
+    put_field(&book, PLANS_ROW_MARK, NULL, 0);
     refused_build("3: a row before any name", PLANS_MISPLACED);
     book.length = 0;
-    put_field(&book, NAME, "1", 1);
+    put_field(&book, PLANS_NAME_MARK, "1", 1);
     refused_build("5: a name that starts with a digit", PLANS_BAD_NAME);
     book.length = 0;
-    put_field(&book, NAME, "b", 1);
-    put_field(&book, NAME, "a", 1);
+    put_field(&book, PLANS_NAME_MARK, "b", 1);
+    put_field(&book, PLANS_NAME_MARK, "a", 1);
     refused_build("6: names not in order", PLANS_NAME_ORDER);
 }
 
@@ -199,18 +215,18 @@ static void refused_counts(void)
     book.length = 0;
     for (uint8_t i = 0; i < 65; i++) {
         const uint8_t name[] = {(uint8_t)('A' + i / 8), (uint8_t)('A' + i % 8)};
-        put_field(&book, NAME, name, sizeof name);
+        put_field(&book, PLANS_NAME_MARK, name, sizeof name);
     }
     refused_build("7: a 65th name", PLANS_TOO_MANY);
-    start_book(0, 2, 1);
+    start_book(PLANS_CONTEXT, 2, 1);
     for (size_t i = 0; i < 257; i++)
-        put_field(&book, ROW, row, 0);
+        put_field(&book, PLANS_ROW_MARK, row, 0);
     refused_build("7: a 257th row", PLANS_TOO_MANY);
-    start_book(1, 0, 0);
+    start_book(PLANS_SEEN_SET, 0, 0);
     for (uint8_t i = 0; i < 16; i++) {
         row[0] = i % 4;
         row[1] = i / 4;
-        put_field(&book, ROW, row, sizeof row);
+        put_field(&book, PLANS_ROW_MARK, row, sizeof row);
     }
     refused_build("10: a tree of over 512 states", PLANS_TREE_TOO_LARGE);
 }
@@ -229,16 +245,16 @@ static void refused_states(void)
     static const uint8_t to_no_state[] = {0, 0, 0, 9};
     static const uint8_t row[65] = {0};
 
-    start_book(0, 2, 1);
+    start_book(PLANS_CONTEXT, 2, 1);
     table = book;
-    put_field(&table, STATE, wrong_first, sizeof wrong_first);
+    put_field(&table, PLANS_STATE_MARK, wrong_first, sizeof wrong_first);
     refused_table("11: a state's first byte", PLANS_BAD_STATE);
     table = book;
-    put_field(&table, STATE, to_no_state, sizeof to_no_state);
+    put_field(&table, PLANS_STATE_MARK, to_no_state, sizeof to_no_state);
     refused_table("12: an arc to no state", PLANS_BAD_NUMBERING);
     table = book;
     for (size_t i = 0; i < 513; i++)
-        put_field(&table, STATE, not_accepting, sizeof not_accepting);
+        put_field(&table, PLANS_STATE_MARK, not_accepting, sizeof not_accepting);
     refused_table("7: a 513th state", PLANS_TOO_MANY);
     put_day("bsl");
     build_all();
@@ -250,6 +266,7 @@ static void refused_states(void)
 static void *tablet(void *unused)
 {
     worked_days();
+    class_kinds();
     tap_a_day();
     rewrite_it();
     list_it();

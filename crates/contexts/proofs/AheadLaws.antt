@@ -1,4 +1,4 @@
--- Which two names in succession lead on from each group, as sets of 16 bits: the names of a set by their low two bits, one arc
+-- Which two names in succession can be walked from each group, as sets of 16 bits: the names of a set by their low two bits, one arc
 -- more, that sets of one bit have it in common, and why one name in common is in both sets of names and two in succession are a
 -- bit in common. Assumes nothing.
 use mathlib.Core.Path.{_≡_, refl, sym, ap, _∙_, subst, subst₂}
@@ -9,11 +9,12 @@ use native.Mathlib.Omega.{arith}
 use lib.Bits.{bitAnd, bitOr, and-le-r, and-mask}
 use lib.ListN.{length, getD, set, replicate}
 use lib.Seq.{getD-set-same}
-use Rattle.model.specs.Limits.{state-limit}
-use Rattle.model.proofs.Tests.{decided, tells-ltb}
+use Rattle.base.specs.Limits.{state-limit}
+use Rattle.base.proofs.Tests.{decided, tells-ltb}
 use Rattle.indexed.specs.Trees.{Arrays}
 use Rattle.indexed.specs.Partitions.{Labelled, Share}
-use Rattle.indexed.proofs.Bits.{bit, bit-zero, bit-power-same, bit-of-both, bit-of-either, bit-below, bit-shifted, bit-fallen}
+use Rattle.base.specs.Bits.{bit}
+use Rattle.base.proofs.Bits.{bit-zero, bit-power-same, bit-of-both, bit-of-either, bit-below, bit-shifted, bit-fallen}
 use Rattle.contexts.specs.Sweeps.{Linked}
 use Rattle.contexts.specs.Ahead.{lowOf, LowNames, pairBit, LeadsOn, LeadOnBelow, Telling}
 use Rattle.contexts.proofs.ClimbLaws.{below-suc}

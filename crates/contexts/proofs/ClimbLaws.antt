@@ -7,11 +7,11 @@ use mathlib.Core.List.{List}
 use Prim.Native.Nat.{ℕ, zero, suc, _+_, _<_, _≤_}
 use native.Mathlib.Omega.{arith}
 use lib.ListN.{getD}
-use Rattle.model.proofs.Tests.{eq-dec}
+use Rattle.base.proofs.Tests.{eq-dec}
 use Rattle.indexed.specs.Trees.{Arrays, SameSuffix, up}
 use Rattle.indexed.specs.Partitions.{Refines, Labelled, ForkClosed, ContextClosed}
 use Rattle.indexed.specs.Passes.{BySuffix, ContextJoined}
-use Rattle.indexed.proofs.Suffixes.{up-parent, parent-below, climb-sound, suffix-cast}
+use Rattle.indexed.proofs.Suffixes.{up-below, up-parent, parent-below, climb-sound, suffix-cast}
 use Rattle.indexed.proofs.Contexts.{suffix-closed, climbed-closed}
 use Rattle.partition.specs.Joins.{JoinedTwo}
 use Rattle.contexts.specs.Climbs.{Above, Upward, StepsJoined, ParentsJoined, Climbed, ClimbedAt, ClimbedBelow}
@@ -60,12 +60,6 @@ module _ (n m : ℕ) (parents : List ℕ) (above : Above n parents) where
         steps = λ k pos le. let z : ⊥ = omega arith in absurd z;
       }
 
-  -- ancestors are states
-  up-inside : (i v : ℕ) → v < n → up parents i v < n
-  unfolding up
-  up-inside zero v h = h
-  up-inside (suc i) v h = up-inside i (getD parents v 0) (above .below v h)
-
   module _ (v w i a b x y : ℕ) (groups now-groups next-groups : List ℕ) (joined : Bool) (hv : v < n) (hw : w < n) (left : i < m)
       (x-is : x ≡ getD parents a 0) (y-is : y ≡ getD parents b 0) (climbing : Climbing n m parents v w i a b groups now-groups)
       (two : JoinedTwo n x y now-groups next-groups joined) where
@@ -87,8 +81,8 @@ module _ (n m : ℕ) (parents : List ℕ) (above : Above n parents) where
         ⊎-elim
         (λ e. subst (λ (d : ℕ). getD next-groups (up parents d v) 0 ≡ getD next-groups (up parents d w) 0) (sym e)
         (ap (λ (z : ℕ). getD next-groups z 0) (sym a-up) ∙ two .together ∙ ap (λ (z : ℕ). getD next-groups z 0) b-up))
-        (λ apart. two .coarser (up parents k v) (up parents k w) (up-inside k v hv) (up-inside k w hw)
-        (climbing .steps k pos (omega arith))) (eq-dec k (suc i))
+        (λ apart. two .coarser (up parents k v) (up parents k w) (up-below n parents (above .below) k v hv)
+        (up-below n parents (above .below) k w hw) (climbing .steps k pos (omega arith))) (eq-dec k (suc i))
 
     pub climbing-more : Climbing n m parents v w (suc i) x y groups next-groups
     climbing-more =
@@ -141,8 +135,9 @@ module _ (n m : ℕ) (parents : List ℕ) (above : Above n parents) where
         earlier v h =
             let hv : v < n = omega arith in
             ⊎-elim
-            (λ joined. inl (λ k pos le. climbed .coarser (up parents k v) (up parents k (getD starts v 0)) (up-inside k v hv)
-            (up-inside k (getD starts v 0) (start-below v hv)) (joined k pos le)))
+            (λ joined. inl (λ k pos le. climbed .coarser (up parents k v) (up parents k (getD starts v 0))
+            (up-below n parents (above .below) k v hv)
+            (up-below n parents (above .below) k (getD starts v 0) (start-below v hv)) (joined k pos le)))
             inr (before .steps v h)
     climbs-more i groups now-groups next-groups inside before (inr (alike, same)) =
         subst (λ (l : List ℕ). Climbs n (suc i) m parents starts groups l) (sym same)

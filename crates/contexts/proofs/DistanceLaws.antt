@@ -9,8 +9,8 @@ use native.Mathlib.Nat.{not-suc-le-zero}
 use native.Mathlib.Omega.{arith}
 use lib.ListN.{length, getD, set, replicate, length-set}
 use lib.Seq.{getD-set-same, getD-set-other}
-use Rattle.model.proofs.Tests.{eq-dec}
-use Rattle.model.specs.Limits.{state-limit}
+use Rattle.base.proofs.Tests.{eq-dec}
+use Rattle.base.specs.Limits.{state-limit}
 use Rattle.indexed.specs.Partitions.{Labelled, sum}
 use Rattle.contexts.specs.Distances.{UnchangedAt, SpreadAt, SpreadFrom, Spread, Marking, Lowering, Fallen}
 use Rattle.contexts.specs.Distances.{MarkedAt, MarkedBelow, Lowered}

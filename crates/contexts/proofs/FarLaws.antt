@@ -1,5 +1,5 @@
 -- Laws of what a sweep can leave out: names in common that lead through groups which have not grown since an earlier partition
--- led on in that one already; what was compared by it stays joined; and what the climbs join is what states by themselves would
+-- could be walked in that one already; what was compared by it stays joined; and what the climbs join is what states by themselves would
 -- have compared. Assumes nothing.
 use mathlib.Core.Path.{_≡_, refl, sym, ap, _∙_, subst, subst₂}
 use mathlib.Core.Logic.{inl, inr}
@@ -7,11 +7,11 @@ use mathlib.Core.List.{List}
 use Prim.Native.Nat.{ℕ, zero, suc, _+_, _<_, _≤_}
 use native.Mathlib.Omega.{arith}
 use lib.ListN.{getD}
-use Rattle.model.specs.Lists.{numbersFrom}
+use Rattle.base.specs.Lists.{numbersFrom}
 use Rattle.indexed.specs.Trees.{Arrays, SameSuffix, up}
 use Rattle.indexed.specs.Partitions.{Refines, Share, ContextClosed}
 use Rattle.indexed.specs.Passes.{BySuffix}
-use Rattle.indexed.proofs.Keys.{number-at}
+use Rattle.base.proofs.Places.{number-at}
 use Rattle.indexed.proofs.Suffixes.{parent-below, up-parent, suffix-cast}
 use Rattle.contexts.specs.Climbs.{ClimbedBelow}
 use Rattle.contexts.specs.Distances.{Tested, Spread, SpreadAt, distanceOf}
@@ -37,7 +37,7 @@ module _ {n j : ℕ} {parents before groups dist : List ℕ} (spread : Spread n 
       omega arith
 
   module _ (names : List ℕ) (arrays : Arrays n parents names) where
-    -- i names that lead on from two groups, both at least i arcs from any that has grown, led on in the earlier partition
+    -- i names that can be walked from two groups, both at least i arcs from any that has grown, could be walked in the earlier partition
     pub far-share :
         (i v w : ℕ) → i ≤ j → v < n → w < n → Share n parents names groups i v w → i ≤ distanceOf groups dist v →
         i ≤ distanceOf groups dist w → Share n parents names before i v w
@@ -57,7 +57,7 @@ module _ {n j : ℕ} {parents before groups dist : List ℕ} (spread : Spread n 
           (target-far i y w within from-w far-w (spread .spread y py hy)),
     )
 
-    -- two arcs of one name after which j names lead on, both far: their sources are in one group
+    -- two arcs of one name after which j names can be walked, both far: their sources are in one group
     pub tested-far :
         (h p q : ℕ) → Tested n h (suc j) parents names before groups → SameSuffix parents names (suc h) p q →
         Share n parents names groups j p q → j ≤ distanceOf groups dist p → j ≤ distanceOf groups dist q →
@@ -95,7 +95,7 @@ module _ (n : ℕ) (parents names : List ℕ) (arrays : Arrays n parents names) 
   own-same : (u v : ℕ) → u < n → v < n → getD (numbersFrom n 0) u 0 ≡ getD (numbersFrom n 0) v 0 → u ≡ v
   own-same u v hu hv e = sym (number-at n u hu) ∙ e ∙ number-at n v hv
 
-  -- by the states' own numbers, names that lead on in common are branches of the tree
+  -- by the states' own numbers, names that can be walked in common are branches of the tree
   own-below :
       (m h v w : ℕ) → v < n → w < n → SameSuffix parents names h v w → Share n parents names (numbersFrom n 0) m v w →
       Below n m h parents names v w

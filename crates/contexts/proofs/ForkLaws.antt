@@ -6,8 +6,8 @@ use mathlib.Core.List.{List, [], _∷_}
 use Prim.Native.Nat.{ℕ, zero, suc, _<_, _≤_}
 use native.Mathlib.Omega.{arith}
 use lib.ListN.{length, getD}
-use Rattle.model.specs.Lists.{numbersFrom}
-use Rattle.model.proofs.Tests.{eq-dec}
+use Rattle.base.specs.Lists.{numbersFrom}
+use Rattle.base.proofs.Tests.{eq-dec}
 use Rattle.indexed.specs.Trees.{Arrays}
 use Rattle.indexed.specs.Partitions.{Refines, Labelled, KeyClosed, ForkClosed, sum}
 use Rattle.indexed.proofs.Keys.{forks-keys, keys-forks}

@@ -3,13 +3,14 @@
 use mathlib.Core.Path.{_≡_, refl, sym, ap, _∙_, subst, subst₂}
 use mathlib.Core.Logic.{_⊎_, inl, inr, ⊎-elim}
 use mathlib.Core.List.{List}
-use Prim.Native.Nat.{ℕ, zero, suc, _^_, _<_}
+use Prim.Native.Nat.{ℕ, suc, _^_, _<_}
 use native.Mathlib.Omega.{arith}
 use lib.Bits.{bitOr}
 use lib.ListN.{length, getD, set}
 use lib.Seq.{getD-set-same, getD-set-other}
-use Rattle.model.proofs.Tests.{eq-dec}
-use Rattle.indexed.proofs.Bits.{bit, bit-zero, bit-set, bit-of-set, bit-of-either, set-again}
+use Rattle.base.proofs.Tests.{eq-dec}
+use Rattle.base.specs.Bits.{bit}
+use Rattle.base.proofs.Bits.{bit-zero, bit-set, bit-of-set, bit-of-either, set-again}
 use Rattle.contexts.specs.Sweeps.{FirstArc, ArcOf, Linked}
 use Rattle.contexts.proofs.ClimbLaws.{below-suc}
 

@@ -8,18 +8,17 @@ use native.Mathlib.Numerals.{add-one}
 use native.Mathlib.Omega.{arith}
 use lib.ListN.{length, getD, set, replicate}
 use lib.Seq.{getD-set-same, getD-set-other}
-use Rattle.model.specs.Limits.{state-limit}
-use Rattle.model.proofs.Tests.{eq-dec, decided, tells-ltb}
+use Rattle.base.specs.Limits.{state-limit, setting-limit}
+use Rattle.base.proofs.Tests.{eq-dec, decided, tells-ltb}
 use Rattle.indexed.specs.Chains.{Chained}
 use Rattle.indexed.proofs.Chains.{chained-none, chained-skip, chained-push}
-use Rattle.indexed.proofs.Bits.{bit}
-use Rattle.contexts.specs.Distances.{distance-limit}
+use Rattle.base.specs.Bits.{bit}
 use Rattle.contexts.specs.Sweeps.{FirstArc, Linked, Listed, ListedNear, Near, Far, waiting, Placed, ArcsLinked, FarLinked}
 use Rattle.contexts.specs.Sweeps.{ArcsReady}
 use Rattle.contexts.proofs.LinkLaws.{linked-none, linked-known}
 
 -- the distances at first
-pub distances-none : (n x : ℕ) → getD (replicate n distance-limit) x 0 ≤ distance-limit
+pub distances-none : (n x : ℕ) → getD (replicate n setting-limit) x 0 ≤ setting-limit
 distances-none zero x = omega arith
 distances-none (suc n) zero = omega arith
 distances-none (suc n) (suc x) = distances-none n x

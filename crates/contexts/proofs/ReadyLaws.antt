@@ -6,7 +6,7 @@ use mathlib.Core.List.{List}
 use Prim.Native.Nat.{ℕ, _<_, _≤_}
 use native.Mathlib.Omega.{arith}
 use lib.ListN.{getD}
-use Rattle.model.proofs.Tests.{eq-dec, decided, tells-ltb}
+use Rattle.base.proofs.Tests.{eq-dec, decided, tells-ltb}
 use Rattle.contexts.specs.Distances.{distanceOf}
 use Rattle.contexts.specs.Sweeps.{Listed, Near, Far, ListedNear, ArcsReady, OnChain, Falling}
 use Rattle.contexts.proofs.ChainLaws.{on-none, From, from-head, from-link, on-listed, listed-on, chain-falls}

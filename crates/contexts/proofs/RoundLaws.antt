@@ -5,15 +5,15 @@ use mathlib.Core.List.{List}
 use Prim.Native.Nat.{ℕ, _+_, _<_, _≤_}
 use native.Mathlib.Omega.{arith}
 use lib.ListN.{length, take}
-use Rattle.model.specs.Lists.{numbersFrom}
-use Rattle.model.specs.Limits.{setting-limit}
+use Rattle.base.specs.Lists.{numbersFrom}
+use Rattle.base.specs.Limits.{setting-limit}
 use Rattle.indexed.specs.Trees.{Arrays}
 use Rattle.indexed.specs.Partitions.{Labelled, ForkClosed, ContextClosed, SuffixAgree}
 use Rattle.indexed.specs.Passes.{Swept, SuffixClasses, BySuffix, ContextJoined}
-use Rattle.indexed.proofs.Keys.{numbers-length}
+use Rattle.base.proofs.Places.{length-numbersFrom}
 use Rattle.indexed.proofs.Contexts.{joined-suffix-agree}
 use Rattle.indexed.proofs.Rounds.{due, due-less}
-use Rattle.indexed.proofs.Fills.{front-length}
+use Rattle.base.proofs.Fills.{front-length}
 use Rattle.worklist.specs.Forks.{Kept}
 use Rattle.contexts.specs.Climbs.{ClimbedBelow}
 use Rattle.contexts.specs.Distances.{Tested}
@@ -44,7 +44,7 @@ rounds-none n h m parents names before groups forked ready own forks =
     record {
       labelled = forks .labelled;
       sound = λ others fork context. forks .sound others fork (ready .sound others fork context);
-      before-size = ap length own ∙ numbers-length n 0;
+      before-size = ap length own ∙ length-numbersFrom n 0;
       tested =
           tested-coarser n h m parents names before groups forked
           (subst (λ (l : List ℕ). Tested n h m parents names l groups) (sym own) (ready .tested)) (forks .coarser);

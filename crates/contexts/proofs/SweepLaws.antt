@@ -7,7 +7,7 @@ use Prim.Native.Nat.{ℕ, zero, suc, _+_, _<_}
 use native.Mathlib.Numerals.{add-one}
 use native.Mathlib.Omega.{arith}
 use lib.ListN.{getD}
-use Rattle.model.proofs.Tests.{eq-dec, decided, tells-ltb}
+use Rattle.base.proofs.Tests.{eq-dec, decided, tells-ltb}
 use Rattle.indexed.specs.Trees.{Arrays, SameSuffix}
 use Rattle.indexed.specs.Partitions.{Labelled, Share, SuffixAgree, ContextClosed, ForkClosed}
 use Rattle.indexed.specs.Passes.{SuffixClasses, Swept}

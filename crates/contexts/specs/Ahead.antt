@@ -1,13 +1,13 @@
--- Which two names in succession lead on from each group, as a set of 16 bits for each group: what one pass over the arcs gives, and
+-- Which two names in succession can be walked from each group, as a set of 16 bits for each group: what one pass over the arcs gives, and
 -- what the sets tell of two groups. A group goes by its label, an arc by the state that it leads into. Assumes nothing.
 use mathlib.Core.Path.{_≡_}
 use mathlib.Core.List.{List}
 use Prim.Native.Nat.{ℕ, _+_, _*_, _<_}
 use lib.Bits.{bitAnd}
 use lib.ListN.{getD}
-use Rattle.model.specs.Limits.{name-limit}
+use Rattle.base.specs.Limits.{name-limit}
 use Rattle.indexed.specs.Partitions.{Share}
-use Rattle.indexed.proofs.Bits.{bit}
+use Rattle.base.specs.Bits.{bit}
 use Rattle.contexts.specs.Sweeps.{Linked}
 
 -- the low two bits of a name
@@ -22,7 +22,7 @@ LowNames names low = (a : ℕ) → a < name-limit → bit a names ≡ 1 → bit 
 abbrev pub pairBit : ℕ → ℕ → ℕ
 pairBit a b = 4 * lowOf a + lowOf b
 
--- the name of arc v and each name that leads on from where it leads to have their bit at the group that the arc leaves
+-- the name of arc v and each name that can be walked from where it leads to have their bit at the group that the arc leaves
 abbrev pub LeadsOn : List ℕ → List ℕ → List ℕ → List ℕ → List ℕ → ℕ → Type 0
 LeadsOn parents names old next ahead v =
     (b : ℕ) → b < name-limit → bit b (getD next (getD old v 0) 0) ≡ 1 →
@@ -32,7 +32,7 @@ LeadsOn parents names old next ahead v =
 abbrev pub LeadOnBelow : ℕ → List ℕ → List ℕ → List ℕ → List ℕ → List ℕ → Type 0
 LeadOnBelow i parents names old next ahead = (v : ℕ) → 0 < v → v < i → LeadsOn parents names old next ahead v
 
--- arcs after which j names in succession lead on in common lead into groups that have a bit in common
+-- arcs after which j names in succession can be walked in common lead into groups that have a bit in common
 abbrev pub Telling : ℕ → ℕ → List ℕ → List ℕ → List ℕ → List ℕ → Type 0
 Telling n j parents names old ahead =
     (v w : ℕ) → v < n → w < n → Share n parents names old j v w →

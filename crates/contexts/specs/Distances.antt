@@ -7,7 +7,7 @@ use mathlib.Core.Bool.{Bool, true, false}
 use mathlib.Core.List.{List}
 use Prim.Native.Nat.{ℕ, _+_, _<_, _≤_}
 use lib.ListN.{length, getD}
-use Rattle.model.specs.Limits.{state-limit}
+use Rattle.base.specs.Limits.{state-limit, setting-limit}
 use Rattle.indexed.specs.Trees.{SameSuffix}
 use Rattle.indexed.specs.Partitions.{Labelled, Share, sum}
 use Rattle.contexts.specs.Climbs.{Above}
@@ -38,10 +38,6 @@ pub record Spread (n j : ℕ) (parents before groups dist : List ℕ) : Type 0 w
   pub unchanged : (u : ℕ) → u < n → UnchangedAt before groups dist u
   pub spread : (v : ℕ) → 0 < v → v < n → SpreadAt j parents groups dist v
 
--- no number is above this one
-abbrev pub distance-limit : ℕ
-distance-limit = 8
-
 -- what marking needs for n states
 pub record Marking (n : ℕ) (before groups dist : List ℕ) : Type 0 where
   pub few : n ≤ state-limit
@@ -55,7 +51,7 @@ pub record Lowering (n : ℕ) (parents groups dist : List ℕ) : Type 0 where
   pub above : Above n parents
   pub labelled : Labelled n groups
   pub size : length dist ≡ state-limit
-  pub limit : (x : ℕ) → getD dist x 0 ≤ distance-limit
+  pub limit : (x : ℕ) → getD dist x 0 ≤ setting-limit
 
 -- no number is higher than it was
 pub record Fallen (dist dist′ : List ℕ) : Type 0 where

@@ -1,6 +1,6 @@
 -- The pairs of arcs that a sweep compares, and the joins that it makes at once: the partition as a forest with the lists of its arcs,
 -- in which forks are closed after every join; what the comparisons need; what joining one pair, one chain and all pairs promises,
--- by the names that lead on at the beginning of the sweep, in `old`; and the sweep. Assumes nothing.
+-- by the names that can be walked at the beginning of the sweep, in `old`; and the sweep. Assumes nothing.
 use mathlib.Core.Path.{_≡_}
 use mathlib.Core.Bool.{Bool, true, false}
 use mathlib.Core.Logic.{_⊎_}
@@ -8,8 +8,8 @@ use mathlib.Core.List.{List}
 use Prim.Native.Nat.{ℕ, _+_, _<_, _≤_}
 use lib.Bits.{bitAnd}
 use lib.ListN.{length, getD}
-use Rattle.model.specs.Limits.{state-limit}
-use Rattle.model.specs.Lists.{numbersFrom}
+use Rattle.base.specs.Limits.{state-limit}
+use Rattle.base.specs.Lists.{numbersFrom}
 use Rattle.indexed.specs.Trees.{Arrays}
 use Rattle.indexed.specs.Partitions.{Refines, Labelled, ForkClosed, Share, SuffixAgree, sum}
 use Rattle.indexed.specs.Passes.{SuffixClasses, Swept}
@@ -47,8 +47,8 @@ pub record Chains (n : ℕ) (links : List ℕ) : Type 0 where
   pub size : n ≤ length links
   pub falling : (v : ℕ) → v < n → Falling links (getD links v 0) n
 
--- the sources of arcs v and w are joined where j names led on after both, and nothing is that need not be, forks closed; true where
--- anything was joined
+-- the sources of arcs v and w are joined where j names could be walked after both, and nothing is that need not be, forks closed; true
+-- where anything was joined
 pub record PairJoined (n j : ℕ) (parents names old : List ℕ) (v w : ℕ) (groups groups′ : List ℕ) (joined : Bool) : Type 0 where
   pub labelled : Labelled n groups′
   pub coarser : Refines n groups groups′

@@ -1,12 +1,12 @@
-// Which two names in succession lead on from each group, as a set of 16 bits. A name counts by its low two bits, so that groups
-// whose sets have no bit in common have no two names in common that lead on; a bit in common tells nothing. An arc goes by the
+// Which two names in succession can be walked from each group, as a set of 16 bits. A name counts by its low two bits, so that no two
+// names can be walked from both of two groups whose sets have no bit in common; a bit in common tells nothing. An arc goes by the
 // state that it leads into.
-use crate::STATE_LIMIT;
-use cells::numbers::wide16;
+use base::limits::STATE_LIMIT;
+use base::numbers::wide16;
 ghost use mathlib.Core.Path.{_≡_};
 ghost use Prim.Native.Nat.{ℕ, _<_};
 ghost use lib.ListN.{length, getD};
-ghost use Rattle.model.specs.Limits.{state-limit};
+ghost use Rattle.base.specs.Limits.{state-limit};
 ghost use Rattle.indexed.specs.Trees.{Arrays};
 ghost use Rattle.indexed.specs.Partitions.{Labelled};
 ghost use Rattle.contexts.specs.Ahead.{LowNames, LeadOnBelow, AheadOf};
@@ -22,7 +22,7 @@ fn low_names(set: u64) -> u16
     (by_4 & 15) as u16
 }
 
-// The sets of two names: each arc adds its name with those that lead on from where it leads to.
+// The sets of two names: each arc adds its name with those that can be walked from where it leads to.
 fn two_names(
     parents: &[u16],
     names: &[u8],
@@ -47,7 +47,7 @@ fn two_names(
     }
 }
 
-// The sets of two names, where j of 2 or more lead on. At first every group has a bit in common with every other, and for fewer
+// The sets of two names, where j of 2 or more can be walked. At first every group has a bit in common with every other, and for fewer
 // names it stays so.
 pub fn names_ahead(
     j: usize,

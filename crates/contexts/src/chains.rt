@@ -1,27 +1,26 @@
 // The sweep: groups with the same last names out of which m names in succession lead in common are joined. Arcs are compared, the
 // first of each name out of each group, by classes. The sources of two arcs of a class have the same last names, and are joined
-// where m - 1 names lead on after both arcs. An arc goes by the state that it leads into.
+// where m - 1 names in succession can be walked after both arcs. An arc goes by the state that it leads into.
 //
-// Most pairs are left out: an arc is near where fewer than m - 1 arcs lead on from where it leads to a group that has grown since
-// the last sweep, else far, and what leads on from two far arcs was compared by the last sweep. So the chain of a class has its
-// near arcs alone; each of them is compared with those before it, and each far arc with all of them.
-use crate::STATE_LIMIT;
-use cells::numbers::narrow16;
-use cells::numbers::wide8;
-use cells::numbers::wide16;
+// Most pairs are left out: an arc is near where a group that has grown since the last sweep is fewer than m - 1 arcs after it, else
+// far, and what can be walked after two far arcs was compared by the last sweep. So the chain of a class has its near arcs alone;
+// each of them is compared with those before it, and each far arc with all of them.
+use base::limits::NO_STATE;
+use base::limits::STATE_LIMIT;
+use base::numbers::narrow16;
+use base::numbers::wide8;
+use base::numbers::wide16;
+use base::sets::with_name;
 ghost use mathlib.Core.Path.{_≡_};
 ghost use Prim.Native.Nat.{ℕ, _+_, _<_, _≤_};
 ghost use lib.ListN.{length, getD};
 ghost use Rattle.indexed.specs.Trees.{Arrays};
 ghost use Rattle.indexed.specs.Partitions.{Labelled};
-ghost use Rattle.model.specs.Limits.{state-limit};
+ghost use Rattle.base.specs.Limits.{state-limit};
 ghost use Rattle.contexts.specs.Sweeps.{Sizes, Placed, ArcsLinked, waiting, Settled, FarLinked};
 
-// The class of a state with too few names.
-const NONE: u16 = 512;
-
 // What a far arc has instead of a link until the chains are whole. No arc has this number.
-const WAITING: u16 = 513;
+const WAITING: u16 = NO_STATE + 1;
 
 // Puts arc v, the first of its name out of its group, into the chain of its class, if it has one and is near; marks it, if it is
 // far.
@@ -44,7 +43,7 @@ fn place_arc(
         ⌜ Placed j v (now (classes .entry)) (now (old .entry)) (now (dist .entry)) (now (links .entry)) (now (heads .entry))
         (now (links .exit)) (now (heads .exit)) ⌝ }
 {
-    if NONE <= classes[v] {
+    if NO_STATE <= classes[v] {
         return;
     }
     let group = wide16(old[v]);
@@ -86,7 +85,7 @@ fn link_arc(
     let from = suffixes::class_above(old, parents, v);
     let name = names[v];
     let known = next[from];
-    let all = known | (1u64 << name);
+    let all = with_name(known, name);
     if all == known {
         return;
     }

@@ -1,12 +1,12 @@
-// How near each group is to one that has grown since an earlier partition, in arcs: from there on the names that lead on may be
+// How near each group is to one that has grown since an earlier partition, in arcs: from there on the names that can be walked may be
 // others than they were. A group goes by its label, an arc by the state that it leads into.
-use crate::STATE_LIMIT;
-use cells::numbers::narrow8;
-use cells::numbers::wide16;
+use base::limits::STATE_LIMIT;
+use base::numbers::narrow8;
+use base::numbers::wide16;
 ghost use Prim.Native.Nat.{_<_, _≤_};
 ghost use lib.ListN.{length};
+ghost use Rattle.base.specs.Limits.{setting-limit};
 ghost use Rattle.contexts.specs.Distances.{Spread, SpreadAt, SpreadFrom, Marking, MarkedAt, MarkedBelow, Lowering, Lowered};
-ghost use Rattle.contexts.specs.Distances.{distance-limit};
 
 // The group of v has distance 0 if it has grown: v was not in the group of its label.
 fn mark_at(before: &[u16], groups: &[u16], dist: &mut [u8; STATE_LIMIT], v: usize)
@@ -86,7 +86,7 @@ pub fn distances(
 )
     requires marking { ⌜ Marking (length (now groups)) (now before) (now groups) (now dist) ⌝ }
     requires lowering { ⌜ Lowering (length (now groups)) (now parents) (now groups) (now dist) ⌝ }
-    requires limit { ⌜ j ≤ distance-limit ⌝ }
+    requires limit { ⌜ j ≤ setting-limit ⌝ }
     ensures { λ _.
         ⌜ Spread (length (now (groups .entry))) j (now (parents .entry)) (now (before .entry)) (now (groups .entry))
         (now (dist .exit)) ⌝ }

@@ -1,28 +1,31 @@
 // The comparisons of a sweep, and the joins that they lead to. Each arc is compared with those further down its chain; where m - 1
-// names in succession lead on after both, their sources are joined, and forks are closed at once, so that what comes later is
+// names in succession can be walked after both, their sources are joined, and forks are closed at once, so that what comes later is
 // looked for among groups that are as large as they can be. The chains stay those of the groups at the beginning of the sweep.
-use crate::STATE_LIMIT;
 use crate::ahead::names_ahead;
 use crate::chains::link_arcs;
 use crate::chains::link_far;
 use crate::distances::distances;
-use cells::numbers::wide16;
+use base::limits::SETTING_LIMIT;
+use base::limits::STATE_LIMIT;
+use base::numbers::wide16;
+use base::slices::copy;
 use partition::forest;
 use worklist::forks::join_two;
+use worklist::lists::PAIR_LIMIT;
 use worklist::search::lead_on;
 ghost use mathlib.Core.Path.{_≡_};
 ghost use mathlib.Core.Bool.{true};
 ghost use Prim.Native.Nat.{_<_, _≤_};
 ghost use lib.ListN.{length};
-ghost use Rattle.model.specs.Limits.{setting-limit, state-limit};
-ghost use Rattle.model.specs.Lists.{numbersFrom};
+ghost use Rattle.base.specs.Limits.{setting-limit, state-limit};
+ghost use Rattle.base.specs.Lists.{numbersFrom};
 ghost use Rattle.indexed.specs.Trees.{Arrays};
 ghost use Rattle.indexed.specs.Partitions.{Refines, Labelled};
 ghost use Rattle.partition.specs.Forests.{rootsOf};
 ghost use Rattle.worklist.specs.Forks.{Kept};
 ghost use Rattle.contexts.specs.Joins.{Live, Apart, Comparing, Chains, PairJoined, ChainJoined, PairsJoined, SweptBy};
 
-// Whether the groups that arcs v and w led into at first tell by their sets that no names lead on after both.
+// Whether the groups that arcs v and w led into at first tell by their sets that no names can be walked after both.
 fn apart(v: usize, w: usize, old: &[u16], next: &[u64], ahead: &[u16; STATE_LIMIT]) -> bool
     requires labelled { ⌜ Labelled (length (now old)) (now old) ⌝ }
     requires few { ⌜ length (now old) ≤ state-limit ⌝ }
@@ -39,8 +42,8 @@ fn apart(v: usize, w: usize, old: &[u16], next: &[u64], ahead: &[u16; STATE_LIMI
     next[into] & next[other] == 0
 }
 
-// Joins the sources of arcs v and w where j names in succession lead on after both, and closes forks; true where they were in two
-// groups. The sets of the groups at first tell most pairs apart; what leads on is looked for among the groups as they are.
+// Joins the sources of arcs v and w where j names in succession can be walked after both, and closes forks; true where they were in
+// two groups. The sets of the groups at first tell most pairs apart; the names are looked for among the groups as they are.
 fn join_pair(
     j: usize,
     v: usize,
@@ -52,10 +55,10 @@ fn join_pair(
     next: &[u64],
     ahead: &[u16; STATE_LIMIT],
     groups: &mut [u16],
-    arclinks: &mut [u16; 512],
-    archeads: &mut [u16; 512],
-    firsts: &mut [u16; 1536],
-    seconds: &mut [u16; 1536],
+    arclinks: &mut [u16; STATE_LIMIT],
+    archeads: &mut [u16; STATE_LIMIT],
+    firsts: &mut [u16; PAIR_LIMIT],
+    seconds: &mut [u16; PAIR_LIMIT],
 ) -> bool
     requires comparing { ⌜ Comparing (length (now groups)) j (now parents) (now names) (now numbers) (now old) (now next)
         (now ahead) ⌝ }
@@ -98,7 +101,7 @@ fn join_pair(
     true
 }
 
-// Joins the source of arc v with those of the arcs further down its chain after which j names in succession lead on as after v;
+// Joins the source of arc v with those of the arcs further down its chain after which j names in succession can be walked as after v;
 // true where anything was joined.
 fn join_chain(
     j: usize,
@@ -111,10 +114,10 @@ fn join_chain(
     ahead: &[u16; STATE_LIMIT],
     links: &[u16],
     groups: &mut [u16],
-    arclinks: &mut [u16; 512],
-    archeads: &mut [u16; 512],
-    firsts: &mut [u16; 1536],
-    seconds: &mut [u16; 1536],
+    arclinks: &mut [u16; STATE_LIMIT],
+    archeads: &mut [u16; STATE_LIMIT],
+    firsts: &mut [u16; PAIR_LIMIT],
+    seconds: &mut [u16; PAIR_LIMIT],
 ) -> bool
     requires comparing { ⌜ Comparing (length (now groups)) j (now parents) (now names) (now numbers) (now old) (now next)
         (now ahead) ⌝ }
@@ -167,10 +170,10 @@ fn sweep_pairs(
     ahead: &[u16; STATE_LIMIT],
     links: &[u16],
     groups: &mut [u16],
-    arclinks: &mut [u16; 512],
-    archeads: &mut [u16; 512],
-    firsts: &mut [u16; 1536],
-    seconds: &mut [u16; 1536],
+    arclinks: &mut [u16; STATE_LIMIT],
+    archeads: &mut [u16; STATE_LIMIT],
+    firsts: &mut [u16; PAIR_LIMIT],
+    seconds: &mut [u16; PAIR_LIMIT],
 ) -> bool
     requires comparing { ⌜ Comparing (length (now groups)) j (now parents) (now names) (now numbers) (now old) (now next)
         (now ahead) ⌝ }
@@ -220,10 +223,10 @@ pub fn sweep(
     classes: &[u16],
     before: &mut [u16],
     groups: &mut [u16],
-    arclinks: &mut [u16; 512],
-    archeads: &mut [u16; 512],
-    firsts: &mut [u16; 1536],
-    seconds: &mut [u16; 1536],
+    arclinks: &mut [u16; STATE_LIMIT],
+    archeads: &mut [u16; STATE_LIMIT],
+    firsts: &mut [u16; PAIR_LIMIT],
+    seconds: &mut [u16; PAIR_LIMIT],
 ) -> bool
     requires arrays { ⌜ Arrays (length (now groups)) (now parents) (now names) ⌝ }
     requires own { ⌜ now numbers ≡ numbersFrom (length (now groups)) 0 ⌝ }
@@ -241,9 +244,9 @@ pub fn sweep(
         (now (groups .exit)) (now (arclinks .exit)) (now (archeads .exit)) (now (firsts .exit)) (now (seconds .exit)) 0 ⌝ }
 {
     let j = m - 1;
-    let mut dist = [8u8; STATE_LIMIT];
+    let mut dist = [SETTING_LIMIT; STATE_LIMIT];
     distances(j, parents, before, groups, &mut dist);
-    suffixes::copy(groups, before);
+    copy(groups, before);
     let mut next = [0u64; STATE_LIMIT];
     let mut links = [0u16; STATE_LIMIT];
     let mut heads = [0u16; STATE_LIMIT];

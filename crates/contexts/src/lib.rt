@@ -5,15 +5,18 @@ pub mod chains;
 pub mod distances;
 pub mod joins;
 
-use cells::numbers::wide16;
+use base::limits::STATE_LIMIT;
+use base::numbers::wide16;
+use base::slices::copy;
 use joins::sweep;
 use partition::forest;
 use worklist::forks::start;
+use worklist::lists::PAIR_LIMIT;
 ghost use mathlib.Core.Path.{_≡_};
 ghost use Prim.Native.Nat.{_+_, _<_, _≤_};
 ghost use lib.ListN.{length};
-ghost use Rattle.model.specs.Limits.{setting-limit, state-limit};
-ghost use Rattle.model.specs.Lists.{numbersFrom};
+ghost use Rattle.base.specs.Limits.{setting-limit, state-limit};
+ghost use Rattle.base.specs.Lists.{numbersFrom};
 ghost use Rattle.indexed.specs.Trees.{Arrays};
 ghost use Rattle.indexed.specs.Partitions.{Refines, Labelled};
 ghost use Rattle.indexed.specs.Passes.{ContextJoined};
@@ -21,9 +24,6 @@ ghost use Rattle.partition.specs.Forests.{Forest, rootsOf};
 ghost use Rattle.worklist.specs.Settling.{NoLists, QueueRoom};
 ghost use Rattle.contexts.specs.Climbs.{Above, Climbed, ClimbedAt, ClimbedBelow, ByRoots};
 ghost use Rattle.contexts.specs.Rounds.{RoundReady};
-
-// No partition has more states.
-pub const STATE_LIMIT: usize = 512;
 
 // Joins the groups of the ancestors of v and w, the first of each, the second, and so on up to the m-th.
 fn climb(m: usize, parents: &[u16], groups: &mut [u16], v: usize, w: usize)
@@ -99,7 +99,7 @@ fn climb_starts(m: usize, parents: &[u16], groups: &mut [u16])
 {
     let n = groups.len();
     let mut starts = [0u16; STATE_LIMIT];
-    suffixes::copy(groups, &mut starts[..n]);
+    copy(groups, &mut starts[..n]);
     climb_all(m, parents, &starts[..n], groups);
     forest::flatten(groups);
 }
@@ -115,10 +115,10 @@ fn close_contexts(
     numbers: &[u16],
     before: &mut [u16],
     groups: &mut [u16],
-    links: &mut [u16; 512],
-    heads: &mut [u16; 512],
-    firsts: &mut [u16; 1536],
-    seconds: &mut [u16; 1536],
+    links: &mut [u16; STATE_LIMIT],
+    heads: &mut [u16; STATE_LIMIT],
+    firsts: &mut [u16; PAIR_LIMIT],
+    seconds: &mut [u16; PAIR_LIMIT],
 )
     requires ready { ⌜ RoundReady (length (now groups)) h m (now parents) (now names) (now groups) ⌝ }
     requires own_numbers { ⌜ now numbers ≡ numbersFrom (length (now groups)) 0 ⌝ }
@@ -182,10 +182,10 @@ fn run_rounds(h: usize, m: usize, parents: &[u16], names: &[u8], groups: &mut [u
     partition::own(&mut numbers[..n]);
     let mut before = [0u16; STATE_LIMIT];
     partition::own(&mut before[..n]);
-    let mut links = [0u16; 512];
-    let mut heads = [0u16; 512];
-    let mut firsts = [0u16; 1536];
-    let mut seconds = [0u16; 1536];
+    let mut links = [0u16; STATE_LIMIT];
+    let mut heads = [0u16; STATE_LIMIT];
+    let mut firsts = [0u16; PAIR_LIMIT];
+    let mut seconds = [0u16; PAIR_LIMIT];
     close_contexts(
         h,
         m,

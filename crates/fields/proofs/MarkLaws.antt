@@ -8,8 +8,8 @@ use borrow.Author.Tests.{le-leb, lt-leb, eq-eqb, ne-eqb}
 use lib.Dec.{leb}
 use lib.ListN.{getD}
 use Rattle.model.specs.Fields.{FileKind, File, mayCome, nameFault, classFault, rowFault, stateFault, fieldFault, withField}
-use Rattle.fields.specs.Offsets.{bodyAt}
-use Rattle.fields.specs.Places.{fileOf, Stepped, NameStep, ClassStep, RowStep, StateStep, FieldStep}
+use Rattle.judging.specs.Offsets.{bodyAt}
+use Rattle.fields.specs.Places.{fileOf, Stepped, StepBy, FieldStep}
 use Rattle.fields.specs.declared.Place.{Place}
 use Rattle.fields.specs.declared.Step.{Step}
 use Rattle.fields.specs.declared.Step.the-variants.{Refused}
@@ -43,22 +43,22 @@ module _ (kind : FileKind) (s : List ℕ) (p : Place) where
   by-mark r mark fault m e h = rw (m, e) h
 
   pub name-arm : (r : Step) → getD s (p .at) 0 ≡ 1 → p .stage ≤ 1
-      → NameStep s p r → FieldStep kind s p r
+      → StepBy (λ f. nameFault (f .names)) 1 s p r → FieldStep kind s p r
   unfolding fieldFault
-  name-arm r m h = by-mark r 1 (nameFault (fileOf s p) (bodyAt s (p .at))) m (rw (le-leb (p .stage) 1 h))
+  name-arm r m h = by-mark r 1 (nameFault (fileOf s p .names) (bodyAt s (p .at))) m (rw (le-leb (p .stage) 1 h))
 
   pub class-arm : (r : Step) → getD s (p .at) 0 ≡ 2 → p .stage ≡ 1
-      → ClassStep s p r → FieldStep kind s p r
+      → StepBy (λ _. classFault) 2 s p r → FieldStep kind s p r
   unfolding fieldFault
   class-arm r m h = by-mark r 2 (classFault (bodyAt s (p .at))) m (rw (eq-eqb (p .stage) 1 h))
 
   pub row-arm : (r : Step) → getD s (p .at) 0 ≡ 3 → (not kind && leb 1 (p .stage)) ≡ true
-      → RowStep s p r → FieldStep kind s p r
+      → StepBy rowFault 3 s p r → FieldStep kind s p r
   unfolding fieldFault
   row-arm r m h = by-mark r 3 (rowFault (fileOf s p) (bodyAt s (p .at))) m (rw (cond-book kind (leb 1 (p .stage)), h))
 
   pub state-arm : (r : Step) → getD s (p .at) 0 ≡ 4 → (kind && leb 2 (p .stage)) ≡ true
-      → StateStep s p r → FieldStep kind s p r
+      → StepBy stateFault 4 s p r → FieldStep kind s p r
   unfolding fieldFault
   state-arm r m h = by-mark r 4 (stateFault (fileOf s p) (bodyAt s (p .at))) m (rw (cond-table kind (leb 2 (p .stage)), h))
 

@@ -11,15 +11,15 @@ use lib.Dec.{eqb}
 use lib.ListN.{length, getD, drop, length-drop, drop-of-length-le}
 use lib.Seq.{getD-drop, drop-drop}
 use Rattle.model.specs.Fields.{FileKind, File, refused, atEnd, fieldFault, withField, runsPast, bodyOf, afterField, statedLength}
-use Rattle.model.specs.Fields.{Class, readFrom, readWith}
-use Rattle.model.specs.Lists.{lastOr}
-use Rattle.fields.specs.Offsets.{lengthAt, bodyAt, nextAt, offsetAt, fieldsAt}
-use Rattle.fields.specs.Places.{fileOf, Sound, FieldStep, Turned, Goes, Refuses, Finished, ReadAs}
+use Rattle.model.specs.Fields.{Settings, readFrom, readWith}
+use Rattle.base.specs.Lists.{lastOr}
+use Rattle.judging.specs.Offsets.{lengthAt, bodyAt, nextAt, offsetAt, fieldsAt}
+use Rattle.fields.specs.Places.{fileOf, Sound, FieldStep, Turned, Goes, RefusedAt, Finished, ReadAs}
 use Rattle.fields.specs.declared.Place.{Place}
 use Rattle.fields.specs.declared.Step.{Step}
 use Rattle.fields.specs.declared.Step.the-variants.{Go, Refused}
 use Rattle.fields.specs.declared.Fields.the-variants as answer
-use Rattle.model.specs.Limits.{cut-off, unfinished}
+use Rattle.base.specs.Limits.{cut-off, unfinished}
 
 -- the definition, over the bytes that are left: at the end, past the end, refused, and going on
 read-end : (l : ℕ) (kind : FileKind) (f : File) → readFrom (suc l) kind f [] ≡ atEnd f
@@ -70,11 +70,11 @@ module _ (s : List ℕ) (p : Place) (before-end : p .at < length s) where
       let q : 3 + lengthAt s (p .at) ≤ length s - p .at = omega arith in
       rw (length-drop (p .at) s, le-ltb (length s - p .at) 3 g, le-ltb (length s - p .at) (3 + lengthAt s (p .at)) q)
 
-  pub turn-cut : (kind : FileKind) → length s - p .at < 3 → Refuses kind s p cut-off
+  pub turn-cut : (kind : FileKind) → length s - p .at < 3 → RefusedAt kind s p cut-off
   turn-cut kind h =
       record { some = omega arith; reads = λ (l : ℕ). read-cut l kind (fileOf s p) (drop (p .at) s) some-left (past h) }
 
-  pub turn-cut-body : (kind : FileKind) → 3 ≤ length s - p .at → length s - p .at - 3 < lengthAt s (p .at) → Refuses kind s p cut-off
+  pub turn-cut-body : (kind : FileKind) → 3 ≤ length s - p .at → length s - p .at - 3 < lengthAt s (p .at) → RefusedAt kind s p cut-off
   turn-cut-body kind g h =
       record { some = omega arith; reads = λ (l : ℕ). read-cut l kind (fileOf s p) (drop (p .at) s) some-left (past-body g h) }
 
@@ -96,7 +96,7 @@ module _ (s : List ℕ) (p : Place) (before-end : p .at < length s) where
             ∙ rw (mark-left, after-left, j .file-is, j .after);
       }
 
-  refuses : (kind : FileKind) (k : ℕ) → nextAt s (p .at) ≤ length s → FieldStep kind s p (Refused k) → Refuses kind s p k
+  refuses : (kind : FileKind) (k : ℕ) → nextAt s (p .at) ≤ length s → FieldStep kind s p (Refused k) → RefusedAt kind s p k
   refuses kind k h j =
       let n : k ≡ 0 → ⊥ = λ (e : k ≡ 0). omega (arith, j .some, e) in
       record {
@@ -112,31 +112,31 @@ module _ (s : List ℕ) (p : Place) (before-end : p .at < length s) where
   turn kind (Refused k) h j = refuses kind k h j
 
 -- where reading begins
-abbrev pub begin : Class → Place
-begin class =
+abbrev pub begin : Settings → Place
+begin settings =
     record {
       at = 0;
       stage = 0;
       names = 0;
       last = 0;
       width = 0;
-      kind = class .kind;
-      first = class .first;
-      second = class .second;
+      kind = settings .default-class .kind;
+      first = settings .default-class .first;
+      second = settings .default-class .second;
       start = 0;
       items = 0;
     }
 
 -- reading the whole file comes to reading on from this place, with fuel for what is left
-pub record Reading (class : Class) (kind : FileKind) (s : List ℕ) (p : Place) : Type 0 where
+pub record Reading (settings : Settings) (kind : FileKind) (s : List ℕ) (p : Place) : Type 0 where
   pub sound : Sound s p
   pub fuel : ℕ
   pub enough : length s < fuel + p .at
-  pub reads : readFrom fuel kind (fileOf s p) (drop (p .at) s) ≡ readWith class kind s
+  pub reads : readFrom fuel kind (fileOf s p) (drop (p .at) s) ≡ readWith settings kind s
 
-begin-sound : (class : Class) (s : List ℕ) → Sound s (begin class)
+begin-sound : (settings : Settings) (s : List ℕ) → Sound s (begin settings)
 unfolding offsetAt fieldsAt lastOr
-begin-sound class s =
+begin-sound settings s =
     record {
       within = omega arith;
       few-names = omega arith;
@@ -150,21 +150,21 @@ begin-sound class s =
       some-items = λ (g : 3 ≤ 0). let z : ⊥ = omega arith in absurd z;
     }
 
-pub reading-begins : (class : Class) (kind : FileKind) (s : List ℕ) → Reading class kind s (begin class)
+pub reading-begins : (settings : Settings) (kind : FileKind) (s : List ℕ) → Reading settings kind s (begin settings)
 unfolding fieldsAt readWith
-reading-begins class kind s = record { sound = begin-sound class s; fuel = suc (length s); enough = omega arith; reads = refl }
+reading-begins settings kind s = record { sound = begin-sound settings s; fuel = suc (length s); enough = omega arith; reads = refl }
 
-module _ (class : Class) (kind : FileKind) (s : List ℕ) (p : Place) (reading : Reading class kind s p) where
+module _ (settings : Settings) (kind : FileKind) (s : List ℕ) (p : Place) (reading : Reading settings kind s p) where
   -- there is fuel for one turn at least
-  one-turn : (l : ℕ) × (length s < suc l + p .at) × (readFrom (suc l) kind (fileOf s p) (drop (p .at) s) ≡ readWith class kind s)
+  one-turn : (l : ℕ) × (length s < suc l + p .at) × (readFrom (suc l) kind (fileOf s p) (drop (p .at) s) ≡ readWith settings kind s)
   one-turn = go (reading .fuel) (reading .enough) (reading .reads)
     where
-      go : (f : ℕ) → length s < f + p .at → readFrom f kind (fileOf s p) (drop (p .at) s) ≡ readWith class kind s
-          → (l : ℕ) × (length s < suc l + p .at) × (readFrom (suc l) kind (fileOf s p) (drop (p .at) s) ≡ readWith class kind s)
+      go : (f : ℕ) → length s < f + p .at → readFrom f kind (fileOf s p) (drop (p .at) s) ≡ readWith settings kind s
+          → (l : ℕ) × (length s < suc l + p .at) × (readFrom (suc l) kind (fileOf s p) (drop (p .at) s) ≡ readWith settings kind s)
       go zero e r = let z : ⊥ = omega (arith, e, reading .sound .within) in absurd z
       go (suc l) e r = (l, e, r)
 
-  pub reading-goes : (q : Place) → Goes kind s p q → Reading class kind s q
+  pub reading-goes : (q : Place) → Goes kind s p q → Reading settings kind s q
   reading-goes q g =
       let t = one-turn in
       record {
@@ -174,12 +174,12 @@ module _ (class : Class) (kind : FileKind) (s : List ℕ) (p : Place) (reading :
         reads = sym (g .reads (t .0)) ∙ t .2;
       }
 
-  pub reading-refused : (k : ℕ) → Refuses kind s p k → ReadAs class kind s (answer.Refused k)
+  pub reading-refused : (k : ℕ) → RefusedAt kind s p k → ReadAs settings kind s (answer.Refused k)
   reading-refused k g =
       let t = one-turn in
       record { is = sym (g .reads (t .0)) ∙ t .2; kept = g .some }
 
-  at-end : length s ≤ p .at → atEnd (fileOf s p) ≡ readWith class kind s
+  at-end : length s ≤ p .at → atEnd (fileOf s p) ≡ readWith settings kind s
   at-end h =
       let t = one-turn in
       sym (read-end (t .0) kind (fileOf s p)) ∙ rw (drop-of-length-le s h) at (t .2)
@@ -187,8 +187,8 @@ module _ (class : Class) (kind : FileKind) (s : List ℕ) (p : Place) (reading :
   finished : length s ≤ p .at → p .stage ≡ 3 → Finished s p
   finished h e = record { sound = reading .sound; at-end = omega (arith, reading .sound .within); met = e }
 
-  pub reading-accepted : length s ≤ p .at → p .stage ≡ 3 → ReadAs class kind s (answer.Accepted p)
+  pub reading-accepted : length s ≤ p .at → p .stage ≡ 3 → ReadAs settings kind s (answer.Accepted p)
   reading-accepted h e = record { is = rw (eq-eqb (p .stage) 3 e) at (at-end h); kept = finished h e }
 
-  pub reading-unfinished : length s ≤ p .at → (p .stage ≡ 3 → ⊥) → ReadAs class kind s (answer.Refused unfinished)
+  pub reading-unfinished : length s ≤ p .at → (p .stage ≡ 3 → ⊥) → ReadAs settings kind s (answer.Refused unfinished)
   reading-unfinished h e = record { is = rw (ne-eqb (p .stage) 3 e) at (at-end h); kept = omega arith }

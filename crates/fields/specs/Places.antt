@@ -4,12 +4,14 @@ use mathlib.Core.Path.{_≡_}
 use mathlib.Core.List.{List, []}
 use Prim.Native.Nat.{ℕ, suc, _+_, _≤_, _<_}
 use lib.ListN.{length, getD, take, drop}
-use Rattle.model.specs.Lists.{lastOr}
-use Rattle.model.specs.Limits.{name-limit, state-limit}
-use Rattle.model.specs.Fields.{Class, class-of, File, file, FileKind, Read, refused, accepted-file, readFrom, readWith, nameFault}
-use Rattle.model.specs.Fields.{classFault, rowFault, stateFault, fieldFault, withField}
-use Rattle.fields.specs.Offsets.{bodyAt, nextAt, offsetAt, fieldsAt}
+use Rattle.base.specs.Lists.{lastOr}
+use Rattle.base.specs.Limits.{name-limit, state-limit, names-met, class-met, items-met}
+use Rattle.model.specs.Fields.{class-of, Settings, standard, table, File, file, FileKind, Read, refused, accepted-file, readFrom}
+use Rattle.model.specs.Fields.{readWith, fieldFault, withField}
+use Rattle.model.specs.Calls.{Refuses}
+use Rattle.judging.specs.Offsets.{bodyAt, nextAt, offsetAt, fieldsAt}
 use Rattle.fields.specs.declared.Place.{Place}
+use Rattle.fields.specs.declared.Settings as numbers
 use Rattle.fields.specs.declared.Step.{Step}
 use Rattle.fields.specs.declared.Fields.{Fields}
 use Rattle.fields.specs.declared.Step.the-variants as step
@@ -25,7 +27,7 @@ abbrev pub withItem : Place → ℕ → Place
 withItem p next =
     record {
       at = next;
-      stage = 3;
+      stage = items-met;
       names = p .names;
       last = p .last;
       width = p .width;
@@ -43,12 +45,12 @@ pub record Sound (s : List ℕ) (p : Place) : Type 0 where
   pub few-names : p .names ≤ name-limit
   pub few-items : p .items ≤ state-limit
   pub names-within : offsetAt s 0 (p .names) ≤ p .at
-  pub names-end : p .stage ≤ 1 → offsetAt s 0 (p .names) ≡ p .at
+  pub names-end : p .stage ≤ names-met → offsetAt s 0 (p .names) ≡ p .at
   pub last-end : p .last + p .width ≡ offsetAt s 0 (p .names)
   pub last-is : lastOr [] (fieldsAt s 0 (p .names)) ≡ take (p .width) (drop (p .last) s)
   pub items-end : offsetAt s (p .start) (p .items) ≡ p .at
-  pub no-items : p .stage ≤ 2 → p .items ≡ 0
-  pub some-items : 3 ≤ p .stage → 1 ≤ p .items
+  pub no-items : p .stage ≤ class-met → p .items ≡ 0
+  pub some-items : items-met ≤ p .stage → 1 ≤ p .items
 
 -- a sound place whose next field does not run past the end
 pub record Whole (s : List ℕ) (p : Place) : Type 0 where
@@ -62,36 +64,20 @@ pub record Grown (s : List ℕ) (p : Place) (fault : ℕ) (grown : File) (q : Pl
   pub file-is : fileOf s q ≡ grown
   pub after : q .at ≡ nextAt s (p .at)
 
-pub record Faulty (fault number : ℕ) : Type 0 where
-  pub is : fault ≡ number
-  pub some : 0 < number
-
 abbrev pub Stepped : List ℕ → Place → ℕ → File → Step → Type 0
 Stepped s p fault grown (step.Go q) = Grown s p fault grown q
-Stepped s p fault grown (step.Refused k) = Faulty fault k
+Stepped s p fault grown (step.Refused k) = Refuses fault k
 
--- the field at a place, judged as a name, a class, a row or a state
-abbrev pub NameStep : List ℕ → Place → Step → Type 0
-NameStep s p r =
-    Stepped s p (nameFault (fileOf s p) (bodyAt s (p .at))) (withField (fileOf s p) 1 (bodyAt s (p .at))) r
+-- the field at a place, judged by these refusals as one of this mark
+abbrev pub StepBy : (File → List ℕ → ℕ) → ℕ → List ℕ → Place → Step → Type 0
+StepBy judge mark s p r =
+    Stepped s p (judge (fileOf s p) (bodyAt s (p .at))) (withField (fileOf s p) mark (bodyAt s (p .at))) r
 
-abbrev pub ClassStep : List ℕ → Place → Step → Type 0
-ClassStep s p r = Stepped s p (classFault (bodyAt s (p .at))) (withField (fileOf s p) 2 (bodyAt s (p .at))) r
-
-abbrev pub RowStep : List ℕ → Place → Step → Type 0
-RowStep s p r =
-    Stepped s p (rowFault (fileOf s p) (bodyAt s (p .at))) (withField (fileOf s p) 3 (bodyAt s (p .at))) r
-
-abbrev pub StateStep : List ℕ → Place → Step → Type 0
-StateStep s p r =
-    Stepped s p (stateFault (fileOf s p) (bodyAt s (p .at))) (withField (fileOf s p) 4 (bodyAt s (p .at))) r
-
--- the field at a place, judged by its mark
+-- the same, judged by the mark that it has
 abbrev pub FieldStep : FileKind → List ℕ → Place → Step → Type 0
 FieldStep kind s p r =
     let mark = getD s (p .at) 0 in
-    let body = bodyAt s (p .at) in
-    Stepped s p (fieldFault kind (fileOf s p) mark body) (withField (fileOf s p) mark body) r
+    StepBy (λ (f : File). fieldFault kind f mark) mark s p r
 
 -- a field read: reading from the new place is what reading from the old one comes to; or it comes to this refusal
 pub record Goes (kind : FileKind) (s : List ℕ) (p q : Place) : Type 0 where
@@ -99,15 +85,15 @@ pub record Goes (kind : FileKind) (s : List ℕ) (p q : Place) : Type 0 where
   pub further : p .at < q .at
   pub reads : (l : ℕ) → readFrom (suc l) kind (fileOf s p) (drop (p .at) s) ≡ readFrom l kind (fileOf s q) (drop (q .at) s)
 
-pub record Refuses (kind : FileKind) (s : List ℕ) (p : Place) (number : ℕ) : Type 0 where
+pub record RefusedAt (kind : FileKind) (s : List ℕ) (p : Place) (number : ℕ) : Type 0 where
   pub some : 0 < number
   pub reads : (l : ℕ) → readFrom (suc l) kind (fileOf s p) (drop (p .at) s) ≡ refused number
 
 abbrev pub Turned : FileKind → List ℕ → Place → Step → Type 0
 Turned kind s p (step.Go q) = Goes kind s p q
-Turned kind s p (step.Refused k) = Refuses kind s p k
+Turned kind s p (step.Refused k) = RefusedAt kind s p k
 
--- what an answer stands for: document 01's number, and the file
+-- what an answer stands for: the refusal's number, and the file
 abbrev pub answerOf : List ℕ → Fields → Read
 answerOf s (fields.Accepted p) = accepted-file (fileOf s p)
 answerOf s (fields.Refused k) = refused k
@@ -116,15 +102,22 @@ answerOf s (fields.Refused k) = refused k
 pub record Finished (s : List ℕ) (p : Place) : Type 0 where
   pub sound : Sound s p
   pub at-end : p .at ≡ length s
-  pub met : p .stage ≡ 3
+  pub met : p .stage ≡ items-met
 
 -- the place of an accepted file is finished, and a refusal is not 0
 abbrev pub Kept : List ℕ → Fields → Type 0
 Kept s (fields.Accepted p) = Finished s p
 Kept s (fields.Refused k) = 0 < k
 
--- a file read: the answer is what the definition gives, for a book that names no class with this one; at default-class the
--- definition is readFields
-pub record ReadAs (class : Class) (kind : FileKind) (s : List ℕ) (answer : Fields) : Type 0 where
-  pub is : answerOf s answer ≡ readWith class kind s
+-- the settings that the code's numbers stand for
+abbrev pub settingsOf : numbers.Settings → Settings
+settingsOf n = record { default-class = class-of (n .kind) (n .first) (n .second) }
+
+-- a file read: the answer is what the definition gives with these settings
+pub record ReadAs (settings : Settings) (kind : FileKind) (s : List ℕ) (answer : Fields) : Type 0 where
+  pub is : answerOf s answer ≡ readWith settings kind s
   pub kept : Kept s answer
+
+-- a table read, which names its class itself, whatever the settings
+abbrev pub TableReadAs : List ℕ → Fields → Type 0
+TableReadAs s answer = ReadAs standard table s answer

@@ -1,32 +1,30 @@
 // The reader of books and tables: fields in file order, each judged by the refusals that concern it, nothing copied. What is accepted
 // stays where it is, and a Place says where: specs/Places has the file that a place stands for.
-pub mod limits;
-pub mod offsets;
-
+use base::limits::CLASS_MARK;
+use base::limits::CLASS_MET;
+use base::limits::CONTEXT_KIND;
+use base::limits::CUT_OFF;
+use base::limits::ITEMS_MET;
+use base::limits::MISPLACED;
+use base::limits::NAME_DUE;
+use base::limits::NAME_MARK;
+use base::limits::NAMES_MET;
+use base::limits::ROW_MARK;
+use base::limits::STATE_MARK;
+use base::limits::UNFINISHED;
 use judging::classes::class_fault;
 use judging::names::name_fault;
+use judging::offsets::body;
+use judging::offsets::body_len;
+use judging::offsets::next_field;
 use judging::rows::row_fault;
 use judging::states::state_fault;
-use limits::CLASS_MARK;
-use limits::CLASS_MET;
-use limits::CUT_OFF;
-use limits::ITEMS_MET;
-use limits::MISPLACED;
-use limits::NAME_DUE;
-use limits::NAME_MARK;
-use limits::NAMES_MET;
-use limits::ROW_MARK;
-use limits::STATE_MARK;
-use limits::UNFINISHED;
-use offsets::body;
-use offsets::body_len;
-use offsets::next_field;
 ghost use mathlib.Core.Path.{_≡_};
 ghost use Prim.Native.Nat.{_≤_, _<_};
 ghost use lib.ListN.{length};
-ghost use Rattle.model.specs.Limits.{state-limit};
-ghost use Rattle.model.specs.Fields.{class-of, default-class};
-ghost use Rattle.fields.specs.Places.{withItem, Sound, Whole, NameStep, ClassStep, RowStep, StateStep, FieldStep, Turned, ReadAs};
+ghost use Rattle.base.specs.Limits.{state-limit, names-met, class-met, name-mark, class-mark, row-mark, state-mark};
+ghost use Rattle.model.specs.Fields.{nameFault, classFault, rowFault, stateFault};
+ghost use Rattle.fields.specs.Places.{withItem, Sound, Whole, StepBy, FieldStep, Turned, settingsOf, ReadAs, TableReadAs};
 
 // How far reading has come, and where what was read stands.
 pub struct Place {
@@ -48,6 +46,20 @@ pub struct Place {
     pub items: usize,
 }
 
+// What books are read with: the class of a book that names none, by its kind and its two settings.
+pub struct Settings {
+    pub kind: u8,
+    pub first: u8,
+    pub second: u8,
+}
+
+// The settings of docs/SCOPE.md, section 3.5: context, k = 2, h = 1.
+pub const STANDARD: Settings = Settings {
+    kind: CONTEXT_KIND,
+    first: 2,
+    second: 1,
+};
+
 // One field's answer: the place after it, or its refusal, which is not 0.
 pub enum Step {
     Go(Place),
@@ -63,8 +75,8 @@ pub enum Fields {
 // A name field, where a name may come: the place after it, or what refuses it.
 fn name_field(s: &[u8], p: Place) -> Step
     requires { ⌜ Whole (now s) p ⌝ }
-    requires { ⌜ p .stage ≤ 1 ⌝ }
-    ensures { λ r. ⌜ NameStep (now (s .entry)) p r ⌝ }
+    requires { ⌜ p .stage ≤ names-met ⌝ }
+    ensures { λ r. ⌜ StepBy (λ f. nameFault (f .names)) name-mark (now (s .entry)) p r ⌝ }
 {
     let at = p.at;
     let last = p.last;
@@ -92,8 +104,8 @@ fn name_field(s: &[u8], p: Place) -> Step
 // A class field, where the class may come: the place after it, or what refuses it.
 fn class_field(s: &[u8], p: Place) -> Step
     requires { ⌜ Whole (now s) p ⌝ }
-    requires { ⌜ p .stage ≤ 2 ⌝ }
-    ensures { λ r. ⌜ ClassStep (now (s .entry)) p r ⌝ }
+    requires { ⌜ p .stage ≤ class-met ⌝ }
+    ensures { λ r. ⌜ StepBy (λ _. classFault) class-mark (now (s .entry)) p r ⌝ }
 {
     let at = p.at;
     let class = body(s, at);
@@ -135,32 +147,36 @@ fn with_item(p: Place, next: usize) -> Place
     }
 }
 
-// A row field, where a row may come: the place after it, or what refuses it.
-fn row_field(s: &[u8], p: Place) -> Step
+// An item, that is a row or a state, as judged: the place after it, or the fault, which is what refuses it (0 for nothing).
+fn item_field(s: &[u8], p: Place, fault: u8) -> Step
     requires { ⌜ Whole (now s) p ⌝ }
-    ensures { λ r. ⌜ RowStep (now (s .entry)) p r ⌝ }
+    requires { ⌜ (fault ≡ 0 → p .items < state-limit) ⌝ }
+    ensures { λ r. ⌜ StepBy (λ _ _. fault) row-mark (now (s .entry)) p r ⌝ }
 {
-    let at = p.at;
-    let fault = row_fault(p.names, p.items, body(s, at));
     if fault != 0 {
         return Step::Refused(fault);
     }
+    let at = p.at;
     let next = next_field(s, at);
     Step::Go(with_item(p, next))
+}
+
+// A row field, where a row may come: the place after it, or what refuses it.
+fn row_field(s: &[u8], p: Place) -> Step
+    requires { ⌜ Whole (now s) p ⌝ }
+    ensures { λ r. ⌜ StepBy rowFault row-mark (now (s .entry)) p r ⌝ }
+{
+    let at = p.at;
+    item_field(s, p, row_fault(p.names, p.items, body(s, at)))
 }
 
 // A state field, where a state may come: the place after it, or what refuses it.
 fn state_field(s: &[u8], p: Place) -> Step
     requires { ⌜ Whole (now s) p ⌝ }
-    ensures { λ r. ⌜ StateStep (now (s .entry)) p r ⌝ }
+    ensures { λ r. ⌜ StepBy stateFault state-mark (now (s .entry)) p r ⌝ }
 {
     let at = p.at;
-    let fault = state_fault(p.names, p.items, body(s, at));
-    if fault != 0 {
-        return Step::Refused(fault);
-    }
-    let next = next_field(s, at);
-    Step::Go(with_item(p, next))
+    item_field(s, p, state_fault(p.names, p.items, body(s, at)))
 }
 
 // A field that does not run past the end: its mark decides how it is read, and a mark not allowed at this place is refused.
@@ -216,9 +232,10 @@ fn field(s: &[u8], is_table: bool, p: Place) -> Step
     whole_field(s, is_table, p)
 }
 
-// A whole book, or a whole table, where a book that names no class has the one given: the answer is that of the definition readWith.
-pub fn read_with(s: &[u8], is_table: bool, kind: u8, first: u8, second: u8) -> Fields
-    ensures { λ r. ⌜ ReadAs (class-of kind first second) «is_table» (now (s .entry)) r ⌝ }
+// A whole book, or a whole table: where its parts stand, or its first refusal. Nothing is required of the input, and nothing is
+// copied; the answer is that of the definition readWith, and every offset of an accepted file lies within the input.
+pub fn read_with(s: &[u8], is_table: bool, settings: Settings) -> Fields
+    ensures { λ r. ⌜ ReadAs (settingsOf settings) «is_table» (now (s .entry)) r ⌝ }
 {
     let mut p = Place {
         at: 0,
@@ -226,9 +243,9 @@ pub fn read_with(s: &[u8], is_table: bool, kind: u8, first: u8, second: u8) -> F
         names: 0,
         last: 0,
         width: 0,
-        kind: kind,
-        first: first,
-        second: second,
+        kind: settings.kind,
+        first: settings.first,
+        second: settings.second,
         start: 0,
         items: 0,
     };
@@ -250,10 +267,9 @@ pub fn read_with(s: &[u8], is_table: bool, kind: u8, first: u8, second: u8) -> F
     }
 }
 
-// A whole book, or a whole table: where its parts stand, or its first refusal. Nothing is required of the input, and nothing is
-// copied; the answer is that of the definition readFields, and every offset of an accepted file lies within the input.
-pub fn read_fields(s: &[u8], is_table: bool) -> Fields
-    ensures { λ r. ⌜ ReadAs default-class «is_table» (now (s .entry)) r ⌝ }
+// A whole table, which names its class itself, whatever the settings.
+pub fn read_table(s: &[u8]) -> Fields
+    ensures { λ r. ⌜ TableReadAs (now (s .entry)) r ⌝ }
 {
-    read_with(s, is_table, 0, 2, 1)
+    read_with(s, true, STANDARD)
 }

@@ -7,8 +7,8 @@ use mathlib.Core.List.{List}
 use Prim.Native.Nat.{ℕ, _<_}
 use native.Mathlib.Omega.{arith}
 use lib.ListN.{getD}
-use Rattle.model.specs.Limits.{name-limit}
-use Rattle.model.specs.Lists.{numbersFrom}
+use Rattle.base.specs.Limits.{name-limit}
+use Rattle.base.specs.Lists.{numbersFrom}
 use Rattle.indexed.specs.Trees.{Arrays}
 use Rattle.indexed.specs.Partitions.{Refines, KeyClosed, ForkClosed, EndsClosed, BackClosed}
 use Rattle.indexed.specs.Passes.{SuffixAlike, ByEnds, NamesAbove, SeenSets, KeysWhere, FJoined}

@@ -8,7 +8,7 @@ use lib.ListN.{length, getD, set}
 use Rattle.indexed.specs.Trees.{Arrays}
 use Rattle.indexed.specs.Passes.{KeysWhere}
 use Rattle.indexed.proofs.Suffixes.{parent-below}
-use Rattle.indexed.proofs.Fills.{Filled, fill-more}
+use Rattle.base.proofs.Fills.{Filled, fill-more}
 use Rattle.functions.specs.Parts.{KeyAt}
 
 -- the root has no key

@@ -11,11 +11,12 @@ use lib.Count.{ones, ones-step, trailingZeros}
 use lib.ListN.{getD}
 use lib.Pow.{pow-pos}
 use borrow.Author.Tests.{eq-eqb, ne-eqb}
-use Rattle.model.specs.Limits.{name-limit}
+use Rattle.base.specs.Limits.{name-limit}
 use Rattle.model.proofs.NameSets.{trailing-shifted}
-use Rattle.model.proofs.Tests.{eq-dec}
+use Rattle.base.proofs.Tests.{eq-dec}
 use Rattle.indexed.specs.Passes.{SeenSets}
-use Rattle.indexed.proofs.Bits.{bit, bit-zero, bit-of-set, bit-of-both, bits-told, set-again}
+use Rattle.base.specs.Bits.{bit}
+use Rattle.base.proofs.Bits.{bit-zero, bit-of-set, bit-of-both, bits-told, set-again}
 use Rattle.functions.specs.Parts.{keyWhere, KeyAt}
 
 -- 0 has no bit, a power of 2 has one

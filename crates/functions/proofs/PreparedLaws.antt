@@ -6,7 +6,7 @@ use mathlib.Core.List.{List}
 use Prim.Native.Nat.{ℕ, _<_}
 use native.Mathlib.Omega.{arith}
 use lib.ListN.{length, getD}
-use Rattle.model.specs.Limits.{name-limit}
+use Rattle.base.specs.Limits.{name-limit}
 use Rattle.suffixes.proofs.AboveLaws.{codes-alike}
 use Rattle.worklist.specs.Settling.{NoKeys}
 use Rattle.functions.specs.Parts.{SetsAndKeys, CodesAndKeys, ValuesAndKeys}

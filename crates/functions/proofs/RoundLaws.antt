@@ -2,13 +2,14 @@
 -- already where the ends join nothing. Assumes nothing.
 use mathlib.Core.Path.{_≡_, sym, ap, subst, subst₂}
 use mathlib.Core.List.{List}
-use Prim.Native.Nat.{ℕ, _<_}
+use Prim.Native.Nat.{ℕ}
 use lib.ListN.{length, getD}
-use Rattle.model.specs.Lists.{numbersFrom}
+use Rattle.base.specs.Lists.{numbersFrom}
 use Rattle.indexed.specs.Trees.{Arrays}
 use Rattle.indexed.specs.Partitions.{Labelled, Alone, KeyClosed}
 use Rattle.indexed.specs.Passes.{ByEnds}
-use Rattle.indexed.proofs.Keys.{number-at, forks-keys}
+use Rattle.base.proofs.Places.{number-at}
+use Rattle.indexed.proofs.Keys.{forks-keys}
 use Rattle.indexed.proofs.Suffixes.{parent-below}
 use Rattle.indexed.proofs.Alone.{alone-same, alone-forks}
 use Rattle.worklist.specs.Settling.{RoundReady, RoundClosed, JoinedUntil}

@@ -1,25 +1,15 @@
--- Laws of seen sets: one name more, and sets filled in from the root on. Assumes nothing.
+-- Laws of seen sets, filled in from the root on. Assumes nothing.
 use mathlib.Core.Path.{_≡_, refl, sym, ap, _∙_, subst}
 use mathlib.Core.List.{List}
-use Prim.Native.Nat.{ℕ, _+_, _*_, _%_, _^_, _<_, _≤_}
-use native.Mathlib.Nat.{mod-eq-of-lt}
+use Prim.Native.Nat.{ℕ, _+_, _^_, _<_, _≤_}
 use native.Mathlib.Omega.{arith}
 use lib.Bits.{bitOr}
-use lib.Pow.{pow-lt}
 use lib.ListN.{length, getD, set, length-set}
 use lib.Seq.{getD-set-same, getD-set-other}
 use borrow.Author.Count.{below-more}
-use Rattle.model.specs.Limits.{name-limit}
 use Rattle.indexed.specs.Trees.{Arrays}
 use Rattle.indexed.specs.Passes.{SeenSets}
 use Rattle.functions.specs.Parts.{SeenAt}
-
--- one bit more: the shift loses nothing
-pub with-bit : (seen name : ℕ) → name < name-limit → bitOr seen ((1 * 2 ^ name) % 2 ^ 64) ≡ bitOr seen (2 ^ name)
-with-bit seen name small =
-    let single : 1 * 2 ^ name ≡ 2 ^ name = omega arith in
-    let fits : 2 ^ name < 2 ^ 64 = pow-lt small in
-    ap (bitOr seen) (ap (λ (x : ℕ). x % 2 ^ 64) single ∙ mod-eq-of-lt fits)
 
 -- the set of one state from that of the state before it
 pub seen-arc :

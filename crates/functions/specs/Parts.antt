@@ -6,7 +6,7 @@ use Prim.Native.Nat.{ℕ, _^_, _<_}
 use lib.Bits.{bitOr}
 use lib.Dec.{eqb}
 use lib.ListN.{getD}
-use Rattle.model.specs.Limits.{name-limit}
+use Rattle.base.specs.Limits.{name-limit}
 use Rattle.indexed.specs.Passes.{NamesAbove, SeenSets, KeysWhere}
 use Rattle.suffixes.specs.Codes.{Coded}
 

@@ -1,19 +1,17 @@
 // Keys of arcs for passes against them: names by whether the seen set grows.
-use cells::numbers;
+use base::limits::NAME_LIMIT;
+use base::numbers;
 ghost use mathlib.Core.Path.{_≡_};
 ghost use mathlib.Core.Bool.{true, false};
 ghost use Prim.Native.Nat.{_^_, _<_};
 ghost use lib.Bits.{bitOr};
 ghost use lib.ListN.{length};
-ghost use Rattle.model.specs.Limits.{name-limit};
+ghost use Rattle.base.specs.Limits.{name-limit};
 ghost use Rattle.indexed.specs.Trees.{Arrays};
 ghost use Rattle.indexed.specs.Passes.{SeenSets, KeysWhere};
 ghost use Rattle.functions.specs.Parts.{keyWhere, KeyAt};
 
-// A key of this or more is none.
-const NAME_LIMIT: u8 = 64;
-
-// The keys of one arc among the arcs that enlarge the seen set, and among the others; 64, no key, at one of the two.
+// The keys of one arc among the arcs that enlarge the seen set, and among the others; NAME_LIMIT, no key, at one of the two.
 pub struct Keys {
     pub enlarging: u8,
     pub others: u8,
@@ -21,17 +19,20 @@ pub struct Keys {
 
 // The keys of an arc by its name and the seen sets before and after it. It enlarges the set where the set after it has more names
 // than the set before it: its key is then the lowest name added, among the enlarging ones; else it is the name, among the others.
+// The names of equal sets are not counted.
 fn keys_of(before: u64, after: u64, name: u8) -> Keys
     requires name_below { ⌜ name < name-limit ⌝ }
     requires with_name { ⌜ after ≡ bitOr before (2 ^ name) ⌝ }
     ensures enlarging { λ r. ⌜ r .enlarging ≡ keyWhere true before after name ⌝ }
     ensures others { λ r. ⌜ r .others ≡ keyWhere false before after name ⌝ }
 {
-    if u64::count_ones(before) < u64::count_ones(after) {
-        return Keys {
-            enlarging: u64::trailing_zeros(after - before) as u8,
-            others: NAME_LIMIT,
-        };
+    if before != after {
+        if u64::count_ones(before) < u64::count_ones(after) {
+            return Keys {
+                enlarging: u64::trailing_zeros(after - before) as u8,
+                others: NAME_LIMIT,
+            };
+        }
     }
     Keys {
         enlarging: NAME_LIMIT,

@@ -4,16 +4,15 @@ pub mod keys;
 pub mod rounds;
 pub mod seen;
 
+use base::limits::NAME_LIMIT;
+use base::limits::STATE_LIMIT;
 ghost use mathlib.Core.Path.{_≡_};
 ghost use Prim.Native.Nat.{ℕ, _<_, _≤_};
 ghost use lib.ListN.{length, getD};
-ghost use Rattle.model.specs.Limits.{name-limit, setting-limit};
+ghost use Rattle.base.specs.Limits.{name-limit, setting-limit};
 ghost use Rattle.indexed.specs.Trees.{Arrays};
 ghost use Rattle.functions.specs.Parts.{ValuesAndKeys};
 ghost use Rattle.functions.specs.Results.{JoinReady, JoinedByF};
-
-// No partition has more states.
-const STATE_LIMIT: usize = 512;
 
 // The values of f and the keys against the arcs: sets of names seen, or codes of the last j names, which have one set of keys.
 fn prepare(
@@ -99,7 +98,7 @@ pub fn join_by_function(
     let n = groups.len();
     let mut values = [0u64; STATE_LIMIT];
     let mut keys = [0u8; STATE_LIMIT];
-    let mut more = [64u8; STATE_LIMIT];
+    let mut more = [NAME_LIMIT; STATE_LIMIT];
     let mut numbers = [0u16; STATE_LIMIT];
     join_in(
         seen,

@@ -1,21 +1,11 @@
 // The set of names seen on the way to each state, as 64 bits.
-use cells::numbers;
-ghost use mathlib.Core.Path.{_≡_};
-ghost use Prim.Native.Nat.{_^_, _<_};
-ghost use lib.Bits.{bitOr};
+use base::numbers;
+use base::sets::with_name;
+ghost use Prim.Native.Nat.{_<_};
 ghost use lib.ListN.{length};
-ghost use Rattle.model.specs.Limits.{name-limit};
 ghost use Rattle.indexed.specs.Trees.{Arrays};
 ghost use Rattle.indexed.specs.Passes.{SeenSets};
 ghost use Rattle.functions.specs.Parts.{SeenAt};
-
-// The set with one name more.
-fn with_name(set: u64, name: u8) -> u64
-    requires { ⌜ name < name-limit ⌝ }
-    ensures { λ r. ⌜ r ≡ bitOr set (2 ^ name) ⌝ }
-{
-    set | (1u64 << name)
-}
 
 // The set of state v, from its parent's; none at the root.
 fn seen_at(parents: &[u16], names: &[u8], seen: &[u64], v: usize) -> u64

@@ -6,6 +6,7 @@ use mathlib.Core.List.{List}
 use Prim.Native.Nat.{ℕ, _-_}
 use native.Mathlib.Omega.{arith}
 use lib.ListN.{length}
+use Rattle.model.specs.Fields.{Settings, Allowed}
 use Rattle.model.specs.Tables.{State, admits}
 use Rattle.model.specs.Classes.{Word, InClass}
 use Rattle.model.specs.Quotients.{bookStates, bookTable}
@@ -13,27 +14,30 @@ use Rattle.model.specs.Calls.{sizesFault, bookOf, bookFault, buildFault, joinsO
 use Rattle.model.specs.Claims.{Accepted, SameBook}
 use Rattle.model.proofs.FieldLaws.{first-of}
 use Rattle.model.proofs.Demands.{tree-size-same, demands}
-use Rattle.plans.specs.declared.Built.{Built}
-use Rattle.plans.specs.Says.{building}
-use Rattle.plans.proofs.BuildLaws.{Front, built-front}
-use Rattle.handed_over.specs.Handed.{HandedOver, AcceptedBuild, written, SameResults, BuildHandedOver}
+use Rattle.results.specs.declared.Built.{Built}
+use Rattle.results.specs.Says.{building}
+use Rattle.book_calls.proofs.BuildLaws.{Front, built-front}
+use Rattle.handed_over.specs.Handed.{HandedOver, AcceptedBuild, bookIn, written, SameResults, BuildHandedOver}
 
 -- ---- a book's table
 
 -- it is handed over with demand 3
-table-handed-over : (book : List ℕ) → Accepted book → HandedOver book (bookTable (bookOf book))
-table-handed-over book ok =
-    let third = demands .third in
+table-handed-over :
+    (settings : Settings) → Allowed settings → (book : List ℕ) → Accepted settings book →
+    HandedOver (bookOf settings book) (bookTable (bookOf settings book))
+table-handed-over settings allowed book ok =
+    let third = demands .third settings allowed in
     let joining = third .some-joining book ok in
-    let same : bookStates (bookOf book) ≡ tableStates (bookTable (bookOf book)) = sym (demands .reads-back .same-states book ok) in
+    let f = bookOf settings book in
+    let same : bookStates f ≡ tableStates (bookTable f) = sym (demands .reads-back settings allowed .same-states book ok) in
     record {
-      any-order = λ other steps other-ok like full. third .any-order book other steps ok other-ok like full;
+      any-order = λ others other steps other-ok like full. third .any-order others book other steps ok other-ok like full;
       book-itself = third .book-itself book;
       some-joining = joining;
-      its-table = third .any-order book book (joining .steps) ok ok (third .book-itself book) (joining .full-joining);
+      its-table = third .any-order settings book book (joining .steps) ok ok (third .book-itself book) (joining .full-joining);
       rows-admitted = λ r m. ap (λ (ss : List State). admits ss r) (sym same) ∙ third .rows-admitted book r ok m;
       in-class =
-          subst (λ (ss : List State). InClass (bookOf book .class-is) (λ (r : Word). admits ss r ≡ true)) same
+          subst (λ (ss : List State). InClass (f .class-is) (λ (r : Word). admits ss r ≡ true)) same
           (third .in-class book ok);
       smallest = λ l l-in-class holds r e.
           third .smallest book l ok l-in-class holds r (ap (λ (ss : List State). admits ss r) same ∙ e);
@@ -42,49 +46,50 @@ table-handed-over book ok =
 -- ---- one build
 
 -- what it left in the output
-front : (b : AcceptedBuild) → Front (b .book) (b .work) (b .out) (b .out′) (b .result)
+front : (b : AcceptedBuild) → Front (b .settings) (b .book) (b .work) (b .out) (b .out′) (b .result)
 front b =
-    built-front (b .book) (b .work) (b .out) (b .out′) (b .result) (b .says .gives) (b .not-refused)
+    built-front (b .settings) (b .book) (b .work) (b .out) (b .out′) (b .result) (b .says .gives) (b .not-refused)
 
 -- its book is accepted
-book-accepted : (b : AcceptedBuild) → Accepted (b .book)
+book-accepted : (b : AcceptedBuild) → Accepted (b .settings) (b .book)
 unfolding buildFault
-book-accepted b = first-of (sizesFault (b .book) (b .work)) (bookFault (b .book)) (front b .not-refused) .1
+book-accepted b = first-of (sizesFault (b .book) (b .work)) (bookFault (b .settings) (b .book)) (front b .not-refused) .1
 
 -- its numbers
-length-is : (b : AcceptedBuild) → b .result .length ≡ length (bookTable (bookOf (b .book)))
+length-is : (b : AcceptedBuild) → b .result .length ≡ length (bookTable (bookIn b))
 unfolding building
 length-is b = ap (λ (r : Built). r .length) (front b .answer-is)
 
-states-are : (b : AcceptedBuild) → b .result .states ≡ length (bookStates (bookOf (b .book)))
+states-are : (b : AcceptedBuild) → b .result .states ≡ length (bookStates (bookIn b))
 unfolding building
 states-are b = ap (λ (r : Built). r .states) (front b .answer-is)
 
-joins-are : (b : AcceptedBuild) → b .result .joins ≡ joinsOf (bookOf (b .book))
+joins-are : (b : AcceptedBuild) → b .result .joins ≡ joinsOf (bookIn b)
 unfolding building
 joins-are b = ap (λ (r : Built). r .joins) (front b .answer-is)
 
-handed-over : (b : AcceptedBuild) → HandedOver (b .book) (written b)
+handed-over : (b : AcceptedBuild) → HandedOver (bookIn b) (written b)
 handed-over b =
-    subst (λ (bytes : List ℕ). HandedOver (b .book) bytes) (sym (front b .at-front .bytes-are))
-    (table-handed-over (b .book) (book-accepted b))
+    subst (λ (bytes : List ℕ). HandedOver (bookIn b) bytes) (sym (front b .at-front .bytes-are))
+    (table-handed-over (b .settings) (b .allowed) (b .book) (book-accepted b))
 
 -- ---- two builds
 
-module _ (b c : AcceptedBuild) (like : SameBook (bookOf (b .book)) (bookOf (c .book))) where
-  tables-same : bookTable (bookOf (b .book)) ≡ bookTable (bookOf (c .book))
-  tables-same = demands .third .same-table (b .book) (c .book) (book-accepted b) (book-accepted c) like
+module _ (b c : AcceptedBuild) (like : SameBook (bookIn b) (bookIn c)) where
+  tables-same : bookTable (bookIn b) ≡ bookTable (bookIn c)
+  tables-same =
+      demands .third (b .settings) (b .allowed) .same-table (c .settings) (b .book) (c .book) (book-accepted b) (book-accepted c) like
 
-  book-states-same : bookStates (bookOf (b .book)) ≡ bookStates (bookOf (c .book))
+  book-states-same : bookStates (bookIn b) ≡ bookStates (bookIn c)
   book-states-same =
-      sym (demands .reads-back .same-states (b .book) (book-accepted b))
+      sym (demands .reads-back (b .settings) (b .allowed) .same-states (b .book) (book-accepted b))
       ∙ ap tableStates tables-same
-      ∙ demands .reads-back .same-states (c .book) (book-accepted c)
+      ∙ demands .reads-back (c .settings) (c .allowed) .same-states (c .book) (book-accepted c)
 
-  book-joins-same : joinsOf (bookOf (b .book)) ≡ joinsOf (bookOf (c .book))
+  book-joins-same : joinsOf (bookIn b) ≡ joinsOf (bookIn c)
   unfolding joinsOf
   book-joins-same =
-      ap₂ (λ (m n : ℕ). m - n) (tree-size-same (bookOf (b .book)) (bookOf (c .book)) like) (ap length book-states-same)
+      ap₂ (λ (m n : ℕ). m - n) (tree-size-same (bookIn b) (bookIn c) like) (ap length book-states-same)
 
   same-results : SameResults b c
   same-results =

@@ -8,12 +8,11 @@ use Prim.Native.Nat.{ℕ, _+_, _-_, _≤_}
 use native.Mathlib.Omega.{arith}
 use lib.Dec.{eqb}
 use lib.ListN.{length, length-append}
-use lib.Seq.{drop-append-add}
 use Rattle.model.specs.Fields.{Class, class-of}
 use Rattle.model.specs.Classes.{Word, lastNames, fOf}
 use Rattle.model.specs.Joinings.{treeOf, joinedGroups}
 use Rattle.model.proofs.Notions.{Ways, OneContext, Closed, Inside, _▸_}
-use Rattle.model.proofs.Functions.{f-snoc}
+use Rattle.model.proofs.Functions.{f-snoc, last-append}
 use Rattle.model.proofs.Joined.{joinedGroups-joined}
 use Rattle.indexed.proofs.Words.{SameLast, length-snoc}
 
@@ -30,14 +29,6 @@ EndsIn h p w = (h ≤ length w) × (lastNames h w ≡ lastNames h p)
 last-snoc-same : (h : ℕ) (u w : Word) (a : ℕ) → lastNames h u ≡ lastNames h w → lastNames h (u ▸ a) ≡ lastNames h (w ▸ a)
 unfolding fOf
 last-snoc-same h u w a e = f-snoc (class-of 2 h 0) u w a e
-
--- what stands before the last h names does not matter
-last-append : (h : ℕ) (s p : Word) → h ≤ length p → lastNames h (s ++ p) ≡ lastNames h p
-unfolding lastNames
-last-append h s p low =
-    let size : length (s ++ p) ≡ length s + length p = length-append s p in
-    let from : length (s ++ p) - h ≡ length s + (length p - h) = omega arith in
-    rw from (drop-append-add s p (length p - h))
 
 -- ---- the relation
 

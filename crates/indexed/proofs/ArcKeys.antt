@@ -8,9 +8,10 @@ use lib.Bits.{bitOr}
 use lib.Dec.{eqb}
 use lib.ListN.{getD}
 use borrow.Author.Tests.{eqb-true, eqb-false}
-use Rattle.model.specs.Limits.{name-limit}
+use Rattle.base.specs.Limits.{name-limit}
 use Rattle.indexed.specs.Passes.{SeenSets, KeysWhere}
-use Rattle.indexed.proofs.Bits.{bit, set-again, set-cancel}
+use Rattle.base.specs.Bits.{bit}
+use Rattle.base.proofs.Bits.{set-again, set-cancel}
 
 -- equal sets and one name lead to equal sets
 pub seen-forward :

@@ -63,7 +63,7 @@ module _ (c : Class) (rows : List Word) (parents names groups : List ℕ) (tree 
       suffix-words rows parents names tree (c .second) v w hv hw .1
       (subst₂ (λ (z z′ : Word). SameLast (c .second) z z′) (sym e) (sym f) (in-x .0, in-y .0, in-x .1 ∙ sym (in-y .1)))
 
-  -- the ends of two ways of one context are in one group: so are the states after the first h names, and forks lead on
+  -- the ends of two ways of one context are in one group: so are the states after the first h names, and forks carry that further
   ker-context :
       ((u w : Word) → Ker (treeOf rows) groups u w → Alike (c .second) u w) →
       ((m : ℕ) → c .second + m ≡ c .first → ContextClosed (length (treeOf rows)) (c .second) m parents names groups) →

@@ -9,7 +9,7 @@ use Prim.Native.Nat.{ℕ, zero, suc, _+_, _<_}
 use native.Mathlib.Omega.{arith}
 use lib.Dec.{eqb}
 use lib.ListN.{length, getD}
-use Rattle.model.proofs.Tests.{tells-or, tells-eqb}
+use Rattle.base.proofs.Tests.{tells-or, tells-eqb}
 use Rattle.indexed.specs.Trees.{Arrays, SameSuffix}
 use Rattle.indexed.specs.Partitions.{Refines, Labelled, ForkClosed, ContextClosed, SuffixAgree}
 use Rattle.indexed.specs.Passes.{SuffixAlike, BySuffix, ContextJoined}

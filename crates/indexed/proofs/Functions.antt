@@ -9,12 +9,13 @@ use Prim.Native.Nat.{ℕ, suc, _+_, _<_}
 use native.Mathlib.Omega.{arith}
 use lib.Dec.{eqb}
 use lib.ListN.{getD}
-use Rattle.model.specs.Limits.{name-limit}
-use Rattle.model.specs.Lists.{numbersFrom}
+use Rattle.base.specs.Limits.{name-limit}
+use Rattle.base.specs.Lists.{numbersFrom}
 use Rattle.indexed.specs.Trees.{Arrays, SameSuffix, up}
 use Rattle.indexed.specs.Partitions.{Refines, KeyClosed, ForkClosed, BackClosed}
 use Rattle.indexed.specs.Passes.{SuffixAlike, NamesAbove, SeenSets, KeysWhere}
-use Rattle.indexed.proofs.Keys.{number-at, named-not-root}
+use Rattle.base.proofs.Places.{number-at}
+use Rattle.indexed.proofs.Keys.{named-not-root}
 use Rattle.indexed.proofs.Suffixes.{parent-below, up-below, suffix-cast, suffix-up, suffix-more}
 use Rattle.indexed.proofs.Contexts.{suffix-forks}
 use Rattle.indexed.proofs.ArcKeys.{seen-forward, seen-before, key-is, keyed}
@@ -71,7 +72,7 @@ module _ (n : ℕ) (parents names : List ℕ) (arrays : Arrays n parents names) 
           suffix-up n parents names arrays j 1 v w cut in
           let below : getD keys v 0 < name-limit =
           subst (λ (x : ℕ). x < name-limit) (sym (above .above v hv))
-          (arrays .name-below (up parents j v) (top .0) (up-below n parents names arrays j v hv)) in
+          (arrays .name-below (up parents j v) (top .0) (up-below n parents (parent-below n parents names arrays) j v hv)) in
           step-back keys groups closed v w hv hw below (above .above v hv ∙ top .2 ∙ sym (above .above w hw)) one
 
   pub last-keys :

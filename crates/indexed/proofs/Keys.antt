@@ -3,37 +3,18 @@
 use mathlib.Core.Path.{_≡_, refl, sym, ap, _∙_, subst}
 use mathlib.Core.Bool.{Bool, true, false, cond}
 use mathlib.Core.List.{List, [], _∷_}
-use Prim.Native.Nat.{ℕ, zero, suc, _+_, _<_, _≤_}
-use native.Mathlib.Nat.{add-zero, not-suc-le-zero}
+use Prim.Native.Nat.{ℕ, zero, suc, _<_, _≤_}
+use native.Mathlib.Nat.{not-suc-le-zero}
 use native.Mathlib.Omega.{arith}
 use lib.Dec.{eqb}
 use lib.ListN.{length, getD, length-map}
 use borrow.Author.Tests.{eqb-true, eqb-false}
-use Rattle.model.specs.Limits.{name-limit}
-use Rattle.model.specs.Lists.{numbersFrom}
+use Rattle.base.specs.Limits.{name-limit}
+use Rattle.base.specs.Lists.{numbersFrom}
 use Rattle.indexed.specs.Trees.{Arrays}
+use Rattle.base.proofs.Places.{number-at}
 use Rattle.indexed.specs.Partitions.{Refines, Labelled, KeyClosed, ForkClosed, sum}
 use Rattle.indexed.specs.Passes.{relabelled}
-
-pub nth-number : (n i v : ℕ) → v < n → getD (numbersFrom n i) v 0 ≡ i + v
-unfolding numbersFrom
-nth-number zero i v h = absurd (not-suc-le-zero h)
-nth-number (suc n) i zero h = sym (add-zero i)
-nth-number (suc n) i (suc v) h =
-    let rest : getD (numbersFrom n (suc i)) v 0 ≡ suc i + v = nth-number n (suc i) v (omega arith) in
-    let sums : suc i + v ≡ i + suc v = omega arith in
-    rest ∙ sums
-
-pub numbers-length : (n i : ℕ) → length (numbersFrom n i) ≡ n
-unfolding numbersFrom
-numbers-length zero i = refl
-numbers-length (suc n) i = ap suc (numbers-length n (suc i))
-
--- the v-th number from 0 is v
-pub number-at : (n v : ℕ) → v < n → getD (numbersFrom n 0) v 0 ≡ v
-number-at n v h =
-    let sum-is : 0 + v ≡ v = omega arith in
-    nth-number n 0 v h ∙ sum-is
 
 -- a state whose name is one is not the root
 pub named-not-root :

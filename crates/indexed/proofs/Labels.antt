@@ -8,7 +8,7 @@ use Prim.Native.Nat.{ℕ, zero, suc, _+_, _<_, _≤_}
 use native.Mathlib.Nat.{not-suc-le-zero}
 use native.Mathlib.Omega.{arith}
 use lib.ListN.{getD}
-use Rattle.model.proofs.Tests.{Tells}
+use Rattle.base.proofs.Tests.{Tells}
 
 -- the first of n numbers from i that passes the test
 first : (ℕ → Bool) → ℕ → ℕ → ℕ

@@ -1,5 +1,4 @@
 -- Why a partition that the passes' promises describe has the table of the book. Assumes nothing.
-pub mod Fills
 pub mod Words
 pub mod Kernels
 pub mod Joined
@@ -10,7 +9,6 @@ pub mod Labels
 pub mod Suffixes
 pub mod Contexts
 pub mod Alone
-pub mod Bits
 pub mod Sets
 pub mod Values
 pub mod ArcKeys

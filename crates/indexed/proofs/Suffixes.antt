@@ -8,7 +8,7 @@ use native.Mathlib.Nat.{not-suc-le-zero}
 use native.Mathlib.Omega.{arith}
 use lib.Dec.{eqb, ltb}
 use lib.ListN.{getD}
-use Rattle.model.proofs.Tests.{Tells, tells-and, tells-by, tells-eqb, tells-ltb}
+use Rattle.base.proofs.Tests.{Tells, tells-and, tells-by, tells-eqb, tells-ltb}
 use Rattle.indexed.specs.Trees.{Arrays, SameSuffix, up}
 use Rattle.indexed.specs.Partitions.{ForkClosed, Share, ContextClosed}
 
@@ -37,15 +37,17 @@ tells-suffix parents names (suc i) v w =
     (λ s. (s .0, s .1 .0, s .1 .1 .0, s .1 .1 .1))
     (λ s. (s .0, (s .1, (s .2, s .3))))
 
+-- ancestors of states are states, where parents are
+pub up-below :
+    (n : ℕ) (parents : List ℕ) → ((v : ℕ) → v < n → getD parents v 0 < n) → (i v : ℕ) → v < n → up parents i v < n
+unfolding up
+up-below n parents below zero v h = h
+up-below n parents below (suc i) v h = up-below n parents below i (getD parents v 0) (below v h)
+
 module _ (n : ℕ) (parents names : List ℕ) (arrays : Arrays n parents names) where
   pub parent-below : (v : ℕ) → v < n → getD parents v 0 < n
   parent-below zero h = rw (arrays .root-parent) h
   parent-below (suc v) h = omega (arith, arrays .parent-before (suc v) (omega arith) h)
-
-  pub up-below : (i v : ℕ) → v < n → up parents i v < n
-  unfolding up
-  up-below zero v h = h
-  up-below (suc i) v h = up-below i (getD parents v 0) (parent-below v h)
 
   pub suffix-refl : (i v w : ℕ) → SameSuffix parents names i v w → SameSuffix parents names i v v
   suffix-refl zero v w s = tt
@@ -103,8 +105,8 @@ module _ (n : ℕ) (parents names : List ℕ) (arrays : Arrays n parents names) 
         up parents i w,
         here .0,
         here .1,
-        up-below i v h,
-        up-below i w k,
+        up-below n parents parent-below i v h,
+        up-below n parents parent-below i w k,
         here .2,
         ap (λ (x : ℕ). getD groups x 0) (up-parent parents i v),
         ap (λ (x : ℕ). getD groups x 0) (up-parent parents i w),
@@ -129,7 +131,8 @@ module _ (n : ℕ) (parents names : List ℕ) (arrays : Arrays n parents names) 
           let shared : Share n parents names groups m (up parents i v) (up parents i w) =
           subst (λ (k : ℕ). Share n parents names groups k (up parents i v) (up parents i w)) (sym at-m)
           (share-up groups i h v w hv hw cut) in
-          context (up parents i v) (up parents i w) (up-below i v hv) (up-below i w hw) (suffix-up i h v w cut) shared
+          context (up parents i v) (up parents i w) (up-below n parents parent-below i v hv)
+          (up-below n parents parent-below i w hw) (suffix-up i h v w cut) shared
       climb (suc d) i e =
           let sum-is : h + m ≡ i + suc (h + d) = omega arith in
           let here : SameSuffix parents names (suc (h + d)) (up parents i v) (up parents i w) =
@@ -138,4 +141,5 @@ module _ (n : ℕ) (parents names : List ℕ) (arrays : Arrays n parents names) 
           climb d (suc i) (omega arith) in
           let one : getD groups (getD parents (up parents i v) 0) 0 ≡ getD groups (getD parents (up parents i w) 0) 0 =
           rw (up-parent parents i v, up-parent parents i w) above in
-          fork (up parents i v) (up parents i w) (here .0) (here .1) (up-below i v hv) (up-below i w hw) (here .2) one
+          fork (up parents i v) (up parents i w) (here .0) (here .1) (up-below n parents parent-below i v hv)
+          (up-below n parents parent-below i w hw) (here .2) one

@@ -19,7 +19,8 @@ use Rattle.indexed.specs.Trees.{wordAt, TreeArrays, SameSuffix}
 use Rattle.indexed.specs.Passes.{SuffixAlike, SeenSets}
 use Rattle.indexed.proofs.Words.{root-word, wordAt-one, suffix-words}
 use Rattle.indexed.proofs.Joined.{ClassesOfF}
-use Rattle.indexed.proofs.Bits.{bit, bit-zero, bit-of-set, bits-told}
+use Rattle.base.specs.Bits.{bit}
+use Rattle.base.proofs.Bits.{bit-zero, bit-of-set, bits-told}
 use Rattle.indexed.proofs.Sets.{seen-in, seen-same}
 
 -- ---- last j names

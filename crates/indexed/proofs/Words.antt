@@ -1,56 +1,25 @@
 -- State numbers and words: the v-th state is its word, groups by number are groups by word, same last names by number are same
 -- last names of words. First what this takes of lists. Assumes nothing.
 use mathlib.Core.Path.{_≡_, refl, sym, ap, ap₂, _∙_, subst₂}
-use mathlib.Core.Logic.{_⊎_, inl, inr, _↔_}
+use mathlib.Core.Logic.{_↔_}
 use mathlib.Core.Bool.{Bool, true, false, cond}
-use mathlib.Core.List.{List, [], _∷_, _++_, List·Memᴰ as In, List·Memᴰ·head as here, List·Memᴰ·tail as there}
-use mathlib.Core.List.{List·Memᴰ·not-nil, List·Memᴰ·cases-cons, Memᴰ·cast, head-eq-of-cons-eq, tail-eq-of-cons-eq}
+use mathlib.Core.List.{List, [], _∷_, _++_, List·Memᴰ as In}
+use mathlib.Core.List.{Memᴰ·cast, head-eq-of-cons-eq, tail-eq-of-cons-eq}
 use Prim.Native.Nat.{ℕ, zero, suc, _+_, _-_, _<_, _≤_}
 use native.Mathlib.Omega.{arith}
 use lib.ListN.{length, getD, length-append}
 use lib.Seq.{drop-length, drop-append-le}
-use Rattle.model.specs.Limits.{state-limit}
-use Rattle.model.specs.Lists.{hasRow}
+use Rattle.base.specs.Limits.{state-limit}
+use Rattle.base.specs.Lists.{hasRow}
 use Rattle.model.specs.Classes.{Word, lastNames}
 use Rattle.model.specs.Joinings.{beginnings, withStates, withRows, treeOf, groupAt}
-use Rattle.model.proofs.Lists.{Distinct}
+use Rattle.base.proofs.Lists.{Distinct}
+use Rattle.base.proofs.Places.{nth-in, place-of, one-place}
 use Rattle.model.proofs.Notions.{Fits, Inside, Ker, _▸_}
 use Rattle.model.proofs.GroupCases.{groupAt-first, groupAt-later, no-groups, fits-rest}
 use Rattle.model.proofs.Trees.{treeOf-tree}
 use Rattle.indexed.specs.Trees.{wordAt, TreeArrays, Arrays, SameSuffix}
 use Rattle.indexed.specs.Partitions.{Refines}
-
--- ---- lists by place
-
-module _ {A : Type 0} (d : A) where
-  nth-in : (xs : List A) (i : ℕ) → i < length xs → In (getD xs i d) xs
-  nth-in [] i h = let z : ⊥ = omega arith in absurd z
-  nth-in (x ∷ xs) zero h = here refl
-  nth-in (x ∷ xs) (suc i) h = there (nth-in xs i (omega arith))
-
-  place-of : (xs : List A) (x : A) → In x xs → (i : ℕ) × (i < length xs) × (getD xs i d ≡ x)
-  place-of [] x m = absurd (List·Memᴰ·not-nil m)
-  place-of (y ∷ ys) x m = go (place-of ys x) (List·Memᴰ·cases-cons m)
-    where
-      go :
-          (In x ys → (i : ℕ) × (i < length ys) × (getD ys i d ≡ x)) → (x ≡ y) ⊎ In x ys →
-          (i : ℕ) × (i < suc (length ys)) × (getD (y ∷ ys) i d ≡ x)
-      go again (inl e) = (0, omega arith, sym e)
-      go again (inr n) =
-          let r = again n in
-          let low : r .0 < length ys = r .1 in
-          (suc (r .0), omega arith, r .2)
-
-  one-place :
-      (xs : List A) (i j : ℕ) → Distinct xs → i < length xs → j < length xs → getD xs i d ≡ getD xs j d → i ≡ j
-  one-place [] i j distinct h k e = let z : ⊥ = omega arith in absurd z
-  one-place (x ∷ xs) zero zero distinct h k e = refl
-  one-place (x ∷ xs) zero (suc j) distinct h k e =
-      absurd (distinct .0 (Memᴰ·cast e (nth-in xs j (omega arith))))
-  one-place (x ∷ xs) (suc i) zero distinct h k e =
-      absurd (distinct .0 (Memᴰ·cast (sym e) (nth-in xs i (omega arith))))
-  one-place (x ∷ xs) (suc i) (suc j) distinct h k e =
-      ap suc (one-place xs i j (distinct .1) (omega arith) (omega arith) e)
 
 -- words with one name more
 pub snoc-word : (u w : Word) (a b : ℕ) → u ▸ a ≡ w ▸ b → (u ≡ w) × (a ≡ b)

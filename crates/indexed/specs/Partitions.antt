@@ -5,7 +5,7 @@ use mathlib.Core.Logic.{_⊎_}
 use mathlib.Core.List.{List, [], _∷_}
 use Prim.Native.Nat.{ℕ, zero, suc, _+_, _<_, _≤_}
 use lib.ListN.{length, getD}
-use Rattle.model.specs.Limits.{name-limit}
+use Rattle.base.specs.Limits.{name-limit}
 use Rattle.indexed.specs.Trees.{SameSuffix}
 
 -- states of one group in the first partition are in one group in the second
@@ -23,7 +23,7 @@ pub record Labelled (n : ℕ) (groups : List ℕ) : Type 0 where
 abbrev pub Alone : ℕ → List ℕ → Type 0
 Alone i groups = (v : ℕ) → v < i → getD groups v 0 ≡ v
 
--- closed along arcs with keys: where `ins` lead into one group under one key, `outs` are in one group. A key of 64 is none
+-- closed along arcs with keys: where `ins` lead into one group under one key, `outs` are in one group. A key of `name-limit` is none
 abbrev pub KeyClosed : ℕ → List ℕ → List ℕ → List ℕ → List ℕ → Type 0
 KeyClosed n ins outs keys groups =
     (v w : ℕ) → v < n → w < n → getD keys v 0 < name-limit → getD keys v 0 ≡ getD keys w 0 →

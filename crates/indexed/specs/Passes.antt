@@ -9,7 +9,7 @@ use Prim.Native.Nat.{ℕ, _+_, _^_, _<_, _≤_}
 use lib.Dec.{eqb}
 use lib.Bits.{bitOr}
 use lib.ListN.{length, getD}
-use Rattle.model.specs.Limits.{name-limit, state-limit}
+use Rattle.base.specs.Limits.{name-limit, state-limit}
 use Rattle.indexed.specs.Trees.{SameSuffix, up}
 use Rattle.indexed.specs.Partitions.{Refines, Labelled, ForkClosed, ContextClosed, EndsClosed, BackClosed, sum}
 
@@ -27,7 +27,8 @@ pub record Swept (n h m : ℕ) (parents names groups groups′ : List ℕ) (join
   pub none : joined ≡ false → (groups′ ≡ groups) × ContextClosed n h m parents names groups
   pub some : joined ≡ true → sum groups′ < sum groups
 
--- suffix classes: states with the same last i names have the same class, the first such state; 512 for states with fewer
+-- suffix classes: states with the same last i names have the same class, the first such state; `state-limit` for
+-- states with fewer
 pub record SuffixClasses (n i : ℕ) (parents names classes : List ℕ) : Type 0 where
   pub size : length classes ≡ n
   pub few : (v : ℕ) → v < n → getD classes v 0 ≤ state-limit
@@ -78,7 +79,7 @@ pub record FJoined (n : ℕ) (parents names accepts classes groups : List ℕ) :
   pub ends-closed : EndsClosed n accepts classes groups
   pub back-closed : BackClosed n parents names classes groups
 
--- the j-th name before the last of each state, the name of its j-th ancestor; 64 where there is none
+-- the j-th name before the last of each state, the name of its j-th ancestor; `name-limit` where there is none
 pub record NamesAbove (n j : ℕ) (parents names keys : List ℕ) : Type 0 where
   pub size : length keys ≡ n
   pub above : (v : ℕ) → v < n → getD keys v 0 ≡ getD names (up parents j v) 0
@@ -94,7 +95,8 @@ pub record ByValue (n : ℕ) (values classes : List ℕ) : Type 0 where
   pub labelled : Labelled n classes
   pub alike : (v w : ℕ) → v < n → w < n → (getD classes v 0 ≡ getD classes w 0) ↔ (getD values v 0 ≡ getD values w 0)
 
--- the names of the arcs that do enlarge the seen set, or of those that do not; 64 at the other arcs and at the root
+-- the names of the arcs that do enlarge the seen set, or of those that do not; `name-limit` at the other
+-- arcs and at the root
 pub record KeysWhere (n : ℕ) (enlarge : Bool) (parents names seen keys : List ℕ) : Type 0 where
   pub size : length keys ≡ n
   pub root-key : getD keys 0 0 ≡ name-limit

@@ -1,54 +1,33 @@
 -- An accepted book, by induction over its reading: its class is allowed, entries of its rows are names' numbers, and its names' fields are
 -- its first bytes, as many as its place says. Assumes nothing.
-use mathlib.Core.Path.{_≡_, refl, sym, ap, ap₂, _∙_, subst}
+use mathlib.Core.Path.{_≡_, refl, sym, ap, _∙_, subst}
 use mathlib.Core.Logic.{⊎-elim}
 use mathlib.Core.Bool.{true, false≢true, and-eq-true-iff}
-use mathlib.Core.List.{List, [], _∷_, _++_, flatMap, append-nil, append-assoc, List·Memᴰ as In}
+use mathlib.Core.List.{List, [], _∷_, _++_, flatMap, List·Memᴰ as In}
 use mathlib.Core.List.{List·Memᴰ·not-nil, List·Memᴰ·append-cases, List·Memᴰ·eq-of-singleton}
-use Prim.Native.Nat.{ℕ, zero, suc, _+_, _*_, _/_, _%_, _≤_, _<_}
+use Prim.Native.Nat.{ℕ, zero, suc, _+_, _*_, _≤_, _<_}
 use native.Mathlib.Omega.{arith}
 use lib.Dec.{leb}
 use lib.ListN.{length, getD, take, length-append}
 use lib.Seq.{take-at}
-use Rattle.model.specs.Limits.{row-limit}
-use Rattle.model.specs.Fields.{Class, File, unread, book, readWith, withField, classOk, settingsOk, allBelow}
+use Rattle.base.specs.Limits.{row-limit, name-mark}
+use Rattle.model.specs.Fields.{Class, ClassOk, File, unread, book, readWith, withField, classOk, settingsOk, allBelow}
 use Rattle.model.specs.Tables.{fieldBytes, nameFields}
-use Rattle.model.proofs.FieldLaws.{RowFits, ClassOk, Fitting, a-name, a-class, a-row, a-state, fitting, class-parts}
+use Rattle.model.proofs.FieldLaws.{RowFits, Fitting, a-name, a-class, a-row, a-state, fitting, class-parts}
 use Rattle.model.proofs.Turns.{read-keeps}
 use Rattle.model.proofs.StateBodies.{Bytes}
-use Rattle.model.proofs.Rewriting.{bytes-of}
+use Rattle.model.proofs.Rewriting.{bytes-of, field-again, fields-more, at-mark}
 use Rattle.model.proofs.Books.{tells-allBelow}
-use Rattle.model.proofs.Places.{nth-in}
-use Rattle.fields.specs.Offsets.{bodyAt, nextAt, offsetAt, fieldsAt}
+use Rattle.base.proofs.Places.{nth-in}
+use Rattle.judging.specs.Offsets.{bodyAt, nextAt, offsetAt, fieldsAt}
 use Rattle.fields.specs.Places.{fileOf}
 use Rattle.fields.specs.declared.Place.{Place}
-use Rattle.fields.proofs.OffsetLaws.{length-body, offset-above}
+use Rattle.judging.proofs.OffsetLaws.{length-body, offset-above}
 use Rattle.fields.proofs.Parts.{accepted-number, accepted-file-is, length-names}
 use Rattle.prefix_tree.specs.Growth.{RowsBelow}
 use Rattle.inference.specs.Books.{BookAt, rowsAt, namesEnd}
 
 -- ---- names' fields one after the other
-
--- a field as it was read
-field-again :
-    (mark a b : ℕ) (body rest : List ℕ) → length body ≡ 256 * a + b → b < 256 →
-    mark ∷ (a ∷ (b ∷ (body ++ rest))) ≡ fieldBytes mark body ++ rest
-unfolding fieldBytes
-field-again mark a b body rest size low =
-    let high-byte : a ≡ length body / 256 = omega arith in
-    let low-byte : b ≡ length body % 256 = omega arith in
-    ap₂ (λ (x y : ℕ). mark ∷ (x ∷ (y ∷ (body ++ rest)))) high-byte low-byte
-
--- names' fields with one more at the end
-names-more :
-    (names : List (List ℕ)) (body rest : List ℕ) →
-    nameFields (names ++ (body ∷ [])) ++ rest ≡ nameFields names ++ (fieldBytes 1 body ++ rest)
-unfolding nameFields flatMap
-names-more [] body rest = ap (λ (z : List ℕ). z ++ rest) (append-nil (fieldBytes 1 body))
-names-more (n ∷ names) body rest =
-    append-assoc (fieldBytes 1 n) (nameFields (names ++ (body ∷ []))) rest
-    ∙ ap (λ (z : List ℕ). fieldBytes 1 n ++ z) (names-more names body rest)
-    ∙ sym (append-assoc (fieldBytes 1 n) (nameFields names) (fieldBytes 1 body ++ rest))
 
 -- they take as many bytes as lie between their offsets
 names-length :
@@ -83,7 +62,7 @@ bytes-after (x ∷ xs) ys h = bytes-after xs ys (h .1)
 
 module _ (s : List ℕ) (f : File) (a b : ℕ) (body rest : List ℕ) (size : length body ≡ 256 * a + b) where
   with-name : f .stage ≤ 1 → Keeps s f (1 ∷ (a ∷ (b ∷ (body ++ rest)))) → Keeps s (withField f 1 body) rest
-  unfolding withField
+  unfolding withField nameFields
   with-name low h =
       let none = h .no-rows (omega arith) in
       record {
@@ -92,9 +71,9 @@ module _ (s : List ℕ) (f : File) (a b : ℕ) (body rest : List ℕ) (size : le
         rows-below = λ r m. absurd (List·Memᴰ·not-nil (subst (λ (z : List (List ℕ)). In r z) none m));
         later = rest;
         front =
-            names-more (f .names) body rest
+            fields-more name-mark (f .names) body rest
             ∙ ap (λ (z : List ℕ). nameFields (f .names) ++ z)
-            (sym (field-again 1 a b body rest size (h .bytes .1 .1 .0)) ∙ sym (h .left low))
+            (sym (field-again name-mark a b body rest size (h .bytes .1 .1 .0)) ∙ sym (h .left low))
             ∙ h .front;
         left = λ p. refl;
         bytes = bytes-after body rest (h .bytes .1 .1 .1);
@@ -132,19 +111,11 @@ module _ (s : List ℕ) (f : File) (a b : ℕ) (body rest : List ℕ) (size : le
         bytes = bytes-after body rest (h .bytes .1 .1 .1);
       }
 
-  -- for the mark as it was read
-  at-mark :
-      (mark m : ℕ) → mark ≡ m → (Keeps s f (m ∷ (a ∷ (b ∷ (body ++ rest)))) → Keeps s (withField f m body) rest) →
-      Keeps s f (mark ∷ (a ∷ (b ∷ (body ++ rest)))) → Keeps s (withField f mark body) rest
-  at-mark mark m e step h =
-      subst (λ (z : ℕ). Keeps s (withField f z body) rest) (sym e)
-      (step (subst (λ (z : ℕ). Keeps s f (z ∷ (a ∷ (b ∷ (body ++ rest))))) e h))
-
   book-step :
       (mark : ℕ) → Fitting book f mark body → Keeps s f (mark ∷ (a ∷ (b ∷ (body ++ rest)))) → Keeps s (withField f mark body) rest
-  book-step mark (a-name e low fits) h = at-mark mark 1 e (with-name low) h
-  book-step mark (a-class e at fits) h = at-mark mark 2 e (with-class at fits) h
-  book-step mark (a-row k e high fits) h = at-mark mark 3 e (with-row fits) h
+  book-step mark (a-name e low fits) h = at-mark (Keeps s) f a b body rest mark 1 e (with-name low) h
+  book-step mark (a-class e at fits) h = at-mark (Keeps s) f a b body rest mark 2 e (with-class at fits) h
+  book-step mark (a-row k e high fits) h = at-mark (Keeps s) f a b body rest mark 3 e (with-row fits) h
   book-step mark (a-state k e high fits) h = absurd (false≢true k)
 
 -- before the first field
@@ -174,12 +145,12 @@ module _ (s : List ℕ) (p : Place) (at : BookAt s p) (bytes : (i : ℕ) → i <
   keeps : Keeps s (fileOf s p) []
   unfolding readWith
   keeps =
-      let c = at .default in
-      subst (λ (f : File). Keeps s f []) (accepted-file-is c book s p (at .read))
+      let c = at .settings .default-class in
+      subst (λ (f : File). Keeps s f []) (accepted-file-is (at .settings) book s p (at .read))
       (read-keeps book (Keeps s)
       (λ f mark a b body rest size fit h. book-step s f a b body rest size mark (fitting book f mark body fit) h)
       (suc (length s)) (unread c) s (nothing-read s c (at .allowed) (bytes-of s bytes))
-      (accepted-number c book s p (at .read)) .1)
+      (accepted-number (at .settings) book s p (at .read)) .1)
 
   -- the names' fields are the book's first bytes
   pub names-front : nameFields (fileOf s p .names) ≡ take (namesEnd p) s
@@ -202,6 +173,6 @@ module _ (s : List ℕ) (p : Place) (at : BookAt s p) (bytes : (i : ℕ) → i <
             omega (
               arith,
               length-names s p (at .read .kept .sound),
-              tells-allBelow (length (fileOf s p .names)) row .fact (keeps .rows-below row m) (getD row i 0) (nth-in row i h),
+              tells-allBelow (length (fileOf s p .names)) row .fact (keeps .rows-below row m) (getD row i 0) (nth-in 0 row i h),
             );
       }

@@ -9,11 +9,11 @@ use native.Mathlib.Omega.{arith}
 use borrow.Author.Tests.{leb-true, eq-eqb, ne-eqb}
 use lib.Dec.{eqb, leb}
 use lib.ListN.{length}
-use Rattle.model.specs.Limits.{setting-limit}
+use Rattle.base.specs.Limits.{setting-limit}
 use Rattle.model.specs.Fields.{class-of, contextOk, settingsOk}
 use Rattle.model.specs.Classes.{Word}
 use Rattle.model.specs.Joinings.{treeOf}
-use Rattle.model.proofs.Tests.{tells-eqb, tells-leb, tells-and, tells-or}
+use Rattle.base.proofs.Tests.{tells-eqb, tells-leb, tells-and, tells-or}
 use Rattle.indexed.specs.Passes.{ContextJoined, FJoined}
 use Rattle.indexed.proofs.Joined.{ClassesOfF}
 use Rattle.indexed.proofs.Values.{last-classes, seen-classes}

@@ -1,32 +1,20 @@
--- What is given back: refusal 10, refusal 13, and the table written, from the bytes before its states and its states' fields. Assumes
--- nothing.
-use mathlib.Core.Path.{_≡_, refl, sym, ap, _∙_}
+-- What is given back: refusal 10, refusal 13, and the table written. Assumes nothing.
+use mathlib.Core.Path.{_≡_, refl, sym, ap}
 use mathlib.Core.Bool.{Bool}
-use mathlib.Core.List.{List, [], _∷_, _++_, append-assoc}
+use mathlib.Core.List.{List, [], _∷_}
 use Prim.Native.Nat.{ℕ, _+_, _-_, _<_, _≤_}
 use native.Mathlib.Omega.{arith}
 use borrow.Author.Tests.{le-ltb}
 use lib.Dec.{leb}
-use lib.ListN.{length, length-append}
-use Rattle.model.specs.Limits.{state-limit, tree-too-large, output-too-short, when}
+use lib.ListN.{length}
+use Rattle.base.specs.Limits.{state-limit, tree-too-large, output-too-short, when}
 use Rattle.model.specs.Fields.{File}
-use Rattle.model.specs.Tables.{nameFields, classField, stateFields, tableBytes}
 use Rattle.model.specs.Joinings.{treeOf}
 use Rattle.model.specs.Quotients.{bookStates, bookTable}
-use Rattle.model.specs.Calls.{over, joinsOf}
+use Rattle.model.specs.Calls.{over, treeFault, joinsOf}
 use Rattle.model.proofs.CallLaws.{call-refused, call-one-short, call-one-wrote}
-use Rattle.model.proofs.Tests.{same-tests, tells-leb}
-use Rattle.prefix_tree.specs.Growth.{treeFault}
-use Rattle.inference.specs.Books.{frontBytes}
+use Rattle.base.proofs.Tests.{same-tests, tells-leb}
 use Rattle.inference.specs.Results.{refused-with, inferring, Infers}
-
--- the table is the bytes before its states, and its states' fields
-pub table-parts : (f : File) → bookTable f ≡ frontBytes f ++ stateFields (bookStates f)
-unfolding bookTable tableBytes frontBytes
-table-parts f = sym (append-assoc (nameFields (f .names)) (classField (f .class-is)) (stateFields (bookStates f)))
-
-pub table-length : (f : File) → length (bookTable f) ≡ length (frontBytes f) + length (stateFields (bookStates f))
-table-length f = ap length (table-parts f) ∙ length-append (frontBytes f) (stateFields (bookStates f))
 
 -- the second part fits after the first
 pub fits-after : (room front rest : ℕ) → front ≤ room → leb rest (room - front) ≡ leb (front + rest) room
@@ -34,7 +22,7 @@ fits-after room front rest h =
     same-tests (tells-leb rest (room - front)) (tells-leb (front + rest) room) (λ g. omega arith) (λ g. omega arith)
 
 module _ (f : File) (out : List ℕ) where
-  pub gives-too-large : tree-too-large ≡ treeFault (treeOf (f .items)) → Infers f out out (refused-with tree-too-large)
+  pub gives-too-large : tree-too-large ≡ treeFault (f .items) → Infers f out out (refused-with tree-too-large)
   unfolding inferring
   gives-too-large e = call-refused (inferring f) (out ∷ []) (record { is = sym e; some = omega arith })
 

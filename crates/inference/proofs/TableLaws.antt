@@ -4,6 +4,7 @@ use mathlib.Core.Path.{_≡_, sym, ap, _∙_, subst}
 use mathlib.Core.Bool.{true, false}
 use mathlib.Core.List.{List, _++_}
 use Prim.Native.Nat.{ℕ, _+_, _-_, _<_, _≤_}
+use native.Mathlib.Nat.{zero-add}
 use native.Mathlib.Omega.{arith}
 use borrow.Author.Tests.{leb-true, leb-false}
 use lib.Dec.{leb}
@@ -14,7 +15,7 @@ use Rattle.model.specs.Tables.{State, stateFields}
 use Rattle.model.specs.Classes.{Word}
 use Rattle.model.specs.Joinings.{treeOf}
 use Rattle.model.specs.Quotients.{statesOf, bookStates, bookTable}
-use Rattle.model.specs.Limits.{output-too-short}
+use Rattle.base.specs.Limits.{class-bytes, output-too-short}
 use Rattle.model.specs.Calls.{over, joinsOf}
 use Rattle.model.proofs.Notions.{Fits}
 use Rattle.model.proofs.Trees.{treeOf-tree}
@@ -25,12 +26,12 @@ use Rattle.indexed.specs.Trees.{Arrays}
 use Rattle.indexed.proofs.Words.{tree-arrays}
 use Rattle.functions.specs.Results.{JoinReady}
 use Rattle.quotient.specs.Gathered.{Joined}
-use Rattle.writing.specs.Writing.{Put}
+use Rattle.writing.specs.Writing.{Put, frontOf}
 use Rattle.writing.proofs.WritingLaws.{put-append, written-from-zero}
-use Rattle.inference.specs.Books.{BookAt, rowsAt, classAt, namesEnd, frontBytes, TreeIn, JoinedBy}
+use Rattle.inference.specs.Books.{BookAt, rowsAt, classAt, namesEnd, TreeIn, JoinedBy}
 use Rattle.inference.specs.Results.{refused-with, Infers}
-use Rattle.inference.proofs.FrontLaws.{front-length}
-use Rattle.inference.proofs.ResultLaws.{table-parts, table-length, gives-too-short, gives-table}
+use Rattle.inference.proofs.FrontLaws.{table-parts, table-length}
+use Rattle.inference.proofs.ResultLaws.{gives-too-short, gives-table}
 
 -- a front of a list that was written, and read again
 pub prefix-fits : (n : ℕ) (front rest : List ℕ) → length front ≡ n → n ≤ length (front ++ rest)
@@ -81,36 +82,35 @@ module _ (s : List ℕ) (p : Place) (parents names accepts groups : List ℕ) (a
   states-same = joined .states
 
   -- the table's length, as it is known before anything is written
-  total : (size : ℕ) → size ≡ length (stateFields made) → (namesEnd p + 6) + size ≡ length (bookTable (fileOf s p))
+  total : (size : ℕ) → size ≡ length (stateFields made) → (namesEnd p + class-bytes) + size ≡ length (bookTable (fileOf s p))
   total size e =
       omega (
         arith,
-        table-length (fileOf s p),
-        front-length s p at bytes,
+        table-length s p at bytes,
         ap (λ (states : List State). length (stateFields states)) states-same,
       )
 
   pub table-too-short :
-      (out : List ℕ) (size : ℕ) → size ≡ length (stateFields made) → leb ((namesEnd p + 6) + size) (length out) ≡ false →
+      (out : List ℕ) (size : ℕ) → size ≡ length (stateFields made) → leb ((namesEnd p + class-bytes) + size) (length out) ≡ false →
       Infers (fileOf s p) out out (refused-with output-too-short)
   table-too-short out size e over-room =
       gives-too-short (fileOf s p) out (tree .few)
-      (omega (arith, leb-false ((namesEnd p + 6) + size) (length out) over-room, total size e))
+      (omega (arith, leb-false ((namesEnd p + class-bytes) + size) (length out) over-room, total size e))
 
   pub table-written :
-      (out mid out′ : List ℕ) (next end states size : ℕ) → leb ((namesEnd p + 6) + size) (length out) ≡ true →
-      states ≡ length made → size ≡ length (stateFields made) → Put out mid 0 (frontBytes (fileOf s p)) (namesEnd p + 6) next →
-      Put mid out′ next (stateFields made) (length (stateFields made)) end →
+      (out mid out′ : List ℕ) (next end states size : ℕ) → leb ((namesEnd p + class-bytes) + size) (length out) ≡ true →
+      states ≡ length made → size ≡ length (stateFields made) → Put out mid 0 (frontOf s (namesEnd p) (classAt p)) next →
+      Put mid out′ next (stateFields made) end →
       Infers (fileOf s p) out out′ (record { refusal = 0; length = end; states = states; joins = length groups - states })
   unfolding joinsOf
   table-written out mid out′ next end states size fits counted e front back =
       let whole = put-append front back (omega arith) in
-      let all : frontBytes (fileOf s p) ++ stateFields made ≡ bookTable (fileOf s p) =
-      ap (λ (z : List State). frontBytes (fileOf s p) ++ stateFields z) states-same ∙ sym (table-parts (fileOf s p)) in
+      let all : frontOf s (namesEnd p) (classAt p) ++ stateFields made ≡ bookTable (fileOf s p) =
+      ap (λ (z : List State). frontOf s (namesEnd p) (classAt p) ++ stateFields z) states-same ∙ sym (table-parts s p at bytes) in
       let as-many : states ≡ length (bookStates (fileOf s p)) = counted ∙ ap length states-same in
       gives-table (fileOf s p) out out′ end states (length groups - states) (tree .few)
-      (omega (arith, leb-true ((namesEnd p + 6) + size) (length out) fits, total size e))
+      (omega (arith, leb-true ((namesEnd p + class-bytes) + size) (length out) fits, total size e))
       (subst (λ (z : List ℕ). out′ ≡ over z out) all (written-from-zero (whole .written)))
-      (omega (arith, whole .ends, total size e))
+      (whole .ends ∙ zero-add _ ∙ ap length all)
       as-many
       (omega (arith, joined .labels .size, as-many))

@@ -1,28 +1,26 @@
 -- The place of an accepted book, and what is made of its rows on the way to its table: the prefix tree in arrays, and a partition of its
 -- states whose automaton is that of the full joining. Assumes nothing.
 use mathlib.Core.Path.{_≡_}
-use mathlib.Core.Bool.{true}
-use mathlib.Core.List.{List, _++_}
+use mathlib.Core.List.{List}
 use Prim.Native.Nat.{ℕ, _+_, _≤_}
 use lib.ListN.{length}
-use Rattle.model.specs.Limits.{state-limit}
-use Rattle.model.specs.Fields.{Class, class-of, File, settingsOk, book}
+use Rattle.base.specs.Limits.{state-limit}
+use Rattle.model.specs.Fields.{Class, class-of, Settings, Allowed, book}
 use Rattle.model.specs.Classes.{Word}
-use Rattle.model.specs.Tables.{nameFields, classField}
 use Rattle.model.specs.Joinings.{treeOf, joinedGroups}
 use Rattle.model.specs.Quotients.{statesOf}
-use Rattle.fields.specs.Offsets.{fieldsAt}
+use Rattle.judging.specs.Offsets.{fieldsAt}
 use Rattle.fields.specs.Places.{ReadAs}
 use Rattle.fields.specs.declared.Place.{Place}
 use Rattle.fields.specs.declared.Fields.the-variants.{Accepted}
 use Rattle.indexed.specs.Trees.{TreeArrays, AcceptsArray}
 use Rattle.indexed.specs.Partitions.{Labelled, ForkClosed}
 
--- the place of a book that was read without a fault, whichever allowed class a book has that names none
+-- the place of a book that was read without a fault, with whichever allowed settings
 pub record BookAt (s : List ℕ) (p : Place) : Type 0 where
-  pub default : Class
-  pub allowed : settingsOk (default .kind) (default .first) (default .second) ≡ true
-  pub read : ReadAs default book s (Accepted p)
+  pub settings : Settings
+  pub allowed : Allowed settings
+  pub read : ReadAs settings book s (Accepted p)
 
 -- the rows of the book, and its class
 abbrev pub rowsAt : List ℕ → Place → List Word
@@ -31,13 +29,9 @@ rowsAt s p = fieldsAt s (p .start) (p .items)
 abbrev pub classAt : Place → Class
 classAt p = class-of (p .kind) (p .first) (p .second)
 
--- how many bytes the names' fields take, and with them the class field
+-- how many bytes the names' fields take
 abbrev pub namesEnd : Place → ℕ
 namesEnd p = p .last + p .width
-
--- a table's bytes before its states
-unfoldable pub frontBytes : File → List ℕ
-frontBytes f = nameFields (f .names) ++ classField (f .class-is)
 
 -- the prefix tree of the rows in arrays, of at most 512 states
 pub record TreeIn (rows : List Word) (parents names accepts : List ℕ) : Type 0 where

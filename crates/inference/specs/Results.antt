@@ -1,13 +1,11 @@
--- What is given back for an accepted book (document 01, "What is given back"): 10, then 13, and where neither is the table's bytes in the
+-- What is given back for an accepted book (docs/SCOPE.md, section 4): 10, then 13, and where neither is the table's bytes in the
 -- output, their number, the states and the joins. Assumes nothing.
 use mathlib.Core.List.{List, [], _∷_}
 use Prim.Native.Nat.{ℕ}
 use lib.ListN.{length}
 use Rattle.model.specs.Fields.{File}
-use Rattle.model.specs.Joinings.{treeOf}
 use Rattle.model.specs.Quotients.{bookStates, bookTable}
-use Rattle.model.specs.Calls.{Call, Gives, joinsOf}
-use Rattle.prefix_tree.specs.Growth.{treeFault}
+use Rattle.model.specs.Calls.{Call, Gives, treeFault, joinsOf}
 use Rattle.inference.specs.declared.Inferred.{Inferred}
 
 -- what is given back with a refusal
@@ -18,7 +16,7 @@ refused-with refusal = record { refusal = refusal; length = 0; states = 0; joins
 unfoldable pub inferring : File → Call Inferred
 inferring f =
     record {
-      refusal = treeFault (treeOf (f .items));
+      refusal = treeFault (f .items);
       none = refused-with;
       answer = record { refusal = 0; length = length (bookTable f); states = length (bookStates f); joins = joinsOf f };
       writes = bookTable f ∷ [];

@@ -1,5 +1,7 @@
 // The joining of a book's prefix tree by the rule of its class.
-use cells::numbers::wide8;
+use base::limits::CONTEXT_KIND;
+use base::limits::SEEN_SET_KIND;
+use base::numbers::wide8;
 use contexts::join_by_context;
 use functions::join_by_function;
 ghost use mathlib.Core.Path.{_≡_};
@@ -10,11 +12,6 @@ ghost use Rattle.model.specs.Fields.{class-of, settingsOk};
 ghost use Rattle.model.specs.Classes.{Word};
 ghost use Rattle.functions.specs.Results.{JoinReady};
 ghost use Rattle.inference.specs.Books.{TreeIn, JoinedBy};
-
-// The kinds of a class; the third is last names.
-const CONTEXT: u8 = 0;
-
-const SEEN_SET: u8 = 1;
 
 // Joins by the class's rule until none applies. The groups may hold anything at first.
 pub fn join_by_class(
@@ -32,9 +29,9 @@ pub fn join_by_class(
         JoinedBy (class-of kind first second) rows (now (parents .entry)) (now (names .entry)) (now (groups .exit))) ⌝ }
 {
     match kind {
-        CONTEXT => join_by_context(wide8(first), wide8(second), parents, names, groups),
+        CONTEXT_KIND => join_by_context(wide8(first), wide8(second), parents, names, groups),
         _ => join_by_function(
-            kind == SEEN_SET,
+            kind == SEEN_SET_KIND,
             wide8(first),
             parents,
             names,

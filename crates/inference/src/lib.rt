@@ -2,30 +2,24 @@
 // written before it is known that the table fits.
 pub mod classes;
 
+use base::limits::CLASS_BYTES;
+use base::limits::OUTPUT_TOO_SHORT;
+use base::limits::STATE_LIMIT;
+use base::limits::TREE_TOO_LARGE;
 use fields::Place;
 use prefix_tree::Tree;
 use prefix_tree::add_rows;
 use quotient::prepare;
 use quotient::states::write_states;
-use writing::copy_in;
-use writing::put_class;
+use writing::put_front;
 ghost use mathlib.Core.Path.{_≡_};
 ghost use Prim.Native.Nat.{_+_, _≤_};
 ghost use lib.Dec.{leb};
 ghost use lib.ListN.{length};
-ghost use Rattle.model.specs.Limits.{input-limit, work-bytes};
+ghost use Rattle.base.specs.Limits.{input-limit, work-bytes};
 ghost use Rattle.fields.specs.Places.{fileOf};
-ghost use Rattle.writing.specs.Writing.{Put};
-ghost use Rattle.inference.specs.Books.{BookAt, rowsAt, classAt, namesEnd, frontBytes, TreeIn, JoinedBy};
+ghost use Rattle.inference.specs.Books.{BookAt, rowsAt, classAt, TreeIn, JoinedBy};
 ghost use Rattle.inference.specs.Results.{Infers, refused-with};
-
-// The refusals of an accepted book.
-pub const TREE_TOO_LARGE: u8 = 10;
-
-pub const OUTPUT_TOO_SHORT: u8 = 13;
-
-// How many bytes a class field takes.
-const CLASS_BYTES: usize = 6;
 
 // What is given back: the refusal, or 0 with the table's length, its states, and the joins.
 pub struct Inferred {
@@ -57,17 +51,6 @@ fn fits(room: usize, front: usize, rest: usize) -> bool
     rest <= room - front
 }
 
-// Writes the names' fields, which are the book's first bytes, and the class field. Returns the offset after them.
-fn write_front(book: &[u8], place: Place, out: &mut [u8]) -> usize
-    requires { ⌜ BookAt (now book) place ⌝ }
-    requires { ⌜ namesEnd place + 6 ≤ length (now out) ⌝ }
-    ensures { λ r. ⌜ Put (now (out .entry)) (now (out .exit)) 0 (frontBytes (fileOf (now (book .entry)) place)) (namesEnd place + 6) r ⌝ }
-{
-    let end = place.last + place.width;
-    let at = copy_in(out, 0, &book[..end]);
-    put_class(out, at, place.kind, place.first, place.second)
-}
-
 // The automaton of a joined partition, numbered and written after the names and the class; or 13, and nothing is written.
 fn write_joined(
     book: &[u8],
@@ -84,10 +67,10 @@ fn write_joined(
     requires { ⌜ JoinedBy (classAt place) (rowsAt (now book) place) (now parents) (now names) (now groups) ⌝ }
     ensures { λ r. ⌜ Infers (fileOf (now (book .entry)) place) (now (out .entry)) (now (out .exit)) r ⌝ }
 {
-    let mut next = [0u64; 512];
-    let mut accepting = [0u8; 512];
-    let mut met = [0u16; 512];
-    let mut numbers = [0u16; 512];
+    let mut next = [0u64; STATE_LIMIT];
+    let mut accepting = [0u8; STATE_LIMIT];
+    let mut met = [0u16; STATE_LIMIT];
+    let mut numbers = [0u16; STATE_LIMIT];
     let automaton = prepare(
         parents,
         names,
@@ -100,11 +83,11 @@ fn write_joined(
         &mut numbers,
     );
     let states = automaton.states;
-    let front = place.last + place.width + CLASS_BYTES;
-    if !fits(out.len(), front, automaton.bytes) {
+    let named = place.last + place.width;
+    if !fits(out.len(), named + CLASS_BYTES, automaton.bytes) {
         return refused(OUTPUT_TOO_SHORT);
     }
-    let at = write_front(book, place, out);
+    let at = put_front(out, book, named, place.kind, place.first, place.second);
     let end = write_states(work, &next, &accepting, &met, &numbers, states, out, at);
     let joins = groups.len() - states;
     Inferred {
@@ -130,7 +113,7 @@ fn join_and_write(
     ensures { λ r. ⌜ Infers (fileOf (now (book .entry)) place) (now (out .entry)) (now (out .exit)) r ⌝ }
 {
     let n = parents.len();
-    let mut groups = [0u16; 512];
+    let mut groups = [0u16; STATE_LIMIT];
     classes::join_by_class(
         place.kind,
         place.first,
@@ -158,9 +141,9 @@ pub fn infer(book: &[u8], place: Place, work: &mut [u8], out: &mut [u8]) -> Infe
     requires { ⌜ BookAt (now book) place × (length (now book) ≤ input-limit) × (work-bytes ≤ length (now work)) ⌝ }
     ensures { λ r. ⌜ Infers (fileOf (now (book .entry)) place) (now (out .entry)) (now (out .exit)) r ⌝ }
 {
-    let mut parents = [0u16; 512];
-    let mut names = [0u8; 512];
-    let mut accepts = [0u8; 512];
+    let mut parents = [0u16; STATE_LIMIT];
+    let mut names = [0u8; STATE_LIMIT];
+    let mut accepts = [0u8; STATE_LIMIT];
     let tree = add_rows(
         book,
         place.start,

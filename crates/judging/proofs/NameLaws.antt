@@ -9,10 +9,10 @@ use borrow.Author.Tests.{lt-ltb, le-ltb, le-leb, lt-leb, eq-eqb, ne-eqb}
 use lib.Dec.{ltb, leb·suc-suc}
 use lib.ListN.{length, getD, drop, drop-of-length-le}
 use lib.Seq.{drop-cons}
-use Rattle.model.specs.Lists.{all, before, lastOr}
-use Rattle.model.specs.Fields.{File, startsName, continuesName, nameOk, above, nameFault}
+use Rattle.base.specs.Lists.{all, before, lastOr}
+use Rattle.model.specs.Fields.{startsName, continuesName, nameOk, above, nameFault}
 use Rattle.judging.specs.Judged.{NameJudged}
-use Rattle.model.specs.Limits.{name-limit, name-bytes, bad-name, name-order, too-many}
+use Rattle.base.specs.Limits.{name-limit, name-bytes, bad-name, name-order, too-many}
 
 pub all-stop : (p : ℕ → Bool) (s : List ℕ) (i : ℕ) → i < length s → p (getD s i 0) ≡ false → all p (drop i s) ≡ false
 unfolding all
@@ -79,7 +79,7 @@ before-end a b i h = rw (drop-of-length-le a h) (rest b i)
     rest (y ∷ b) zero = sym (lt-ltb 0 (suc (length b)) (omega arith))
     rest (y ∷ b) (suc i) = rest b i ∙ sym (leb·suc-suc (suc i) (length b))
 
--- a file's last name, empty where there is none, decides whether an allowed name stands above
+-- the last name so far, empty where there is none, decides whether an allowed name stands above
 pub above-last : (names : List (List ℕ)) (b : List ℕ) → nameOk b ≡ true → above names b ≡ before (lastOr [] names) b
 unfolding above nameOk before lastOr
 above-last [] [] e = sym e
@@ -89,14 +89,14 @@ above-last (n ∷ names) b e = refl
 pub name-bad : (last : List ℕ) (count : ℕ) (name : List ℕ) → nameOk name ≡ false → NameJudged last count name bad-name
 unfolding nameFault
 name-bad last count name b =
-    record { is = λ (f : File) (e : lastOr [] (f .names) ≡ last) (g : length (f .names) ≡ count). rw b }
+    record { is = λ (names : List (List ℕ)) (e : lastOr [] names ≡ last) (g : length names ≡ count). rw b }
 
 pub name-unordered : (last : List ℕ) (count : ℕ) (name : List ℕ) → nameOk name ≡ true → before last name ≡ false
     → NameJudged last count name name-order
 unfolding nameFault
 name-unordered last count name b o =
     record {
-      is = λ (f : File) (e : lastOr [] (f .names) ≡ last) (g : length (f .names) ≡ count). rw (b, above-last (f .names) name b, e, o);
+      is = λ (names : List (List ℕ)) (e : lastOr [] names ≡ last) (g : length names ≡ count). rw (b, above-last names name b, e, o);
     }
 
 pub name-too-many : (last : List ℕ) (count : ℕ) (name : List ℕ) → nameOk name ≡ true → before last name ≡ true → name-limit ≤ count
@@ -104,8 +104,8 @@ pub name-too-many : (last : List ℕ) (count : ℕ) (name : List ℕ) → nameOk
 unfolding nameFault
 name-too-many last count name b o h =
     record {
-      is = λ (f : File) (e : lastOr [] (f .names) ≡ last) (g : length (f .names) ≡ count).
-          rw (b, above-last (f .names) name b, e, o, g, le-leb name-limit count h);
+      is = λ (names : List (List ℕ)) (e : lastOr [] names ≡ last) (g : length names ≡ count).
+          rw (b, above-last names name b, e, o, g, le-leb name-limit count h);
     }
 
 pub name-good : (last : List ℕ) (count : ℕ) (name : List ℕ) → nameOk name ≡ true → before last name ≡ true → count < name-limit
@@ -113,6 +113,6 @@ pub name-good : (last : List ℕ) (count : ℕ) (name : List ℕ) → nameOk nam
 unfolding nameFault
 name-good last count name b o h =
     record {
-      is = λ (f : File) (e : lastOr [] (f .names) ≡ last) (g : length (f .names) ≡ count).
-          rw (b, above-last (f .names) name b, e, o, g, lt-leb name-limit count h);
+      is = λ (names : List (List ℕ)) (e : lastOr [] names ≡ last) (g : length names ≡ count).
+          rw (b, above-last names name b, e, o, g, lt-leb name-limit count h);
     }

@@ -9,9 +9,7 @@ use borrow.Author.Tests.{lt-ltb, le-ltb, le-leb, lt-leb}
 use lib.Dec.{leb, ltb}
 use lib.ListN.{length, getD, drop, drop-of-length-le, length-drop}
 use lib.Seq.{drop-cons, drop-drop}
-use Rattle.model.specs.Fields.{File, arcsOk, stateOk, stateFault}
-use Rattle.judging.specs.Judged.{StateJudged}
-use Rattle.model.specs.Limits.{state-limit, too-many, bad-state}
+use Rattle.model.specs.Fields.{arcsOk, stateOk}
 
 -- what is left to test from offset i on, where the next arc's name is `next` or above: as in arcsOk, for some fuel that suffices
 pub record ArcsLeft (n : ℕ) (s : List ℕ) (next i : ℕ) : Type 0 where
@@ -91,19 +89,3 @@ arcs-end n s next i h left = sym (left .rest) ∙ rw (drop-of-length-le s h) (no
     none : (f : ℕ) → arcsOk f n next [] ≡ true
     none zero = unfold arcsOk in refl
     none (suc f) = unfold arcsOk in refl
-
-pub state-too-many : (names count : ℕ) (state : List ℕ) → state-limit ≤ count → StateJudged names count state too-many
-unfolding stateFault
-state-too-many names count state h =
-    record { is = λ (f : File) (e : length (f .names) ≡ names) (g : length (f .items) ≡ count). rw (g, le-leb state-limit count h) }
-
-pub state-bad : (names count : ℕ) (state : List ℕ) → count < state-limit → stateOk names state ≡ false
-    → StateJudged names count state bad-state
-unfolding stateFault
-state-bad names count state h b =
-    record { is = λ (f : File) (e : length (f .names) ≡ names) (g : length (f .items) ≡ count). rw (g, e, lt-leb state-limit count h, b) }
-
-pub state-good : (names count : ℕ) (state : List ℕ) → count < state-limit → stateOk names state ≡ true → StateJudged names count state 0
-unfolding stateFault
-state-good names count state h b =
-    record { is = λ (f : File) (e : length (f .names) ≡ names) (g : length (f .items) ≡ count). rw (g, e, lt-leb state-limit count h, b) }

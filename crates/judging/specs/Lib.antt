@@ -1,2 +1,3 @@
--- What the contracts cite beside the definitions of model: the judging of one field. Assumes nothing.
+-- What the contracts cite beside the definitions of model: fields by their offsets, and the judging of one field. Assumes nothing.
+pub mod Offsets
 pub mod Judged

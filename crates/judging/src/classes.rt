@@ -1,6 +1,9 @@
 // Class fields and their refusal, 8.
-use crate::limits::BAD_CLASS;
-use crate::limits::SETTING_LIMIT;
+use base::limits::BAD_CLASS;
+use base::limits::CONTEXT_KIND;
+use base::limits::LAST_NAMES_KIND;
+use base::limits::SEEN_SET_KIND;
+use base::limits::SETTING_LIMIT;
 ghost use mathlib.Core.Path.{_≡_};
 ghost use Rattle.model.specs.Fields.{settingsOk, classFault};
 
@@ -8,8 +11,9 @@ ghost use Rattle.model.specs.Fields.{settingsOk, classFault};
 pub fn settings_ok(kind: u8, x: u8, y: u8) -> bool
     ensures { λ r. ⌜ r ≡ settingsOk kind x y ⌝ }
 {
-    (kind == 0) & (((1 <= x) & (x <= SETTING_LIMIT)) & ((1 <= y) & (y <= x)))
-        | ((kind == 1) & ((x == 0) & (y == 0)) | (kind == 2) & ((x <= SETTING_LIMIT) & (y == 0)))
+    (kind == CONTEXT_KIND) & (((1 <= x) & (x <= SETTING_LIMIT)) & ((1 <= y) & (y <= x)))
+        | ((kind == SEEN_SET_KIND) & ((x == 0) & (y == 0))
+            | (kind == LAST_NAMES_KIND) & ((x <= SETTING_LIMIT) & (y == 0)))
 }
 
 // What refuses a class field with these bytes; 0 for nothing.

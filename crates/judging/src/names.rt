@@ -1,13 +1,18 @@
-// Names: which bytes they have, their order, and the refusals 5, 6 and 7.
-use crate::limits::BAD_NAME;
-use crate::limits::NAME_BYTES;
-use crate::limits::NAME_LIMIT;
-use crate::limits::NAME_ORDER;
-use crate::limits::TOO_MANY;
+// Names: which bytes they have, their order, and the refusals 5, 6 and 7; and the n-th of them, by its number.
+use crate::offsets::body;
+use crate::offsets::next_field;
+use base::limits::BAD_NAME;
+use base::limits::NAME_BYTES;
+use base::limits::NAME_LIMIT;
+use base::limits::NAME_ORDER;
+use base::limits::TOO_MANY;
 ghost use mathlib.Core.Path.{_≡_};
+ghost use Prim.Native.Nat.{_≤_};
+ghost use lib.ListN.{length};
 ghost use Rattle.model.specs.Fields.{startsName, continuesName, nameOk};
-ghost use Rattle.model.specs.Lists.{before};
+ghost use Rattle.base.specs.Lists.{before};
 ghost use Rattle.judging.specs.Judged.{NameJudged};
+ghost use Rattle.judging.specs.Offsets.{offsetAt, nameAt};
 
 // Whether a name may begin with this byte.
 pub fn starts_name(b: u8) -> bool
@@ -82,4 +87,22 @@ pub fn name_fault(last: &[u8], count: u8, name: &[u8]) -> u8
         return TOO_MANY;
     }
     0
+}
+
+// The bytes of name n of a list of `count` name fields, as a part of it; nothing where there is no such name. The list may stand at the
+// front of a file.
+pub fn name_at(list: &[u8], count: u8, n: u8) -> &[u8]
+    requires { ⌜ offsetAt (now list) 0 count ≤ length (now list) ⌝ }
+    ensures { λ r. ⌜ now r ≡ nameAt (now (list .entry)) count n ⌝ }
+{
+    if count <= n {
+        return &list[..0];
+    }
+    let mut at = 0;
+    let mut i: u8 = 0;
+    while i < n {
+        at = next_field(list, at);
+        i += 1;
+    }
+    body(list, at)
 }

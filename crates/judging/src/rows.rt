@@ -1,11 +1,11 @@
 // Rows and their refusals, 7 and 9.
-use crate::limits::BAD_ROW;
-use crate::limits::BOOK_ROWS;
-use crate::limits::ROW_LIMIT;
-use crate::limits::TOO_MANY;
+use base::limits::BAD_ROW;
+use base::limits::BOOK_ROWS;
+use base::limits::ROW_LIMIT;
+use base::limits::TOO_MANY;
 ghost use mathlib.Core.Path.{_≡_};
-ghost use Rattle.model.specs.Fields.{allBelow, rowOk};
-ghost use Rattle.judging.specs.Judged.{RowJudged};
+ghost use Rattle.model.specs.Fields.{allBelow, rowOk, rowFault};
+ghost use Rattle.judging.specs.Judged.{ItemJudged};
 
 // Whether each entry is the number of one of `names` names.
 pub fn all_below(names: u8, row: &[u8]) -> bool
@@ -30,7 +30,7 @@ pub fn row_ok(names: u8, row: &[u8]) -> bool
 
 // What refuses one more row after `count` rows; 0 for nothing.
 pub fn row_fault(names: u8, count: usize, row: &[u8]) -> u8
-    ensures { λ r. ⌜ RowJudged names count (now (row .entry)) r ⌝ }
+    ensures { λ r. ⌜ ItemJudged rowFault names count (now (row .entry)) r ⌝ }
 {
     if BOOK_ROWS <= count {
         return TOO_MANY;

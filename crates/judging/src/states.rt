@@ -1,10 +1,10 @@
 // State fields of tables and their refusals, 7 and 11.
-use crate::limits::BAD_STATE;
-use crate::limits::STATE_LIMIT;
-use crate::limits::TOO_MANY;
+use base::limits::BAD_STATE;
+use base::limits::STATE_LIMIT;
+use base::limits::TOO_MANY;
 ghost use mathlib.Core.Path.{_≡_};
-ghost use Rattle.model.specs.Fields.{stateOk};
-ghost use Rattle.judging.specs.Judged.{StateJudged};
+ghost use Rattle.model.specs.Fields.{stateOk, stateFault};
+ghost use Rattle.judging.specs.Judged.{ItemJudged};
 
 // Whether the bytes are a state field over `names` names; where the arcs lead is not judged here.
 pub fn state_ok(names: u8, state: &[u8]) -> bool
@@ -37,7 +37,7 @@ pub fn state_ok(names: u8, state: &[u8]) -> bool
 
 // What refuses one more state after `count` states; 0 for nothing.
 pub fn state_fault(names: u8, count: usize, state: &[u8]) -> u8
-    ensures { λ r. ⌜ StateJudged names count (now (state .entry)) r ⌝ }
+    ensures { λ r. ⌜ ItemJudged stateFault names count (now (state .entry)) r ⌝ }
 {
     if STATE_LIMIT <= count {
         return TOO_MANY;

@@ -1,34 +1,23 @@
 -- How long listings are: an arc takes at most 39 bytes, a state 8 more, the first line 25; so the listing of a book takes at most
 -- 32,768, and a refusal's text at most 14. Assumes nothing.
-use mathlib.Core.Path.{_≡_}
-use mathlib.Core.Bool.{true, _&&_, and-eq-true-iff}
 use mathlib.Core.List.{List, [], _∷_, _++_, flatMap}
 use Prim.Native.Nat.{ℕ, zero, suc, _+_, _*_, _≤_}
 use native.Mathlib.Omega.{arith}
-use lib.Dec.{leb}
 use lib.ListN.{length, getD, length-append}
-use borrow.Author.Tests.{leb-true}
-use Rattle.model.specs.Lists.{all}
-use Rattle.model.specs.Limits.{name-bytes}
-use Rattle.model.specs.Fields.{nameOk, startsName, continuesName}
+use Rattle.base.specs.Limits.{name-bytes, listing-bytes}
+use Rattle.model.specs.Fields.{Settings, Allowed}
 use Rattle.model.specs.Tables.{Arc, State}
 use Rattle.model.specs.Listing.{decimal, arcText, stateLine, stateLines, listing, refusalText}
 use Rattle.model.specs.Calls.{bookOf}
 use Rattle.model.specs.Claims.{Accepted}
 use Rattle.model.proofs.Books.{NamesOk, accepted-book}
+use Rattle.model.proofs.WrittenLengths.{name-length}
 use Rattle.model.proofs.Writable.{Writable, arcCount}
 use Rattle.writing.proofs.Digits.{decimal-length}
 
 -- every name is within its limit
 abbrev pub NamesShort : List (List ℕ) → Type 0
 NamesShort names = (i : ℕ) → length (getD names i []) ≤ name-bytes
-
-name-length : (n : List ℕ) → nameOk n ≡ true → length n ≤ name-bytes
-unfolding nameOk
-name-length [] ok = omega arith
-name-length (b ∷ bs) ok =
-    let n = length (b ∷ bs) in
-    leb-true n name-bytes (and-eq-true-iff (leb n name-bytes) (startsName b && all continuesName bs) .0 ok .0)
 
 pub names-short : (names more : List (List ℕ)) → NamesOk names more → NamesShort more
 names-short names [] ok i = omega arith
@@ -81,17 +70,15 @@ module _ (names : List (List ℕ)) (short : NamesShort names) where
       simp length-append
       (omega (arith, decimal-length (length states), decimal-length joins, state-lines-length 0 states))
 
--- a text of so many bytes takes every listing
-abbrev pub listing-bytes : ℕ
-listing-bytes = 32768
-
 -- the listing of an accepted book, of states that can be written
 pub book-listing-length :
-    (s : List ℕ) (states : List State) (joins : ℕ) → Accepted s → Writable (length (bookOf s .names)) states →
-    length (listing (bookOf s .names) states joins) ≤ listing-bytes
-book-listing-length s states joins ok w =
-    let short = names-short [] (bookOf s .names) (accepted-book s ok .1 .names-ok) in
-    omega (arith, listing-length (bookOf s .names) short states joins, w .few-states, w .few-arcs)
+    (settings : Settings) → Allowed settings → (s : List ℕ) (states : List State) (joins : ℕ) → Accepted settings s →
+    Writable (length (bookOf settings s .names)) states →
+    length (listing (bookOf settings s .names) states joins) ≤ listing-bytes
+book-listing-length settings allowed s states joins ok w =
+    let names = bookOf settings s .names in
+    let short = names-short [] names (accepted-book settings allowed s ok .1 .names-ok) in
+    omega (arith, listing-length names short states joins, w .few-states, w .few-arcs)
 
 pub refusal-text-length : (n : ℕ) → length (refusalText n) ≤ 14
 unfolding refusalText

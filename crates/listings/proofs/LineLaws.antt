@@ -6,11 +6,12 @@ use Prim.Native.Nat.{ℕ, _+_, _≤_, _<_}
 use native.Mathlib.Numerals.{add-one}
 use lib.ListN.{length, getD, drop, drop-of-length-le}
 use lib.Seq.{drop-cons}
-use Rattle.model.specs.Tables.{Arc, arc, State, no-state, stateIn}
+use Rattle.model.specs.Tables.{Arc, arc, State, empty-state, stateIn}
 use Rattle.model.specs.Listing.{arcText, stateLine, stateLines, listing}
 use Rattle.tables.specs.Arcs.{targetAt}
 use Rattle.tables.proofs.ArcLaws.{arcsFrom, arcs-all, arcs-turn, arcs-end}
-use Rattle.listings.specs.Texts.{Fits, Puts, firstLine}
+use Rattle.writing.specs.Writing.{Fits, Put}
+use Rattle.listings.specs.Texts.{firstLine}
 use Rattle.listings.proofs.TextLaws.{Writing, begins, finishes}
 
 -- of the arcs of a state's field those from offset i on are left to write
@@ -39,7 +40,7 @@ module _ (names : List (List ℕ)) (s : List ℕ) where
 
   pub arcs-finish :
       (i : ℕ) {text₀ : List ℕ} {at : ℕ} {whole text : List ℕ} {next : ℕ} → length s ≤ i →
-      Writing text₀ at whole text next (flatMap (arcText names) (arcsFrom s i)) → Puts text₀ text at whole next
+      Writing text₀ at whole text next (flatMap (arcText names) (arcsFrom s i)) → Put text₀ text at whole next
   unfolding flatMap
   arcs-finish i {text₀} {at} {whole} {text} {next} h w =
       finishes (subst (Writing text₀ at whole text next) (ap (flatMap (arcText names)) (arcs-end s i h)) w)
@@ -52,20 +53,20 @@ StatesWriting names states text₀ at text next i =
 module _ (names : List (List ℕ)) (states : List State) (i : ℕ) {text₀ : List ℕ} {at : ℕ} {whole text : List ℕ} {next : ℕ} where
   -- the next state's line comes first of what is left
   pub states-next :
-      (s : State) → i < length states → s ≡ getD states i no-state →
+      (s : State) → i < length states → s ≡ getD states i empty-state →
       Writing text₀ at whole text next (stateLines names i (drop i states)) →
       Writing text₀ at whole text next (stateLine names i s ++ stateLines names (i + 1) (drop (i + 1) states))
   unfolding stateLines
   states-next s h e w =
       let rest = stateLines names (i + 1) (drop (i + 1) states) in
       subst (Writing text₀ at whole text next)
-      (ap (stateLines names i) (drop-cons states i no-state h)
-      ∙ ap (λ (j : ℕ). stateLine names i (getD states i no-state) ++ stateLines names j (drop j states)) (sym (add-one i))
+      (ap (stateLines names i) (drop-cons states i empty-state h)
+      ∙ ap (λ (j : ℕ). stateLine names i (getD states i empty-state) ++ stateLines names j (drop j states)) (sym (add-one i))
       ∙ ap (λ (t : State). stateLine names i t ++ rest) (sym e))
       w
 
   pub states-finish :
-      length states ≤ i → Writing text₀ at whole text next (stateLines names i (drop i states)) → Puts text₀ text at whole next
+      length states ≤ i → Writing text₀ at whole text next (stateLines names i (drop i states)) → Put text₀ text at whole next
   unfolding stateLines
   states-finish h w =
       finishes (subst (Writing text₀ at whole text next) (ap (stateLines names i) (drop-of-length-le states h)) w)

@@ -6,9 +6,8 @@ use Prim.Native.Nat.{ℕ, _+_, _≤_}
 use native.Mathlib.Nat.{add-zero}
 use native.Mathlib.Omega.{arith}
 use lib.ListN.{length, length-append}
-use Rattle.writing.specs.Writing.{Written}
+use Rattle.writing.specs.Writing.{Written, Fits, Put}
 use Rattle.writing.proofs.WritingLaws.{none-written, written-append, written-length}
-use Rattle.listings.specs.Texts.{Fits, Puts}
 
 -- of `whole`, which is to stand from `at` on, all is written but `left`, which comes at `next`
 pub record Writing (text₀ : List ℕ) (at : ℕ) (whole text : List ℕ) (next : ℕ) (left : List ℕ) : Type 0 where
@@ -41,7 +40,7 @@ module _ {text₀ : List ℕ} {at : ℕ} {whole text : List ℕ} {next : ℕ} wh
   -- the first piece written
   pub goes :
       (piece left : List ℕ) {text′ : List ℕ} {after : ℕ} → Writing text₀ at whole text next (piece ++ left) →
-      Puts text text′ next piece after → Writing text₀ at whole text′ after left
+      Put text text′ next piece after → Writing text₀ at whole text′ after left
   goes piece left w p =
       let far = w .ends in
       let end = p .ends in
@@ -54,25 +53,23 @@ module _ {text₀ : List ℕ} {at : ℕ} {whole text : List ℕ} {next : ℕ} wh
       }
 
   -- nothing left
-  pub finishes : Writing text₀ at whole text next [] → Puts text₀ text at whole next
+  pub finishes : Writing text₀ at whole text next [] → Put text₀ text at whole next
   finishes w =
       let is : w .done ≡ whole = sym (append-nil (w .done)) ∙ w .all in
       record {
         written = subst (Written text₀ text at) is (w .written);
-        counted = refl;
         ends = w .ends ∙ ap (λ (l : List ℕ). at + length l) is;
       }
 
   -- the last piece written
   pub ends-with :
-      (piece : List ℕ) {text′ : List ℕ} {after : ℕ} → Writing text₀ at whole text next piece → Puts text text′ next piece after →
-      Puts text₀ text′ at whole after
+      (piece : List ℕ) {text′ : List ℕ} {after : ℕ} → Writing text₀ at whole text next piece → Put text text′ next piece after →
+      Put text₀ text′ at whole after
   ends-with piece {text′} {after} w p =
       let far = w .ends in
       let end = p .ends in
       let size = parts w in
       record {
         written = subst (Written text₀ text′ at) (w .all) (written-append (w .written) (p .written) far (omega (arith, w .fits)));
-        counted = refl;
         ends = omega arith;
       }

@@ -1,72 +1,35 @@
 // The arcs of a state's line: each a space, its name, `>`, its target.
 use crate::words::SPACE;
 use crate::words::TO;
-use crate::words::put_byte;
 use fields::Place;
-use fields::offsets::body;
-use fields::offsets::body_len;
-use fields::offsets::next_field;
+use judging::names::name_at;
+use judging::offsets::body;
+use tables::arcs::target_at;
 use writing::copy_in;
 use writing::decimals::put_decimal;
-ghost use mathlib.Core.Path.{_≡_};
+use writing::put_byte;
 ghost use mathlib.Core.List.{flatMap};
-ghost use Prim.Native.Nat.{_+_, _≤_, _<_};
-ghost use lib.ListN.{length};
+ghost use Prim.Native.Nat.{_+_, _<_};
+ghost use Rattle.base.specs.Limits.{number-limit};
 ghost use Rattle.model.specs.Tables.{arc};
 ghost use Rattle.model.specs.Listing.{arcText};
-ghost use Rattle.fields.specs.Offsets.{offsetAt};
 ghost use Rattle.fields.specs.Places.{Sound};
-ghost use Rattle.tables.specs.Arcs.{IsTarget};
 ghost use Rattle.tables.specs.Accepting.{StateField};
-ghost use Rattle.listings.specs.Texts.{Fits, Puts, namesAt, nameAt, stateAt};
-
-// Where the n-th name's field begins, names being the first fields of a table.
-fn name_offset(table: &[u8], n: u8) -> usize
-    requires { ⌜ offsetAt (now table) 0 n ≤ length (now table) ⌝ }
-    ensures { λ r. ⌜ r ≡ offsetAt (now (table .entry)) 0 n ⌝ }
-{
-    let mut at = 0;
-    let mut i: u8 = 0;
-    while i < n {
-        at = next_field(table, at);
-        i += 1;
-    }
-    at
-}
-
-// The n-th name's bytes; nothing where there is no such name.
-fn put_name(table: &[u8], place: Place, n: u8, text: &mut [u8], at: usize) -> usize
-    requires { ⌜ Sound (now table) place ⌝ }
-    requires { ⌜ Fits (now text) at (nameAt (now table) place n) ⌝ }
-    ensures { λ r. ⌜ Puts (now (text .entry)) (now (text .exit)) at (nameAt (now (table .entry)) place n) r ⌝ }
-{
-    if place.names <= n {
-        return at;
-    }
-    let from = name_offset(table, n);
-    copy_in(text, at, body(table, from))
-}
+ghost use Rattle.writing.specs.Writing.{Fits, Put};
+ghost use Rattle.listings.specs.Texts.{namesAt, stateAt};
 
 // An arc with this name and target.
 fn put_arc(table: &[u8], place: Place, name: u8, target: usize, text: &mut [u8], at: usize) -> usize
     requires { ⌜ Sound (now table) place ⌝ }
-    requires { ⌜ target < 65536 ⌝ }
+    requires { ⌜ target < number-limit ⌝ }
     requires { ⌜ Fits (now text) at (arcText (namesAt (now table) place) (arc name target)) ⌝ }
-    ensures { λ r. ⌜ Puts (now (text .entry)) (now (text .exit)) at
+    ensures { λ r. ⌜ Put (now (text .entry)) (now (text .exit)) at
         (arcText (namesAt (now (table .entry)) place) (arc name target)) r ⌝ }
 {
     let mut next = put_byte(text, at, SPACE);
-    next = put_name(table, place, name, text, next);
+    next = copy_in(text, next, name_at(table, place.names, name));
     next = put_byte(text, next, TO);
     put_decimal(text, next, target)
-}
-
-// The target of the arc at an offset: two bytes after its name, as a field's length stands after its mark.
-fn target_at(state: &[u8], i: usize) -> usize
-    requires { ⌜ i + 3 ≤ length (now state) ⌝ }
-    ensures { λ r. ⌜ IsTarget (now (state .entry)) i r ⌝ }
-{
-    body_len(state, i)
 }
 
 // The arcs of the state whose field stands at `from`.
@@ -74,7 +37,7 @@ pub fn put_arcs(table: &[u8], place: Place, from: usize, text: &mut [u8], at: us
     requires { ⌜ Sound (now table) place ⌝ }
     requires { ⌜ StateField (now table) from ⌝ }
     requires { ⌜ Fits (now text) at (flatMap (arcText (namesAt (now table) place)) (stateAt (now table) from .arcs)) ⌝ }
-    ensures { λ r. ⌜ Puts (now (text .entry)) (now (text .exit)) at
+    ensures { λ r. ⌜ Put (now (text .entry)) (now (text .exit)) at
         (flatMap (arcText (namesAt (now (table .entry)) place)) (stateAt (now (table .entry)) from .arcs)) r ⌝ }
 {
     let state = body(table, from);

@@ -4,22 +4,24 @@
 mod arcs;
 mod words;
 
-use cells::numbers::wide8;
+use base::numbers::wide8;
 use fields::Place;
-use fields::offsets::next_field;
+use judging::offsets::next_field;
 use tables::accepts;
 use words::NEWLINE;
 use words::SPACE;
-use words::put_byte;
 use words::put_first_line;
 use writing::copy_in;
 use writing::decimals::put_decimal;
+use writing::put_byte;
 ghost use Prim.Native.Nat.{_<_};
+ghost use Rattle.base.specs.Limits.{number-limit};
 ghost use Rattle.model.specs.Listing.{stateLine, stateLines, listing, refusalText};
 ghost use Rattle.model.specs.Calls.{tableOf, tableStates};
 ghost use Rattle.fields.specs.Places.{Sound};
 ghost use Rattle.tables.specs.Accepting.{TableRead, StateField};
-ghost use Rattle.listings.specs.Texts.{Fits, Puts, namesAt, stateAt};
+ghost use Rattle.writing.specs.Writing.{Fits, Put};
+ghost use Rattle.listings.specs.Texts.{namesAt, stateAt};
 
 // The line of state i, whose field stands at `from`.
 fn put_state_line(
@@ -32,9 +34,9 @@ fn put_state_line(
 ) -> usize
     requires { ⌜ Sound (now table) place ⌝ }
     requires { ⌜ StateField (now table) from ⌝ }
-    requires { ⌜ i < 65536 ⌝ }
+    requires { ⌜ i < number-limit ⌝ }
     requires { ⌜ Fits (now text) at (stateLine (namesAt (now table) place) i (stateAt (now table) from)) ⌝ }
-    ensures { λ r. ⌜ Puts (now (text .entry)) (now (text .exit)) at
+    ensures { λ r. ⌜ Put (now (text .entry)) (now (text .exit)) at
         (stateLine (namesAt (now (table .entry)) place) i (stateAt (now (table .entry)) from)) r ⌝ }
 {
     let mut next = put_decimal(text, at, i);
@@ -48,7 +50,7 @@ fn put_state_line(
 fn put_states(table: &[u8], place: Place, text: &mut [u8], at: usize) -> usize
     requires { ⌜ TableRead (now table) place ⌝ }
     requires { ⌜ Fits (now text) at (stateLines (namesAt (now table) place) 0 (tableStates (now table))) ⌝ }
-    ensures { λ r. ⌜ Puts (now (text .entry)) (now (text .exit)) at
+    ensures { λ r. ⌜ Put (now (text .entry)) (now (text .exit)) at
         (stateLines (namesAt (now (table .entry)) place) 0 (tableStates (now (table .entry)))) r ⌝ }
 {
     let items = place.items;
@@ -66,9 +68,9 @@ fn put_states(table: &[u8], place: Place, text: &mut [u8], at: usize) -> usize
 // The listing of a table as read, at the front of the text; its length.
 pub fn list_table(table: &[u8], place: Place, joins: usize, text: &mut [u8]) -> usize
     requires { ⌜ TableRead (now table) place ⌝ }
-    requires { ⌜ joins < 65536 ⌝ }
+    requires { ⌜ joins < number-limit ⌝ }
     requires { ⌜ Fits (now text) 0 (listing (tableOf (now table) .names) (tableStates (now table)) joins) ⌝ }
-    ensures { λ r. ⌜ Puts (now (text .entry)) (now (text .exit)) 0
+    ensures { λ r. ⌜ Put (now (text .entry)) (now (text .exit)) 0
         (listing (tableOf (now (table .entry)) .names) (tableStates (now (table .entry))) joins) r ⌝ }
 {
     let next = put_first_line(place.items, joins, text);
@@ -78,7 +80,7 @@ pub fn list_table(table: &[u8], place: Place, joins: usize, text: &mut [u8]) -> 
 // `refused N`, at the front; its length.
 pub fn refusal_text(number: u8, text: &mut [u8]) -> usize
     requires { ⌜ Fits (now text) 0 (refusalText number) ⌝ }
-    ensures { λ r. ⌜ Puts (now (text .entry)) (now (text .exit)) 0 (refusalText number) r ⌝ }
+    ensures { λ r. ⌜ Put (now (text .entry)) (now (text .exit)) 0 (refusalText number) r ⌝ }
 {
     let mut next = copy_in(text, 0, b"refused ");
     next = put_decimal(text, next, wide8(number));

@@ -1,11 +1,13 @@
 // The words and marks of a listing, and its first line.
 use writing::copy_in;
 use writing::decimals::put_decimal;
+use writing::put_byte;
 ghost use mathlib.Core.Path.{_≡_};
 ghost use mathlib.Core.Bool.{cond};
-ghost use mathlib.Core.List.{[], _∷_};
 ghost use Prim.Native.Nat.{_<_};
-ghost use Rattle.listings.specs.Texts.{Fits, Puts, firstLine};
+ghost use Rattle.base.specs.Limits.{number-limit};
+ghost use Rattle.writing.specs.Writing.{Fits, Put};
+ghost use Rattle.listings.specs.Texts.{firstLine};
 
 // Between a line's parts, at its end, and between an arc's name and target.
 pub const SPACE: u8 = b' ';
@@ -21,21 +23,12 @@ pub fn sign(accepting: bool) -> u8
     if accepting { b'+' } else { b'-' }
 }
 
-// One byte.
-pub fn put_byte(text: &mut [u8], at: usize, byte: u8) -> usize
-    requires { ⌜ Fits (now text) at (byte ∷ []) ⌝ }
-    ensures { λ r. ⌜ Puts (now (text .entry)) (now (text .exit)) at (byte ∷ []) r ⌝ }
-{
-    text[at] = byte;
-    at + 1
-}
-
 // `states N joins M`, at the front.
 pub fn put_first_line(states: usize, joins: usize, text: &mut [u8]) -> usize
-    requires { ⌜ states < 65536 ⌝ }
-    requires { ⌜ joins < 65536 ⌝ }
+    requires { ⌜ states < number-limit ⌝ }
+    requires { ⌜ joins < number-limit ⌝ }
     requires { ⌜ Fits (now text) 0 (firstLine states joins) ⌝ }
-    ensures { λ r. ⌜ Puts (now (text .entry)) (now (text .exit)) 0 (firstLine states joins) r ⌝ }
+    ensures { λ r. ⌜ Put (now (text .entry)) (now (text .exit)) 0 (firstLine states joins) r ⌝ }
 {
     let mut next = copy_in(text, 0, b"states ");
     next = put_decimal(text, next, states);

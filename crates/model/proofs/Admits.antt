@@ -11,13 +11,13 @@ use lib.Dec.{eqb, eqb·suc-zero}
 use lib.ListN.{length, getD}
 use borrow.Author.Tests.{eq-eqb, ne-eqb}
 use Rattle.model.specs.Classes.{Word}
-use Rattle.model.specs.Lists.{indexIn}
-use Rattle.model.specs.Tables.{Arc, arc, State, no-state, targetIn, Walk, walk-at, walkFrom, walk, reachedState, admits}
-use Rattle.model.specs.Joinings.{Transition, transition, transitionsOf, groupAt, groupAccepts}
+use Rattle.base.specs.Lists.{indexIn}
+use Rattle.model.specs.Tables.{Arc, arc, State, empty-state, targetIn, Walk, walk-at, walkFrom, walk, reachedState, admits}
+use Rattle.model.specs.Joinings.{Transition, transition, transitionsOf, groupAt, groupAccepts, Deterministic}
 use Rattle.model.specs.Quotients.{arcsOutOf, metGroups, renumbered, stateOf, statesOf}
-use Rattle.model.proofs.Tests.{Tells, tells-and, tells-by, tells-eqb, tells-itself, eq-dec}
-use Rattle.model.proofs.Places.{map-at-index}
-use Rattle.model.proofs.Notions.{Tree, Fits, Walks, Deterministic}
+use Rattle.base.proofs.Tests.{Tells, tells-and, tells-by, tells-eqb, tells-itself, eq-dec}
+use Rattle.base.proofs.Places.{map-at-index}
+use Rattle.model.proofs.Notions.{Tree, Fits, Walks}
 use Rattle.model.proofs.Transitions.{walks-unique}
 use Rattle.model.proofs.Arcs.{arcsOutOf-in, in-arcsOutOf}
 use Rattle.model.proofs.FirstMet.{met-root, root-met, met-closed}
@@ -61,16 +61,16 @@ module _ (rows nodes : List Word) (groups : List ℕ) where
   -- the state of a group met stands at its place
   pub state-of-met :
       (g : ℕ) → In g (metGroups nodes groups) →
-      getD (statesOf rows nodes groups) (indexIn g (metGroups nodes groups)) no-state
+      getD (statesOf rows nodes groups) (indexIn g (metGroups nodes groups)) empty-state
       ≡ stateOf rows nodes groups (metGroups nodes groups) g
   unfolding statesOf
   state-of-met g m =
-      map-at-index (stateOf rows nodes groups (metGroups nodes groups)) no-state (metGroups nodes groups) g m
+      map-at-index (stateOf rows nodes groups (metGroups nodes groups)) empty-state (metGroups nodes groups) g m
 
   -- its target by a name is that among the renumbered arcs of the group
   target-of-met :
       (g a : ℕ) → In g (metGroups nodes groups) →
-      targetIn a (getD (statesOf rows nodes groups) (indexIn g (metGroups nodes groups)) no-state .arcs)
+      targetIn a (getD (statesOf rows nodes groups) (indexIn g (metGroups nodes groups)) empty-state .arcs)
       ≡ targetIn a (renumbered (metGroups nodes groups) (arcsOutOf g (transitionsOf nodes groups)))
   unfolding stateOf
   target-of-met g a m = ap (λ (s : State). targetIn a (s .arcs)) (state-of-met g m)
@@ -78,7 +78,7 @@ module _ (rows nodes : List Word) (groups : List ℕ) where
   -- the state of a group met accepts exactly when the group does
   accepts-of-met :
       (g : ℕ) → In g (metGroups nodes groups) →
-      Tells (getD (statesOf rows nodes groups) (indexIn g (metGroups nodes groups)) no-state .accepts)
+      Tells (getD (statesOf rows nodes groups) (indexIn g (metGroups nodes groups)) empty-state .accepts)
       (groupAccepts rows nodes groups g ≡ true)
   unfolding stateOf
   accepts-of-met g m =
@@ -93,13 +93,13 @@ module _ (states : List State) (q n x : ℕ) (xs : List ℕ) where
   onward t = elim (eqb t 0) [ true ↦ walk-at q n | false ↦ walkFrom states (t - 1) (suc n) xs ]
 
   -- no target: the walk stops here
-  pub walk-stops : targetIn x (getD states q no-state .arcs) ≡ 0 → walkFrom states q n (x ∷ xs) ≡ walk-at q n
+  pub walk-stops : targetIn x (getD states q empty-state .arcs) ≡ 0 → walkFrom states q n (x ∷ xs) ≡ walk-at q n
   unfolding walkFrom
   walk-stops e = ap onward e
 
   -- a target: the walk goes on from there, one name further
   pub walk-goes :
-      (k : ℕ) → targetIn x (getD states q no-state .arcs) ≡ suc k →
+      (k : ℕ) → targetIn x (getD states q empty-state .arcs) ≡ suc k →
       walkFrom states q n (x ∷ xs) ≡ walkFrom states k (suc n) xs
   unfolding walkFrom
   walk-goes k e =
@@ -168,7 +168,7 @@ module _
 
 -- the test of `admits` once the walk is known
 abbrev admitsBy : List State → Word → Walk → Bool
-admitsBy states r w = eqb (w .taken) (length r) && getD states (w .at-state) no-state .accepts
+admitsBy states r w = eqb (w .taken) (length r) && getD states (w .at-state) empty-state .accepts
 
 -- admitted is what leads from the root's group to an accepting one
 pub tells-admits :
@@ -214,6 +214,6 @@ tells-admits rows nodes groups tree fits det r =
         let fewer : walkFrom states 0 0 r .taken < 0 + length r = subst (λ (v : Walk). v .taken < 0 + length r) from-root few in
         tells-by
         (tells-and (tells-eqb (walkFrom states 0 0 r .taken) (length r))
-        (tells-itself (getD states (walkFrom states 0 0 r .at-state) no-state .accepts)))
+        (tells-itself (getD states (walkFrom states 0 0 r .at-state) empty-state .accepts)))
         (λ both. let taken : walkFrom states 0 0 r .taken ≡ length r = both .0 in let z : ⊥ = omega arith in absurd z)
         (λ h. absurd (none (h .0) (h .1)))

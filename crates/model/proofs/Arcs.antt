@@ -9,15 +9,9 @@ use Prim.Native.Nat.{ℕ, suc, _≤_}
 use native.Mathlib.Omega.{arith}
 use lib.Dec.{eqb, ltb}
 use borrow.Author.Tests.{eqb-true, eqb-false, eq-eqb, ltb-true, ltb-false}
-use Rattle.model.specs.Tables.{Arc, arc}
-use Rattle.model.specs.Joinings.{Transition, transition}
+use Rattle.model.specs.Tables.{Arc, arc, Ascending}
+use Rattle.model.specs.Joinings.{Transition, transition, Deterministic}
 use Rattle.model.specs.Quotients.{putArc, arcsOutOf}
-use Rattle.model.proofs.Notions.{Deterministic}
-
--- names ascend strictly, from `next` on
-abbrev pub Ascending : ℕ → List Arc → Type 0
-Ascending next [] = Unit {0}
-Ascending next (a ∷ arcs) = (next ≤ a .name) × Ascending (suc (a .name)) arcs
 
 -- no name is below where they begin
 pub ascending-low : (next : ℕ) (arcs : List Arc) (z : Arc) → Ascending next arcs → In z arcs → next ≤ z .name

@@ -8,16 +8,16 @@ use mathlib.Core.List.{List·Memᴰ·tail as there}
 use mathlib.Core.List.{List·Memᴰ·not-nil, List·Memᴰ·cases-cons, List·Memᴰ·append-cases, List·Memᴰ·eq-of-singleton}
 use Prim.Native.Nat.{ℕ, suc, _≤_, _<_}
 use native.Mathlib.Omega.{arith}
-use lib.Dec.{ltb, leb}
+use lib.Dec.{leb}
 use lib.ListN.{length, length-append}
-use Rattle.model.specs.Limits.{row-limit, state-limit, when, tree-too-large}
-use Rattle.model.specs.Fields.{File, unread, default-class, book, readFields, readWith, withField, classOk, allBelow}
-use Rattle.model.specs.Joinings.{treeOf}
-use Rattle.model.specs.Calls.{bookOf, bookFault}
+use Rattle.base.specs.Limits.{row-limit}
+use Rattle.model.specs.Fields.{Class, ClassOk, Settings, Allowed, File, unread, book, readBook, readWith, withField}
+use Rattle.model.specs.Fields.{classOk, allBelow}
+use Rattle.model.specs.Calls.{bookOf, treeFault, bookFault}
 use Rattle.model.specs.Claims.{Accepted}
-use Rattle.model.proofs.Tests.{Tells, tells-by, tells-and, tells-ltb}
-use Rattle.model.proofs.FieldLaws.{NameFits, RowFits, Fitting, a-name, a-class, a-row, a-state, fitting, first-of}
-use Rattle.model.proofs.FieldLaws.{ClassOk, class-parts}
+use Rattle.base.proofs.Tests.{Tells, tells-by, tells-and, tells-ltb}
+use Rattle.model.proofs.FieldLaws.{NameFits, RowFits, Fitting, a-name, a-class, a-row, a-state, fitting}
+use Rattle.model.proofs.FieldLaws.{first-of, class-parts}
 use Rattle.model.proofs.Turns.{read-keeps}
 
 -- the second names may come one by one after the first
@@ -55,12 +55,12 @@ pub record BookOk (f : File) : Type 0 where
   pub rows-below : (r : List ℕ) → In r (f .items) → allBelow (length (f .names)) r ≡ true
 
 -- before the first field
-nothing-read : BookOk (unread default-class)
-nothing-read =
+nothing-read : (c : Class) → ClassOk c → BookOk (unread c)
+nothing-read c ok =
     record {
       names-ok = tt;
       named = λ h. let z : ⊥ = omega arith in absurd z;
-      class-ok = refl;
+      class-ok = ok;
       no-rows = λ h. refl;
       some-row = λ h. let z : ⊥ = omega arith in absurd z;
       rows-below = λ r m. absurd (List·Memᴰ·not-nil m);
@@ -120,10 +120,12 @@ book-step f mark body (a-row k e high fits) ok =
 book-step f mark body (a-state k e high fits) ok = absurd (false≢true k)
 
 -- an accepted book is read to the end, and is sound
-pub accepted-book : (s : List ℕ) → Accepted s → (bookOf s .stage ≡ 3) × BookOk (bookOf s)
+pub accepted-book :
+    (settings : Settings) → Allowed settings → (s : List ℕ) → Accepted settings s →
+    (bookOf settings s .stage ≡ 3) × BookOk (bookOf settings s)
 unfolding bookOf bookFault readWith
-accepted-book s ok =
+accepted-book settings allowed s ok =
     read-keeps book (λ f rest. BookOk f)
     (λ f mark a b body rest size fit h. book-step f mark body (fitting book f mark body fit) h)
-    (suc (length s)) (unread default-class) s nothing-read
-    (first-of (readFields book s .number) (when (ltb state-limit (length (treeOf (bookOf s .items)))) tree-too-large) ok .0)
+    (suc (length s)) (unread (settings .default-class)) s (nothing-read (settings .default-class) allowed)
+    (first-of (readBook settings s .number) (treeFault (bookOf settings s .items)) ok .0)

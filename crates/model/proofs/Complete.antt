@@ -7,8 +7,8 @@ use Prim.Native.Nat.{ℕ}
 use lib.Dec.{eqb}
 use Rattle.model.specs.Fields.{Class}
 use Rattle.model.specs.Classes.{Word, fOf}
-use Rattle.model.specs.Joinings.{transition, transitionsOf, groupAt, memberOf, fOfGroup, isFull}
-use Rattle.model.proofs.Notions.{Tree, Fits, Walks, Ways, OneContext, Closed, Inside, Ker, SameF, Deterministic, _▸_}
+use Rattle.model.specs.Joinings.{transition, transitionsOf, groupAt, memberOf, fOfGroup, isFull, Deterministic}
+use Rattle.model.proofs.Notions.{Tree, Fits, Walks, Ways, OneContext, Closed, Inside, Ker, SameF, _▸_}
 use Rattle.model.proofs.Groups.{group-in, member-of, tells-accepts}
 use Rattle.model.proofs.Transitions.{in-transitions, target-in}
 use Rattle.model.proofs.Rules.{Ruled, forked, by-context, by-ends, by-back, TwoPaths, full-equal}

@@ -8,8 +8,8 @@ use lib.ListN.{length, getD, take, drop, length-append, take-append-drop}
 use lib.Seq.{length-take-le}
 use Rattle.model.specs.Classes.{Word}
 use Rattle.model.specs.Joinings.{Transition, Route, routesFrom, byContext}
-use Rattle.model.proofs.Tests.{Tells, tells-same, tells-and, tells-by, tells-anyTwo}
-use Rattle.model.proofs.Lists.{in-flatMap, flatMap-in}
+use Rattle.base.proofs.Tests.{Tells, tells-same, tells-and, tells-by, tells-anyTwo}
+use Rattle.base.proofs.Lists.{in-flatMap, flatMap-in}
 use Rattle.model.proofs.Routes.{tells-afterSameArc, Through, RouteBy, route-length, route-through, route-by}
 use Rattle.model.proofs.Notions.{Walks}
 

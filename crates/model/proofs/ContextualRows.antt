@@ -7,11 +7,11 @@ use Prim.Native.Nat.{ℕ, suc, _+_, _-_, _≤_}
 use native.Mathlib.Omega.{arith}
 use lib.ListN.{length, take, drop, length-append}
 use lib.Seq.{take-append-seam, drop-append-seam, take-append-le, take-append-add, take-at}
-use Rattle.model.specs.Lists.{all, numbersFrom, same, hasRow}
+use Rattle.base.specs.Lists.{all, numbersFrom, same, hasRow}
 use Rattle.model.specs.Classes.{Word, Contextual}
 use Rattle.model.specs.Sources.{Listed}
-use Rattle.model.proofs.Tests.{tells-or, tells-not, tells-same, tells-itself, tells-all, tells-hasRow}
-use Rattle.model.proofs.Places.{in-numbersFrom}
+use Rattle.base.proofs.Tests.{tells-or, tells-not, tells-same, tells-itself, tells-all, tells-hasRow}
+use Rattle.base.proofs.Places.{in-numbersFrom}
 
 -- each tail of u among the rows is one of w
 unfoldable pub tailsWithin : List Word → Word → Word → Bool

@@ -11,14 +11,14 @@ use lib.ListN.{length, getD, take, drop, take-append-drop, length-drop}
 use lib.Seq.{length-take-le}
 use borrow.Author.Tests.{eq-eqb}
 use Rattle.model.specs.Fields.{Class, File}
-use Rattle.model.specs.Lists.{indexIn}
+use Rattle.base.specs.Lists.{indexIn}
 use Rattle.model.specs.Classes.{Word, Contextual}
 use Rattle.model.specs.Tables.{State, Walk, walkFrom}
 use Rattle.model.specs.Joinings.{Transition, transitionsOf, treeOf, joinedGroups}
 use Rattle.model.specs.Quotients.{metGroups, statesOf, bookStates}
 use Rattle.model.specs.Sources.{AdmittedBy, Reaches, AdmittedFrom, ContextualStates, ContextualTails}
 use Rattle.model.specs.Sources.{AllReached, Canonical}
-use Rattle.model.proofs.Places.{nth-in, index-of-nth}
+use Rattle.base.proofs.Places.{nth-in, index-of-nth}
 use Rattle.model.proofs.Notions.{Walks}
 use Rattle.model.proofs.Transitions.{walks-split, walks-unique}
 use Rattle.model.proofs.Rules.{Ruled, full-equal}
@@ -160,7 +160,7 @@ module _ (c : Class) (rows : List Word) (groups : List ℕ) (joined : Joined c r
       low = omega (arith, states-length nodes groups (treeOf-tree rows) (joined .fits) rows)
 
       from-met : In from met
-      from-met = nth-in met p low
+      from-met = nth-in 0 met p low
 
       place-is : indexIn from met ≡ p
       place-is = index-of-nth met p (met-distinct nodes groups (treeOf-tree rows) (joined .fits)) low
@@ -198,7 +198,7 @@ module _ (c : Class) (rows : List Word) (groups : List ℕ) (joined : Joined c r
       ts : List Transition
       ts = transitionsOf nodes groups
 
-      -- the rest of the names leads on from the group after the i-th
+      -- the rest of the names can be walked from the group after the i-th
       onward :
           (from at to i : ℕ) (a : Word) → Walks ts from (take i a) at → Walks ts from a to → Walks ts at (drop i a) to
       onward from at to i a f g =

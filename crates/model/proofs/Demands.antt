@@ -9,17 +9,17 @@ use native.Mathlib.Omega.{arith}
 use lib.Dec.{ltb}
 use lib.ListN.{length}
 use borrow.Author.Tests.{ltb-false, le-ltb}
-use Rattle.model.specs.Limits.{state-limit, input-limit, work-bytes, when, bad-sizes, tree-too-large}
-use Rattle.model.specs.Fields.{File, file, Class, Read, table, book, readFields, accepted-file}
+use Rattle.base.specs.Limits.{state-limit, input-limit, work-bytes, table-bytes, when, bad-sizes, tree-too-large}
+use Rattle.model.specs.Fields.{Settings, Allowed, File, file, Class, Read, readBook, readTable, accepted-file}
 use Rattle.model.specs.Tables.{State, stateBody, statesIn, isFirstMet, tableBytes}
 use Rattle.model.specs.Classes.{Word}
 use Rattle.model.specs.Joinings.{Step, treeOf, apart, isFullJoining, afterSteps, joinedGroups}
 use Rattle.model.specs.Quotients.{statesOf, bookStates, bookTable, tableAfter}
-use Rattle.model.specs.Calls.{bookOf, bookFault, sizesFault, tableOf, tableFault, tableStates}
+use Rattle.model.specs.Calls.{bookOf, treeFault, bookFault, sizesFault, tableOf, tableFault, tableStates}
 use Rattle.model.specs.Claims.{Accepted, allAmong, SameBook, DefiningJoining, Demand-3}
 use Rattle.model.specs.Claims.{Same-bytes, Reads-back, Demands}
-use Rattle.model.proofs.Lists.{same-length}
-use Rattle.model.proofs.Tests.{tells-hasRow, tells-all, or-false}
+use Rattle.base.proofs.Lists.{same-length}
+use Rattle.base.proofs.Tests.{tells-hasRow, tells-all, or-false}
 use Rattle.model.proofs.Notions.{_▸_}
 use Rattle.model.proofs.Trees.{treeOf-tree, node-begins-row, same-nodes}
 use Rattle.model.proofs.Ends.{joined-is-full-joining}
@@ -29,19 +29,20 @@ use Rattle.model.proofs.Writable.{Writable}
 use Rattle.model.proofs.FieldLaws.{first-of, when-none}
 use Rattle.model.proofs.StateBodies.{states-read-back}
 use Rattle.model.proofs.WritableStates.{states-writable}
-use Rattle.model.proofs.WrittenLengths.{table-bytes}
+use Rattle.model.proofs.Identified.{among-itself}
 use Rattle.model.proofs.Reading.{accepted-has-row, accepted-entries, reads-written, written-length, rewrites-same}
 
 -- ---- what an accepted book and a like book give
 
 -- the prefix tree of an accepted book is within its limit
-accepted-tree : (s : List ℕ) → Accepted s → length (treeOf (bookOf s .items)) ≤ state-limit
+pub accepted-tree :
+    (settings : Settings) (s : List ℕ) → Accepted settings s → length (treeOf (bookOf settings s .items)) ≤ state-limit
 unfolding bookFault
-accepted-tree s ok =
-    let size = length (treeOf (bookOf s .items)) in
-    let refusal = when (ltb state-limit size) tree-too-large in
-    let none = first-of (readFields book s .number) refusal ok .1 in
-    ltb-false state-limit size (when-none (ltb state-limit size) tree-too-large (omega arith) none)
+accepted-tree settings s ok =
+    let rows = bookOf settings s .items in
+    let none = first-of (readBook settings s .number) (treeFault rows) ok .1 in
+    ltb-false state-limit (length (treeOf rows))
+    (when-none (ltb state-limit (length (treeOf rows))) tree-too-large (omega arith) none)
 
 -- rows that are all among others
 all-there : (rows others : List Word) → allAmong rows others ≡ true → (r : Word) → In r rows → In r others
@@ -50,10 +51,9 @@ all-there rows others e = tells-all (λ r. tells-hasRow r others) rows .fact e
 
 -- a book is like itself
 like-itself : (f : File) → SameBook f f
-unfolding allAmong
 like-itself f =
-    let all-in : allAmong (f .items) (f .items) ≡ true = tells-all (λ r. tells-hasRow r (f .items)) (f .items) .test (λ r m. m) in
-    record { names-same = refl; class-same = refl; rows-there = all-in; rows-back = all-in }
+    let rows = among-itself (f .items) in
+    record { names-same = refl; class-same = refl; rows-there = rows; rows-back = rows }
 
 -- like books have the same set of rows
 same-rows : (f g : File) → SameBook f g → (r : Word) → In r (f .items) ↔ In r (g .items)
@@ -110,83 +110,87 @@ joined : (f : File) → Joined (f .class-is) (f .items) (joinedGroups (f .class-
 joined f = joinedGroups-joined (f .class-is) (f .items)
 
 -- demand 3, part by part
-pub demand-3 : Demand-3
+pub demand-3 : (settings : Settings) → Allowed settings → Demand-3 settings
 unfolding bookStates
-demand-3 =
+demand-3 settings allowed =
     record {
-      any-order = λ s t steps ok-s ok-t same full. table-any-order (bookOf s) (bookOf t) steps same full;
-      book-itself = λ s. like-itself (bookOf s);
-      same-table = λ s t ok-s ok-t same. table-same (bookOf s) (bookOf t) same;
-      some-joining = λ s ok. defining-joining (bookOf s);
+      any-order = λ others s t steps ok-s ok-t same full. table-any-order (bookOf settings s) (bookOf others t) steps same full;
+      book-itself = λ s. like-itself (bookOf settings s);
+      same-table = λ others s t ok-s ok-t same. table-same (bookOf settings s) (bookOf others t) same;
+      some-joining = λ s ok. defining-joining (bookOf settings s);
       rows-admitted = λ s r ok m.
-          let f = bookOf s in
+          let f = bookOf settings s in
           admits-row (f .class-is) (f .items) (joinedGroups (f .class-is) (f .items)) (joined f) r
           (tells-hasRow r (f .items) .fact m);
       in-class = λ s ok.
-          let f = bookOf s in
+          let f = bookOf settings s in
           admits-in-class (f .class-is) (f .items) (joinedGroups (f .class-is) (f .items)) (joined f);
       smallest = λ s l ok l-in-class holds r e.
-          let f = bookOf s in
-          let first-row = accepted-has-row s ok in
+          let f = bookOf settings s in
+          let first-row = accepted-has-row settings allowed s ok in
           admits-smallest (f .class-is) (f .items) (joinedGroups (f .class-is) (f .items)) (joined f) l l-in-class
           (λ q m. holds q (tells-hasRow q (f .items) .test m)) (first-row .0) (first-row .1) r e;
     }
 
 -- ---- tables read back
 
--- what build writes can be read
-pub book-writable : (s : List ℕ) → Accepted s → Writable (length (bookOf s .names)) (bookStates (bookOf s))
-unfolding bookStates
-book-writable s ok =
-    let f = bookOf s in
-    let groups = joinedGroups (f .class-is) (f .items) in
-    states-writable (f .items) (treeOf (f .items)) groups (length (f .names)) (treeOf-tree (f .items)) (joined f .fits)
-    (joined-deterministic (f .class-is) (f .items) groups (joined f)) (accepted-tree s ok) (name-below s ok)
-  where
-    name-below :
-        (s : List ℕ) → Accepted s → (w : Word) (a : ℕ) → In (w ▸ a) (treeOf (bookOf s .items)) →
-        a < length (bookOf s .names)
-    name-below s ok w a m =
-        let first-row = accepted-has-row s ok in
-        let b = node-begins-row (bookOf s .items) (first-row .0) (first-row .1) (w ▸ a) m in
-        accepted-entries s ok ((w ▸ a) ++ b .0) (b .1) a (Memᴰ·append-left (b .0) (Memᴰ·append-right w (here refl)))
+module _ (settings : Settings) (allowed : Allowed settings) where
+  -- what build writes can be read
+  pub book-writable :
+      (s : List ℕ) → Accepted settings s → Writable (length (bookOf settings s .names)) (bookStates (bookOf settings s))
+  unfolding bookStates
+  book-writable s ok =
+      let f = bookOf settings s in
+      let groups = joinedGroups (f .class-is) (f .items) in
+      states-writable (f .items) (treeOf (f .items)) groups (length (f .names)) (treeOf-tree (f .items)) (joined f .fits)
+      (joined-deterministic (f .class-is) (f .items) groups (joined f)) (accepted-tree settings s ok) (name-below s ok)
+    where
+      name-below :
+          (s : List ℕ) → Accepted settings s → (w : Word) (a : ℕ) → In (w ▸ a) (treeOf (bookOf settings s .items)) →
+          a < length (bookOf settings s .names)
+      name-below s ok w a m =
+          let first-row = accepted-has-row settings allowed s ok in
+          let b = node-begins-row (bookOf settings s .items) (first-row .0) (first-row .1) (w ▸ a) m in
+          accepted-entries settings allowed s ok ((w ▸ a) ++ b .0) (b .1) a
+          (Memᴰ·append-left (b .0) (Memᴰ·append-right w (here refl)))
 
--- the table of a book is read back: its names, its class and its states
-pub read-table :
-    (s : List ℕ) → Accepted s →
-    readFields table (bookTable (bookOf s))
-    ≡ accepted-file (file 3 (bookOf s .names) (bookOf s .class-is) (map stateBody (bookStates (bookOf s))))
-unfolding bookTable
-read-table s ok = reads-written s (bookStates (bookOf s)) ok (book-writable s ok)
+  -- the table of a book is read back: its names, its class and its states
+  pub read-table :
+      (s : List ℕ) → Accepted settings s →
+      readTable (bookTable (bookOf settings s))
+      ≡ accepted-file (file 3 (bookOf settings s .names) (bookOf settings s .class-is) (map stateBody (bookStates (bookOf settings s))))
+  unfolding bookTable
+  read-table s ok = reads-written settings allowed s (bookStates (bookOf settings s)) ok (book-writable s ok)
 
--- and its states are the book's
-read-states : (s : List ℕ) → Accepted s → tableStates (bookTable (bookOf s)) ≡ bookStates (bookOf s)
-unfolding tableStates tableOf
-read-states s ok =
-    ap (λ (r : Read). statesIn (r .file-is .items)) (read-table s ok)
-    ∙ states-read-back (bookStates (bookOf s))
+  -- and its states are the book's
+  read-states : (s : List ℕ) → Accepted settings s → tableStates (bookTable (bookOf settings s)) ≡ bookStates (bookOf settings s)
+  unfolding tableStates tableOf
+  read-states s ok =
+      ap (λ (r : Read). statesIn (r .file-is .items)) (read-table s ok)
+      ∙ states-read-back (bookStates (bookOf settings s))
 
--- it takes few bytes
-pub table-length : (s : List ℕ) → Accepted s → length (bookTable (bookOf s)) ≤ table-bytes
-unfolding bookTable
-table-length s ok = written-length s (bookStates (bookOf s)) ok (book-writable s ok)
+  -- it takes few bytes
+  pub table-length : (s : List ℕ) → Accepted settings s → length (bookTable (bookOf settings s)) ≤ table-bytes
+  unfolding bookTable
+  table-length s ok = written-length settings allowed s (bookStates (bookOf settings s)) ok (book-writable s ok)
 
--- so it is accepted, where there is room to work
-read-no-fault : (s work : List ℕ) → Accepted s → work-bytes ≤ length work → tableFault (bookTable (bookOf s)) work ≡ 0
-unfolding tableFault sizesFault
-read-no-fault s work ok long =
-    let bytes : List ℕ = bookTable (bookOf s) in
-    let short : length bytes ≤ input-limit = omega (arith, table-length s ok) in
-    let sizes : when (ltb input-limit (length bytes) || ltb (length work) work-bytes) bad-sizes ≡ 0 =
-    ap (λ (t : Bool). when t bad-sizes)
-    (or-false (le-ltb input-limit (length bytes) short) (le-ltb (length work) work-bytes long)) in
-    let number : readFields table bytes .number ≡ 0 = ap (λ (r : Read). r .number) (read-table s ok) in
-    let numbered : isFirstMet (tableStates bytes) ≡ true = ap isFirstMet (read-states s ok) ∙ book-writable s ok .first-met in
-    rw (sizes, number, numbered)
+  -- so it is accepted, where there is room to work
+  read-no-fault :
+      (s work : List ℕ) → Accepted settings s → work-bytes ≤ length work → tableFault (bookTable (bookOf settings s)) work ≡ 0
+  unfolding tableFault sizesFault
+  read-no-fault s work ok long =
+      let bytes : List ℕ = bookTable (bookOf settings s) in
+      let short : length bytes ≤ input-limit = omega (arith, table-length s ok) in
+      let sizes : when (ltb input-limit (length bytes) || ltb (length work) work-bytes) bad-sizes ≡ 0 =
+      ap (λ (t : Bool). when t bad-sizes)
+      (or-false (le-ltb input-limit (length bytes) short) (le-ltb (length work) work-bytes long)) in
+      let number : readTable bytes .number ≡ 0 = ap (λ (r : Read). r .number) (read-table s ok) in
+      let numbered : isFirstMet (tableStates bytes) ≡ true = ap isFirstMet (read-states s ok) ∙ book-writable s ok .first-met in
+      rw (sizes, number, numbered)
 
--- tables read back as they were written
-pub reads-back : Reads-back
-reads-back = record { accepted-again = read-no-fault; same-states = read-states }
+  -- tables read back as they were written
+  pub reads-back : Reads-back settings
+  reads-back = record { accepted-again = read-no-fault; same-states = read-states }
 
 -- an accepted table is rewritten to the same bytes
 pub same-bytes : Same-bytes

@@ -7,12 +7,12 @@ use Prim.Native.Nat.{ℕ, zero, suc, _≤_, _<_}
 use native.Mathlib.Omega.{arith}
 use lib.Dec.{eqb}
 use lib.ListN.{length}
-use Rattle.model.specs.Lists.{filterBy}
+use Rattle.base.specs.Lists.{filterBy}
 use Rattle.model.specs.Fields.{Class}
 use Rattle.model.specs.Classes.{Word}
 use Rattle.model.specs.Joinings.{treeOf, apart, merged, groupsIn, Step, isOpen, stepsBetween, openSteps, isFull}
 use Rattle.model.specs.Joinings.{afterSteps, allOpen, isFullJoining, joinFrom, joinedGroups}
-use Rattle.model.proofs.Lists.{filterBy-in}
+use Rattle.base.proofs.Lists.{filterBy-in}
 use Rattle.model.proofs.Groups.{apart-fits, groupsIn-length, merged-fewer}
 use Rattle.model.proofs.Rules.{tells-open}
 

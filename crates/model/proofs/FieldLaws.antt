@@ -9,11 +9,11 @@ use native.Mathlib.Omega.{arith}
 use lib.Dec.{eqb, leb}
 use lib.ListN.{length, getD}
 use borrow.Author.Tests.{leb-false, lt-leb, eqb-true}
-use Rattle.model.specs.Limits.{name-limit, book-rows, state-limit, when, firstOf, misplaced}
-use Rattle.model.specs.Limits.{bad-name, name-order, too-many, bad-class, bad-row, bad-state}
-use Rattle.model.specs.Fields.{File, FileKind, book, table, mayCome, byMark, nameOk, above, classOk, rowOk, stateOk}
-use Rattle.model.specs.Fields.{Class, settingsOk, classFrom, nameFault, classFault, rowFault, stateFault, fieldFault}
-use Rattle.model.proofs.Tests.{tells-eqb, tells-leb, tells-and, tells-or}
+use Rattle.base.specs.Limits.{name-limit, book-rows, state-limit, when, firstOf, misplaced}
+use Rattle.base.specs.Limits.{bad-name, name-order, too-many, bad-class, bad-row, bad-state}
+use Rattle.model.specs.Fields.{File, FileKind, book, table, mayCome, byMark, nameOk, above, classOk, rowOk, stateOk, fieldFault}
+use Rattle.model.specs.Fields.{ClassOk, settingsOk, classFrom, nameFault, classFault, itemFault, rowFault, stateFault}
+use Rattle.base.proofs.Tests.{tells-eqb, tells-leb, tells-and, tells-or}
 
 -- no refusal of two
 pub first-of : (a b : ℕ) → firstOf a b ≡ 0 → (a ≡ 0) × (b ≡ 0)
@@ -29,13 +29,15 @@ pub when-not : (t : Bool) (n : ℕ) → 1 ≤ n → when (not t) n ≡ 0 → t �
 when-not true n some e = refl
 when-not false n some e = let z : ⊥ = omega arith in absurd z
 
--- no refusal of one more of its kind: there are fewer than the limit, and its test is true
+-- no refusal of one more item: there are fewer than the limit, and it is allowed
 one-more :
-    (limit count : ℕ) (fits : Bool) (bad : ℕ) → 1 ≤ bad →
-    firstOf (when (leb limit count) too-many) (when (not fits) bad) ≡ 0 → (count < limit) × (fits ≡ true)
-one-more limit count fits bad some e =
-    let p = first-of (when (leb limit count) too-many) (when (not fits) bad) e in
-    (leb-false limit count (when-none (leb limit count) too-many (omega arith) (p .0)), when-not fits bad some (p .1))
+    (limit : ℕ) (ok : ℕ → List ℕ → Bool) (bad : ℕ) (f : File) (body : List ℕ) → 1 ≤ bad →
+    itemFault limit ok bad f body ≡ 0 → (length (f .items) < limit) × (ok (length (f .names)) body ≡ true)
+one-more limit ok bad f body some e =
+    let full = leb limit (length (f .items)) in
+    let allowed = ok (length (f .names)) body in
+    let p = first-of (when full too-many) (when (not allowed) bad) e in
+    (leb-false limit (length (f .items)) (when-none full too-many (omega arith) (p .0)), when-not allowed bad some (p .1))
 
 -- what it takes of one more name
 pub record NameFits (names : List (List ℕ)) (body : List ℕ) : Type 0 where
@@ -54,23 +56,23 @@ pub record StateFits (n : ℕ) (items : List (List ℕ)) (body : List ℕ) : Typ
   pub state-ok : stateOk n body ≡ true
 
 -- one kind of field after another: no fault, and what it takes
-pub name-fits : (f : File) (body : List ℕ) → nameFault f body ≡ 0 → NameFits (f .names) body
+pub name-fits : (names : List (List ℕ)) (body : List ℕ) → nameFault names body ≡ 0 → NameFits names body
 unfolding nameFault
-name-fits f body e =
-    let order = when (not (above (f .names) body)) name-order in
-    let count = when (leb name-limit (length (f .names))) too-many in
+name-fits names body e =
+    let order = when (not (above names body)) name-order in
+    let count = when (leb name-limit (length names)) too-many in
     let p = first-of (when (not (nameOk body)) bad-name) (firstOf order count) e in
     let q = first-of order count (p .1) in
-    let few-enough = when-none (leb name-limit (length (f .names))) too-many (omega arith) (q .1) in
+    let few-enough = when-none (leb name-limit (length names)) too-many (omega arith) (q .1) in
     record {
       well-formed = when-not (nameOk body) bad-name (omega arith) (p .0);
-      in-order = when-not (above (f .names) body) name-order (omega arith) (q .0);
-      few = leb-false name-limit (length (f .names)) few-enough;
+      in-order = when-not (above names body) name-order (omega arith) (q .0);
+      few = leb-false name-limit (length names) few-enough;
     }
 
-pub fits-name : (f : File) (body : List ℕ) → NameFits (f .names) body → nameFault f body ≡ 0
+pub fits-name : (names : List (List ℕ)) (body : List ℕ) → NameFits names body → nameFault names body ≡ 0
 unfolding nameFault
-fits-name f body h = rw (h .well-formed, h .in-order, lt-leb name-limit (length (f .names)) (h .few))
+fits-name names body h = rw (h .well-formed, h .in-order, lt-leb name-limit (length names) (h .few))
 
 pub class-fits : (body : List ℕ) → classFault body ≡ 0 → classOk body ≡ true
 unfolding classFault
@@ -79,10 +81,6 @@ class-fits body e = when-not (classOk body) bad-class (omega arith) e
 pub fits-class : (body : List ℕ) → classOk body ≡ true → classFault body ≡ 0
 unfolding classFault
 fits-class body e = ap (λ (t : Bool). when (not t) bad-class) e
-
--- a class may stand in a class field
-abbrev pub ClassOk : Class → Type 0
-ClassOk c = settingsOk (c .kind) (c .first) (c .second) ≡ true
 
 -- a class field has three bytes, its settings
 pub class-parts : (body : List ℕ) → classOk body ≡ true → (length body ≡ 3) × ClassOk (classFrom body)
@@ -93,13 +91,13 @@ class-parts body ok =
 pub row-fits : (f : File) (body : List ℕ) → rowFault f body ≡ 0 → RowFits (length (f .names)) (f .items) body
 unfolding rowFault
 row-fits f body e =
-    let r = one-more book-rows (length (f .items)) (rowOk (length (f .names)) body) bad-row (omega arith) e in
+    let r = one-more book-rows rowOk bad-row f body (omega arith) e in
     record { few = r .0; row-ok = r .1 }
 
 pub state-fits : (f : File) (body : List ℕ) → stateFault f body ≡ 0 → StateFits (length (f .names)) (f .items) body
 unfolding stateFault
 state-fits f body e =
-    let r = one-more state-limit (length (f .items)) (stateOk (length (f .names)) body) bad-state (omega arith) e in
+    let r = one-more state-limit stateOk bad-state f body (omega arith) e in
     record { few = r .0; state-ok = r .1 }
 
 pub fits-state : (f : File) (body : List ℕ) → StateFits (length (f .names)) (f .items) body → stateFault f body ≡ 0
@@ -131,10 +129,10 @@ may-come false stage mark e =
 pub fitting : (kind : FileKind) (f : File) (mark : ℕ) (body : List ℕ) → fieldFault kind f mark body ≡ 0 → Fitting kind f mark body
 unfolding fieldFault
 fitting kind f mark body e =
-    let rest : ℕ → ℕ = λ m. byMark m (nameFault f body) (classFault body) (rowFault f body) (stateFault f body) in
+    let rest : ℕ → ℕ = λ m. byMark m (nameFault (f .names) body) (classFault body) (rowFault f body) (stateFault f body) in
     let p = first-of (when (not (mayCome kind (f .stage) mark)) misplaced) (rest mark) e in
     let at : (m : ℕ) → mark ≡ m → rest m ≡ 0 = λ m q. subst (λ z. rest z ≡ 0) q (p .1) in
-    ⊎-elim (λ q. a-name (q .0) (q .1) (name-fits f body (at 1 (q .0))))
+    ⊎-elim (λ q. a-name (q .0) (q .1) (name-fits (f .names) body (at 1 (q .0))))
     (λ r. ⊎-elim (λ q. a-class (q .0) (q .1) (class-fits body (at 2 (q .0))))
     (λ item. ⊎-elim (λ q. a-state (q .0) (q .1) (q .2) (state-fits f body (at 4 (q .1))))
     (λ q. a-row (q .0) (q .1) (q .2) (row-fits f body (at 3 (q .1)))) item) r)

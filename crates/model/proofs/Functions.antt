@@ -92,7 +92,7 @@ seen-snoc [] a = refl
 seen-snoc (x ∷ u) a = ap (putName x) (seen-snoc u a) ∙ put-swap a x (seenSet u)
 
 -- what stands before the last j names does not matter
-last-append : (j : ℕ) (xs ys : Word) → j ≤ length ys → lastNames j (xs ++ ys) ≡ lastNames j ys
+pub last-append : (j : ℕ) (xs ys : Word) → j ≤ length ys → lastNames j (xs ++ ys) ≡ lastNames j ys
 unfolding lastNames
 last-append j xs ys h =
     let size : length (xs ++ ys) ≡ length xs + length ys = length-append xs ys in

@@ -10,7 +10,7 @@ use lib.Dec.{eqb, ltb}
 use lib.ListN.{length}
 use Rattle.model.specs.Classes.{Word}
 use Rattle.model.specs.Joinings.{groupAt, groupsIn, mergedTo, memberOf}
-use Rattle.model.proofs.Tests.{Tells, tells-eqb, tells-same, tells-or, tells-isIn, told-false, word-dec}
+use Rattle.base.proofs.Tests.{Tells, tells-eqb, tells-same, tells-or, tells-isIn, told-false, word-dec}
 use Rattle.model.proofs.Notions.{Fits}
 
 -- ---- one node after another

@@ -8,7 +8,7 @@ use mathlib.Core.List.{List, [], _∷_, List·Memᴰ as In, List·Memᴰ·head a
 use Prim.Native.Nat.{ℕ, _≤_}
 use native.Mathlib.Omega.{arith}
 use lib.ListN.{length}
-use Rattle.model.specs.Lists.{all, filterBy}
+use Rattle.base.specs.Lists.{all, filterBy}
 use Rattle.model.specs.Fields.{Class, class-of, File, file}
 use Rattle.model.specs.Tables.{admits}
 use Rattle.model.specs.Classes.{Word, Contextual, InClass}
@@ -16,8 +16,8 @@ use Rattle.model.specs.Joinings.{joinedGroups}
 use Rattle.model.specs.Quotients.{bookStates}
 use Rattle.model.specs.Claims.{allAmong}
 use Rattle.model.specs.Sources.{AdmittedBy, ContextualStates, Passing, OverNames, Sample}
-use Rattle.model.proofs.Tests.{tells-itself, tells-all, tells-hasRow, same-tests}
-use Rattle.model.proofs.Lists.{in-filterBy, filterBy-in}
+use Rattle.base.proofs.Tests.{tells-itself, tells-all, tells-hasRow, same-tests}
+use Rattle.base.proofs.Lists.{in-filterBy, filterBy-in}
 use Rattle.model.proofs.Books.{tells-allBelow}
 use Rattle.model.proofs.Joined.{Joined, joinedGroups-joined}
 use Rattle.model.proofs.ContextualTables.{states-contextual, book-contextual}
@@ -29,9 +29,9 @@ abbrev pub book-of : ℕ → ℕ → List Word → File
 book-of k h rows = file 3 [] (class-of 0 k h) rows
 
 -- rows are among themselves
-pub all-there : (rows : List Word) → allAmong rows rows ≡ true
+pub among-itself : (rows : List Word) → allAmong rows rows ≡ true
 unfolding allAmong
-all-there rows = tells-all (λ r. tells-hasRow r rows) rows .test (λ r m. m)
+among-itself rows = tells-all (λ r. tells-hasRow r rows) rows .test (λ r m. m)
 
 -- a list has an element or none
 some-row : (rows : List Word) → ((r : Word) × In r rows) ⊎ ((r : Word) → In r rows → ⊥)

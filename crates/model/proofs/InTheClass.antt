@@ -10,7 +10,7 @@ use Rattle.model.specs.Classes.{Word, fOf, TailsEqual, Contextual, Disti
 use Rattle.model.specs.Joinings.{Transition, transition, transitionsOf, groupAt, groupAccepts, fOfGroup, treeOf}
 use Rattle.model.specs.Tables.{admits}
 use Rattle.model.specs.Quotients.{statesOf}
-use Rattle.model.proofs.Tests.{Tells}
+use Rattle.base.proofs.Tests.{Tells}
 use Rattle.model.proofs.Notions.{Walks, Ways, Inside, _▸_}
 use Rattle.model.proofs.Groups.{group-in, tells-accepts}
 use Rattle.model.proofs.Transitions.{arc-node, target-in, walks-append, walks-split, walks-unique, walks-down}

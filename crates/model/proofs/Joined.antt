@@ -8,10 +8,10 @@ use Prim.Native.Nat.{ℕ}
 use lib.Dec.{eqb}
 use Rattle.model.specs.Fields.{Class}
 use Rattle.model.specs.Classes.{Word}
-use Rattle.model.specs.Joinings.{transitionsOf, treeOf, apart, Step, isFull}
+use Rattle.model.specs.Joinings.{transitionsOf, treeOf, apart, Step, isFull, Deterministic}
 use Rattle.model.specs.Joinings.{afterSteps, allOpen, isFullJoining, joinedGroups}
 use Rattle.model.specs.Quotients.{statesOf}
-use Rattle.model.proofs.Notions.{Tree, Fits, Ways, OneContext, Closed, Inside, Ker, SameF, Deterministic, _▸_}
+use Rattle.model.proofs.Notions.{Tree, Fits, Ways, OneContext, Closed, Inside, Ker, SameF, _▸_}
 use Rattle.model.proofs.Groups.{apart-fits}
 use Rattle.model.proofs.Transitions.{arc-node}
 use Rattle.model.proofs.Sound.{sound, after-fits, apart-inside}

@@ -1,9 +1,5 @@
 -- Why the claims of specs/ hold, one file for each step of the argument, each after those that it cites. Assumes nothing.
 
--- laws of tests and lists
-pub mod Tests
-pub mod Lists
-pub mod Places
 -- the notions of the argument; partitions, walks between groups, and the rules as facts
 pub mod Notions
 pub mod GroupCases
@@ -57,6 +53,6 @@ pub mod ContextualRows
 pub mod Samples
 pub mod Identified
 pub mod Sources
--- tables that admit rows of bounded length only, and the worked days of document 01
+-- tables that admit rows of bounded length only, and the worked days of docs/SCOPE.md
 pub mod Walkable
 pub mod WorkedDays

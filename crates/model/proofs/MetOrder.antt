@@ -9,13 +9,13 @@ use lib.Dec.{ltb}
 use lib.ListN.{length, getD, drop, length-append, drop-of-length-le, List·getD-append}
 use lib.Seq.{drop-cons}
 use borrow.Author.Tests.{ltb-true, ltb-false, lt-ltb, le-ltb, eq-eqb}
-use Rattle.model.specs.Lists.{isIn, indexIn}
+use Rattle.base.specs.Lists.{isIn, indexIn}
 use Rattle.model.specs.Classes.{Word}
 use Rattle.model.specs.Tables.{Arc, arc, State, metByArcs, metByStates}
 use Rattle.model.specs.Joinings.{Transition, transitionsOf}
 use Rattle.model.specs.Quotients.{arcsOutOf, metWith, metFrom, renumbered, stateOf}
-use Rattle.model.proofs.Tests.{tells-isIn, not-told}
-use Rattle.model.proofs.Places.{index-in-front, index-after}
+use Rattle.base.proofs.Tests.{tells-isIn, not-told}
+use Rattle.base.proofs.Places.{index-in-front, index-after}
 use Rattle.model.proofs.Meeting.{metWith-grown}
 
 -- ---- what is met is only added to

@@ -9,8 +9,7 @@ use lib.Bits.{shifted-even, shifted-half}
 use lib.Count.{ones, ones-cat, trailingZeros, under}
 use lib.ListN.{length}
 use lib.Pow.{pow-pos, pow-lt, pow-add}
-use Rattle.model.specs.Tables.{Arc, nameSet}
-use Rattle.model.proofs.Arcs.{Ascending}
+use Rattle.model.specs.Tables.{Arc, nameSet, Ascending}
 
 -- a number is q times 2 ^ k
 pub record Multiple (k n : ℕ) : Type 0 where

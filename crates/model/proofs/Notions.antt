@@ -10,7 +10,7 @@ use lib.ListN.{length}
 use Rattle.model.specs.Fields.{Class}
 use Rattle.model.specs.Classes.{Word, fOf}
 use Rattle.model.specs.Joinings.{Transition, transition, groupAt}
-use Rattle.model.proofs.Lists.{Distinct}
+use Rattle.base.proofs.Lists.{Distinct}
 
 -- a word with one name more
 abbrev pub _▸_ : Word → ℕ → Word
@@ -85,7 +85,3 @@ pub record Ker (nodes : List Word) (groups : List ℕ) (u w : Word) : Type 0 whe
 -- two words with the same f
 pub record SameF (c : Class) (u w : Word) : Type 0 where
   pub same-f : fOf c u ≡ fOf c w
-
--- no two arcs of one name leave one group
-abbrev pub Deterministic : List Transition → Type 0
-Deterministic ts = (x a y z : ℕ) → In (transition x a y) ts → In (transition x a z) ts → y ≡ z

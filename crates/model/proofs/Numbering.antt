@@ -9,11 +9,11 @@ use lib.Dec.{eqb}
 use lib.ListN.{length}
 use Rattle.model.specs.Classes.{Word}
 use Rattle.model.specs.Tables.{Arc, arc, state}
-use Rattle.model.specs.Joinings.{transition, transitionsOf, groupAt}
+use Rattle.model.specs.Joinings.{transition, transitionsOf, groupAt, Deterministic}
 use Rattle.model.specs.Quotients.{arcsOutOf, metFrom, metGroups, stateOf, statesOf}
-use Rattle.model.proofs.Tests.{tells-eqb, same-tests}
-use Rattle.model.proofs.Lists.{same-length}
-use Rattle.model.proofs.Notions.{Tree, Fits, Inside, Ker, Deterministic, _▸_}
+use Rattle.base.proofs.Tests.{tells-eqb, same-tests}
+use Rattle.base.proofs.Lists.{same-length}
+use Rattle.model.proofs.Notions.{Tree, Fits, Inside, Ker, _▸_}
 use Rattle.model.proofs.Groups.{tells-accepts}
 use Rattle.model.proofs.Transitions.{in-transitions, arc-node}
 use Rattle.model.proofs.Arcs.{arcsOutOf-ascending, arcsOutOf-in, in-arcsOutOf}

@@ -10,11 +10,11 @@ use native.Mathlib.Omega.{arith}
 use lib.Dec.{eqb, ltb}
 use lib.ListN.{length, getD}
 use borrow.Author.Tests.{ltb-true}
-use Rattle.model.specs.Lists.{any, isIn, indexIn}
-use Rattle.model.specs.Tables.{Arc, arc}
+use Rattle.base.specs.Lists.{any, isIn, indexIn}
+use Rattle.model.specs.Tables.{Arc, arc, Ascending}
 use Rattle.model.specs.Joinings.{Transition}
 use Rattle.model.specs.Quotients.{arcsOutOf, metWith, metFrom, renumbered}
-use Rattle.model.proofs.Arcs.{Ascending, ascending-low, after-first}
+use Rattle.model.proofs.Arcs.{ascending-low, after-first}
 
 -- two arcs of one name with related targets
 pub record ArcsAgree (R : ℕ → ℕ → Type 0) (a b : Arc) : Type 0 where

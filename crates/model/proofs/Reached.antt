@@ -12,11 +12,11 @@ use lib.ListN.{length, getD, drop, drop-of-length-le}
 use lib.Seq.{drop-cons}
 use borrow.Author.Tests.{eqb-true, ltb-true}
 use Rattle.model.specs.Classes.{Word}
-use Rattle.model.specs.Tables.{Arc, State, no-state, targetIn, metByArcs, metByStates, isFirstMet}
+use Rattle.model.specs.Tables.{Arc, State, empty-state, targetIn, metByArcs, metByStates, isFirstMet, Ascending}
 use Rattle.model.specs.Sources.{Reaches, AllReached}
-use Rattle.model.proofs.Tests.{decided, tells-ltb}
+use Rattle.base.proofs.Tests.{decided, tells-ltb}
 use Rattle.model.proofs.Notions.{_▸_}
-use Rattle.model.proofs.Arcs.{Ascending, ascending-low}
+use Rattle.model.proofs.Arcs.{ascending-low}
 use Rattle.model.proofs.Admits.{targetIn-here, targetIn-there}
 use Rattle.model.proofs.TableWalks.{reaches-append, steps-reaches}
 
@@ -34,14 +34,14 @@ target-of next (a ∷ arcs) z up m = go (List·Memᴰ·cases-cons m) (target-of 
         let low : suc (a .name) ≤ z .name = ascending-low (suc (a .name)) arcs z (up .1) n in
         targetIn-there (z .name) a arcs (λ e. omega arith) ∙ again n
 
-module _ (states : List State) (ascending : (q : ℕ) → Ascending 0 (getD states q no-state .arcs)) where
+module _ (states : List State) (ascending : (q : ℕ) → Ascending 0 (getD states q empty-state .arcs)) where
   -- the states below m are reached
   abbrev MetReached : ℕ → Type 0
   MetReached m = (q : ℕ) → q < m → (w : Word) × Reaches states 0 w q
 
   -- and so is the next one, by an arc from one of them
   one-more :
-      (i m : ℕ) (a : Arc) → (w : Word) × Reaches states 0 w i → In a (getD states i no-state .arcs) → a .to ≡ m →
+      (i m : ℕ) (a : Arc) → (w : Word) × Reaches states 0 w i → In a (getD states i empty-state .arcs) → a .to ≡ m →
       MetReached m → MetReached (suc m)
   one-more i m a here-by among new met q h = go (decided (tells-ltb q m))
     where
@@ -52,13 +52,13 @@ module _ (states : List State) (ascending : (q : ℕ) → Ascending 0 (getD stat
             here-by .0 ▸ a .name,
             reaches-append states 0 i q (here-by .0) (a .name ∷ []) (here-by .1)
                 (steps-reaches states i q (a .name ∷ [])
-                (a .to, target-of 0 (getD states i no-state .arcs) a (ascending i) among, is)),
+                (a .to, target-of 0 (getD states i empty-state .arcs) a (ascending i) among, is)),
           )
 
   -- what the arcs of a state that is reached meet
   arcs-reached :
       (i : ℕ) → (w : Word) × Reaches states 0 w i → (arcs : List Arc) →
-      ((a : Arc) → In a arcs → In a (getD states i no-state .arcs)) → (m : ℕ) → MetReached m → MetReached (metByArcs m arcs)
+      ((a : Arc) → In a arcs → In a (getD states i empty-state .arcs)) → (m : ℕ) → MetReached m → MetReached (metByArcs m arcs)
   unfolding metByArcs
   arcs-reached i here-by [] among m met = met
   arcs-reached i here-by (a ∷ arcs) among m met =
@@ -87,8 +87,8 @@ module _ (states : List State) (ascending : (q : ℕ) → Ascending 0 (getD stat
           absurd (cons≢nil (sym e ∙ drop-of-length-le states past)))
           (decided (tells-ltb i (length states)))
 
-      first : getD states i no-state ∷ drop (suc i) states ≡ s ∷ rest
-      first = sym (drop-cons states i no-state inside) ∙ e
+      first : getD states i empty-state ∷ drop (suc i) states ≡ s ∷ rest
+      first = sym (drop-cons states i empty-state inside) ∙ e
 
       go :
           (b : Bool) → ltb i m ≡ b →

@@ -8,10 +8,10 @@ use Prim.Native.Nat.{ℕ, zero, suc, _+_, _/_, _%_, _≤_, _<_}
 use native.Mathlib.Omega.{arith}
 use lib.ListN.{length, length-append}
 use borrow.Author.Tests.{le-leb}
-use Rattle.model.specs.Limits.{state-limit}
-use Rattle.model.specs.Fields.{Class, File, file, table, Read, accepted-file, readFrom, fieldFault, withField, stateOk}
+use Rattle.base.specs.Limits.{state-limit}
+use Rattle.model.specs.Fields.{Class, ClassOk, File, file, table, Read, accepted-file, readFrom, fieldFault, withField, stateOk}
 use Rattle.model.specs.Tables.{State, fieldBytes, nameFields, classField, stateBody, stateFields, tableBytes}
-use Rattle.model.proofs.FieldLaws.{NameFits, StateFits, ClassOk, fits-name, fits-class, fits-state}
+use Rattle.model.proofs.FieldLaws.{NameFits, StateFits, fits-name, fits-class, fits-state}
 use Rattle.model.proofs.Turns.{one-field}
 use Rattle.model.proofs.StateBodies.{two-bytes}
 use Rattle.model.proofs.Books.{NamesOk}
@@ -36,8 +36,7 @@ reads-name :
     ReadsTo (file 1 (names ++ (body ∷ [])) c []) rest r → ReadsTo (file stage names c []) (fieldBytes 1 body ++ rest) r
 unfolding fieldFault withField
 reads-name stage names c body rest r low fits again =
-    let f = file stage names c [] in
-    reads-field f 1 body rest r (rw (le-leb stage 1 low, fits-name f body fits)) again
+    reads-field (file stage names c []) 1 body rest r (rw (le-leb stage 1 low, fits-name names body fits)) again
 
 -- at least one name is among those read and these
 reads-names :

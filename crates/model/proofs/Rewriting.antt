@@ -10,8 +10,8 @@ use native.Mathlib.Omega.{arith}
 use lib.Dec.{leb}
 use lib.ListN.{length, getD}
 use borrow.Author.Tests.{le-leb, lt-leb}
-use Rattle.model.specs.Fields.{Class, File, unread, default-class, table, withField, classOk, classFrom}
-use Rattle.model.specs.Fields.{readFields, readWith}
+use Rattle.model.specs.Fields.{Class, File, unread, standard, table, withField, classOk, classFrom}
+use Rattle.model.specs.Fields.{readTable, readWith}
 use Rattle.model.specs.Tables.{fieldBytes, nameFields, classField, stateBody, stateFields, stateIn, statesIn, tableBytes}
 use Rattle.model.specs.Calls.{tableOf, tableStates, rewritten}
 use Rattle.model.proofs.FieldLaws.{StateFits, Fitting, a-name, a-class, a-row, a-state, fitting, class-parts}
@@ -29,7 +29,7 @@ bytes-parts [] ys h = (tt, h)
 bytes-parts (x ∷ xs) ys h = let r = bytes-parts xs ys (h .1) in ((h .0, r .0), r .1)
 
 -- a field as it was read
-field-again :
+pub field-again :
     (mark a b : ℕ) (body rest : List ℕ) → length body ≡ 256 * a + b → b < 256 →
     mark ∷ (a ∷ (b ∷ (body ++ rest))) ≡ fieldBytes mark body ++ rest
 unfolding fieldBytes
@@ -39,7 +39,7 @@ field-again mark a b body rest size low =
     ap₂ (λ (x y : ℕ). mark ∷ (x ∷ (y ∷ (body ++ rest)))) high-byte low-byte
 
 -- fields with one more at the end
-fields-more :
+pub fields-more :
     (mark : ℕ) (bodies : List (List ℕ)) (body rest : List ℕ) →
     flatMap (fieldBytes mark) (bodies ++ (body ∷ [])) ++ rest ≡ flatMap (fieldBytes mark) bodies ++ (fieldBytes mark body ++ rest)
 unfolding flatMap
@@ -48,6 +48,14 @@ fields-more mark (n ∷ bodies) body rest =
     append-assoc (fieldBytes mark n) (flatMap (fieldBytes mark) (bodies ++ (body ∷ []))) rest
     ∙ ap (λ (z : List ℕ). fieldBytes mark n ++ z) (fields-more mark bodies body rest)
     ∙ sym (append-assoc (fieldBytes mark n) (flatMap (fieldBytes mark) bodies) (fieldBytes mark body ++ rest))
+
+-- what a field does to a file and to what is left, for the mark as it was read
+pub at-mark :
+    (P : File → List ℕ → Type 0) (f : File) (a b : ℕ) (body rest : List ℕ) (mark m : ℕ) → mark ≡ m →
+    (P f (m ∷ (a ∷ (b ∷ (body ++ rest)))) → P (withField f m body) rest) →
+    P f (mark ∷ (a ∷ (b ∷ (body ++ rest)))) → P (withField f mark body) rest
+at-mark P f a b body rest mark m e step h =
+    subst (λ (z : ℕ). P (withField f z body) rest) (sym e) (step (subst (λ (z : ℕ). P f (z ∷ (a ∷ (b ∷ (body ++ rest))))) e h))
 
 -- a class field holds its class
 class-again : (body : List ℕ) → classOk body ≡ true → classField (classFrom body) ≡ fieldBytes 2 body
@@ -136,26 +144,17 @@ module _ (s : List ℕ) (f : File) (a b : ℕ) (body rest : List ℕ) (size : le
             (List·Memᴰ·append-cases (f .items) m);
       }
 
-  -- for the mark as it was read
-  at-mark :
-      (mark m : ℕ) → mark ≡ m →
-      (Rewrites s f (m ∷ (a ∷ (b ∷ (body ++ rest)))) → Rewrites s (withField f m body) rest) →
-      Rewrites s f (mark ∷ (a ∷ (b ∷ (body ++ rest)))) → Rewrites s (withField f mark body) rest
-  at-mark mark m e step h =
-      subst (λ (z : ℕ). Rewrites s (withField f z body) rest) (sym e)
-      (step (subst (λ (z : ℕ). Rewrites s f (z ∷ (a ∷ (b ∷ (body ++ rest))))) e h))
-
   -- so it does after any field without a fault
   table-step :
       (mark : ℕ) → Fitting table f mark body → Rewrites s f (mark ∷ (a ∷ (b ∷ (body ++ rest)))) →
       Rewrites s (withField f mark body) rest
-  table-step mark (a-name e low fits) h = at-mark mark 1 e (with-name low) h
-  table-step mark (a-class e at fits) h = at-mark mark 2 e (with-class at fits) h
+  table-step mark (a-name e low fits) h = at-mark (Rewrites s) f a b body rest mark 1 e (with-name low) h
+  table-step mark (a-class e at fits) h = at-mark (Rewrites s) f a b body rest mark 2 e (with-class at fits) h
   table-step mark (a-row k e high fits) h = absurd (true≢false k)
-  table-step mark (a-state k e high fits) h = at-mark mark 4 e (with-state high fits) h
+  table-step mark (a-state k e high fits) h = at-mark (Rewrites s) f a b body rest mark 4 e (with-state high fits) h
 
 -- before the first field
-nothing-read : (s : List ℕ) → Bytes s → Rewrites s (unread default-class) s
+nothing-read : (s : List ℕ) → Bytes s → Rewrites s (unread (standard .default-class)) s
 unfolding nameFields flatMap
 nothing-read s bytes = record { same = refl; no-items = λ h. refl; bytes = bytes; bodies = λ r m. absurd (List·Memᴰ·not-nil m) }
 
@@ -169,13 +168,13 @@ states-again (r ∷ items) h =
     ap₂ (λ (x xs : List ℕ). fieldBytes 4 x ++ xs) (h r (here refl)) (states-again items (λ q m. h q (there m)))
 
 -- so an accepted table is rewritten to the same bytes
-pub rewritten-same : (s : List ℕ) → Bytes s → readFields table s .number ≡ 0 → rewritten s ≡ s
+pub rewritten-same : (s : List ℕ) → Bytes s → readTable s .number ≡ 0 → rewritten s ≡ s
 unfolding rewritten tableStates tableOf tableBytes readWith
 rewritten-same s bytes ok =
     let kept =
     read-keeps table (Rewrites s)
     (λ f mark a b body rest size fit h. table-step s f a b body rest size mark (fitting table f mark body fit) h)
-    (suc (length s)) (unread default-class) s (nothing-read s bytes) ok in
+    (suc (length s)) (unread (standard .default-class)) s (nothing-read s bytes) ok in
     let f = tableOf s in
     let class-read : leb 2 (f .stage) ≡ true = le-leb 2 (f .stage) (omega (arith, kept .0)) in
     ap (λ (z : List ℕ). nameFields (f .names) ++ (classField (f .class-is) ++ z))

@@ -9,11 +9,11 @@ use native.Mathlib.Omega.{arith}
 use lib.Dec.{eqb}
 use lib.ListN.{length, getD, take, drop}
 use Rattle.model.specs.Classes.{Word}
-use Rattle.model.specs.Lists.{numbersFrom}
+use Rattle.base.specs.Lists.{numbersFrom}
 use Rattle.model.specs.Joinings.{Transition, transition, Route, route, routesFrom, afterSameArc}
-use Rattle.model.proofs.Tests.{Tells, tells-eqb, tells-and, tells-any, tells-by}
-use Rattle.model.proofs.Lists.{map-in, in-flatMap, flatMap-in}
-use Rattle.model.proofs.Places.{in-numbersFrom, numbersFrom-in}
+use Rattle.base.proofs.Tests.{Tells, tells-eqb, tells-and, tells-any, tells-by}
+use Rattle.base.proofs.Lists.{map-in, in-flatMap, flatMap-in}
+use Rattle.base.proofs.Places.{in-numbersFrom, numbersFrom-in}
 use Rattle.model.proofs.Notions.{Walks}
 
 -- x and y stand after the same arc of two paths

@@ -12,9 +12,9 @@ use Rattle.model.specs.Fields.{Class}
 use Rattle.model.specs.Classes.{Word}
 use Rattle.model.specs.Joinings.{Transition, transition, transitionsOf, groupsIn, forks, intoOne, byContext, fOfGroup}
 use Rattle.model.specs.Joinings.{byF, byRule, groupAccepts, step, isOpen, stepsBetween, openSteps, isFull}
-use Rattle.model.proofs.Tests.{Tells, tells-eqb, tells-same, tells-and, tells-or, tells-not, tells-by, tells-anyTwo}
-use Rattle.model.proofs.Tests.{tells-isIn, tells-itself, eq-dec}
-use Rattle.model.proofs.Lists.{in-flatMap, in-filterBy}
+use Rattle.base.proofs.Tests.{Tells, tells-eqb, tells-same, tells-and, tells-or, tells-not, tells-by, tells-anyTwo}
+use Rattle.base.proofs.Tests.{tells-isIn, tells-itself, eq-dec}
+use Rattle.base.proofs.Lists.{in-flatMap, in-filterBy}
 use Rattle.model.proofs.Groups.{in-groupsIn, groupsIn-in}
 use Rattle.model.proofs.Contexts.{paths-from}
 pub use Rattle.model.proofs.Contexts.{TwoPaths, tells-context}

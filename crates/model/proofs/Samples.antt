@@ -11,12 +11,12 @@ use Prim.Native.Nat.{ℕ, zero, suc, _+_, _*_, _≤_, _<_}
 use native.Mathlib.Omega.{arith}
 use lib.ListN.{length, take, drop, length-append, length-drop, take-append-drop}
 use lib.Seq.{length-take-le, take-all}
-use Rattle.model.specs.Lists.{filterBy, numbersFrom, same}
+use Rattle.base.specs.Lists.{filterBy, numbersFrom, same}
 use Rattle.model.specs.Classes.{Word, TailsEqual, Contextual}
 use Rattle.model.specs.Sources.{ContextualAfter}
-use Rattle.model.proofs.Tests.{tells-same, tells-not, tells-leb, decided}
-use Rattle.model.proofs.Lists.{in-flatMap, filterBy-in}
-use Rattle.model.proofs.Places.{in-numbersFrom, numbersFrom-in, length-numbersFrom}
+use Rattle.base.proofs.Tests.{tells-same, tells-not, tells-leb, decided}
+use Rattle.base.proofs.Lists.{in-flatMap, filterBy-in}
+use Rattle.base.proofs.Places.{in-numbersFrom, numbersFrom-in, length-numbersFrom}
 
 -- ---- three numbers with one word
 

@@ -6,7 +6,7 @@ use mathlib.Core.List.{List, [], _∷_, _++_}
 use Prim.Native.Nat.{ℕ, _≤_}
 use native.Mathlib.Omega.{arith}
 use lib.Seq.{take-all}
-use Rattle.model.specs.Lists.{any, all, numbersFrom, same, hasRow}
+use Rattle.base.specs.Lists.{any, all, numbersFrom, same, hasRow}
 use Rattle.model.specs.Fields.{Class}
 use Rattle.model.specs.Tables.{State, targetIn, walkFrom, walk, reachedState, admits}
 use Rattle.model.specs.Classes.{Word, putName, seenSet, fOf, TailsEqual, Contextual, Distinguishable}
@@ -19,7 +19,7 @@ use Rattle.model.proofs.TableBodies.{accepted-reached}
 use Rattle.model.proofs.ContextualTables.{tails-contextual, states-contextual, contextual-tails, tails-states}
 use Rattle.model.proofs.ContextualTables.{book-contextual}
 use Rattle.model.proofs.Samples.{after-all}
-use Rattle.model.proofs.Identified.{book-of, all-there, identified}
+use Rattle.model.proofs.Identified.{book-of, among-itself, identified}
 use Rattle.model.proofs.ContextualRows.{tailsWithin, contextKept, isContextual, rows-contextual}
 
 -- ---- document 000
@@ -124,7 +124,7 @@ has-table :
 has-table k h m test low below in-l =
     let sample = identified k h m test low below in-l in
     let book = book-of k h (sample .rows) in
-    (bookStates book, book-contextual book refl, sample .tells book refl (all-there (sample .rows)) (sample .in-set))
+    (bookStates book, book-contextual book refl, sample .tells book refl (among-itself (sample .rows)) (sample .in-set))
 
 of-table :
     (k h : ℕ) (test : Word → Bool) (states : List State) → ContextualStates k h states →

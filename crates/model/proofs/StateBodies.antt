@@ -8,10 +8,9 @@ use native.Mathlib.Omega.{arith}
 use lib.Dec.{eqb, ltb, leb}
 use lib.ListN.{length}
 use borrow.Author.Tests.{lt-ltb, le-leb, leb-true}
-use Rattle.model.specs.Limits.{when}
+use Rattle.base.specs.Limits.{when}
 use Rattle.model.specs.Fields.{arcsOk, stateOk}
-use Rattle.model.specs.Tables.{Arc, arc, State, state, arcBytes, stateBody, arcsIn, stateIn, statesIn}
-use Rattle.model.proofs.Arcs.{Ascending}
+use Rattle.model.specs.Tables.{Arc, arc, State, state, arcBytes, stateBody, arcsIn, stateIn, statesIn, Ascending}
 
 -- a number is its high byte and its low byte
 pub two-bytes : (n : ℕ) → 256 * (n / 256) + n % 256 ≡ n
@@ -35,7 +34,7 @@ arcs-read zero (a ∷ arcs) h = let z : ⊥ = omega arith in absurd z
 arcs-read (suc f) (a ∷ arcs) h =
     ap₂ (λ (t : ℕ) (more : List Arc). arc (a .name) t ∷ more) (two-bytes (a .to)) (arcs-read f arcs (omega arith))
 
-accepts-read : (t : Bool) → eqb (when t 1) 1 ≡ t
+pub accepts-read : (t : Bool) → eqb (when t 1) 1 ≡ t
 accepts-read true = refl
 accepts-read false = refl
 

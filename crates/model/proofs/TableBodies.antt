@@ -10,12 +10,11 @@ use native.Mathlib.Omega.{arith}
 use borrow.Author.Tests.{leb-true, ltb-true, lt-ltb}
 use lib.Dec.{ltb, leb}
 use lib.ListN.{length, getD, drop, length-append}
-use Rattle.model.specs.Limits.{name-limit, bad-numbering, when, firstOf}
-use Rattle.model.specs.Fields.{File, unread, default-class, table, withField, arcsOk, stateOk, readFields, readWith}
-use Rattle.model.specs.Tables.{Arc, no-state, arcsIn, stateIn, statesIn, isFirstMet}
+use Rattle.base.specs.Limits.{name-limit, bad-numbering, when, firstOf}
+use Rattle.model.specs.Fields.{File, unread, standard, table, withField, arcsOk, stateOk, readTable, readWith}
+use Rattle.model.specs.Tables.{Arc, empty-state, arcsIn, stateIn, statesIn, isFirstMet, Ascending}
 use Rattle.model.specs.Calls.{sizesFault, tableOf, tableStates, tableFault}
 use Rattle.model.specs.Sources.{AllReached}
-use Rattle.model.proofs.Arcs.{Ascending}
 use Rattle.model.proofs.FieldLaws.{Fitting, a-name, a-class, a-row, a-state, fitting, first-of, when-not}
 use Rattle.model.proofs.Turns.{read-keeps}
 use Rattle.model.proofs.Reached.{all-reached}
@@ -97,13 +96,13 @@ good-grows f mark body more rest (a-state k e high fits) g =
 
 -- so every state's field of a table that is read without a fault passed the test
 pub bodies-ok :
-    (s : List ℕ) → readFields table s .number ≡ 0 → (r : List ℕ) → In r (tableOf s .items) → stateOk name-limit r ≡ true
+    (s : List ℕ) → readTable s .number ≡ 0 → (r : List ℕ) → In r (tableOf s .items) → stateOk name-limit r ≡ true
 unfolding tableOf readWith
 bodies-ok s ok =
     read-keeps table Good
     (λ f mark a b body rest size fit g.
     good-grows f mark body (mark ∷ (a ∷ (b ∷ (body ++ rest)))) rest (fitting table f mark body fit) g)
-    (suc (length s)) (unread default-class) s
+    (suc (length s)) (unread (standard .default-class)) s
     (record { few = omega arith; bodies = λ r m. absurd (List·Memᴰ·not-nil m) }) ok .1 .bodies
 
 -- ---- every state is reached
@@ -111,7 +110,7 @@ bodies-ok s ok =
 -- arcs that ascend in each field ascend in each state
 ascending-at :
     (items : List (List ℕ)) → ((r : List ℕ) → In r items → Ascending 0 (stateIn r .arcs)) → (q : ℕ) →
-    Ascending 0 (getD (map stateIn items) q no-state .arcs)
+    Ascending 0 (getD (map stateIn items) q empty-state .arcs)
 ascending-at [] up q = tt
 ascending-at (r ∷ items) up zero = up r (here refl)
 ascending-at (r ∷ items) up (suc q) = ascending-at items (λ x m. up x (there m)) q
@@ -121,7 +120,7 @@ pub accepted-reached : (s work : List ℕ) → tableFault s work ≡ 0 → AllRe
 unfolding tableFault tableStates statesIn
 accepted-reached s work ok =
     let numbered = isFirstMet (tableStates s) in
-    let fault = readFields table s .number in
+    let fault = readTable s .number in
     let numbering = when (not numbered) bad-numbering in
     let fields = first-of fault numbering (first-of (sizesFault s work) (firstOf fault numbering) ok .1) in
     all-reached (tableStates s)

@@ -8,15 +8,15 @@ use Prim.Native.Nat.{ℕ, zero, suc, _+_, _≤_, _<_}
 use native.Mathlib.Omega.{arith}
 use lib.ListN.{length, getD, List·getD-eq-default}
 use Rattle.model.specs.Classes.{Word, TailsEqual}
-use Rattle.model.specs.Tables.{State, no-state, targetIn, Walk, walk-at, walkFrom, walk, reachedState, admits}
+use Rattle.model.specs.Tables.{State, empty-state, targetIn, Walk, walk-at, walkFrom, walk, reachedState, admits}
 use Rattle.model.specs.Sources.{AdmittedBy, Reaches, AdmittedFrom, SameTails}
-use Rattle.model.proofs.Tests.{Tells, tells-and, tells-eqb, tells-itself, tells-ltb, decided}
+use Rattle.base.proofs.Tests.{Tells, tells-and, tells-eqb, tells-itself, tells-ltb, decided}
 use Rattle.model.proofs.Admits.{walk-stops, walk-goes}
 
 -- the arcs by the names of the word lead from p to q
 abbrev pub Steps : List State → ℕ → Word → ℕ → Type 0
 Steps states p [] q = p ≡ q
-Steps states p (a ∷ w) q = (r : ℕ) × (targetIn a (getD states p no-state .arcs) ≡ suc r) × Steps states r w q
+Steps states p (a ∷ w) q = (r : ℕ) × (targetIn a (getD states p empty-state .arcs) ≡ suc r) × Steps states r w q
 
 module _ (states : List State) where
   -- then the walk takes them, whatever it has taken before
@@ -33,10 +33,10 @@ module _ (states : List State) where
   walk-steps : (w : Word) (p q n : ℕ) → walkFrom states p n w ≡ walk-at q (n + length w) → Steps states p w q
   unfolding walkFrom
   walk-steps [] p q n e = ap (λ (x : Walk). x .at-state) e
-  walk-steps (a ∷ w) p q n e = go (targetIn a (getD states p no-state .arcs)) refl (λ r. walk-steps w r q (suc n))
+  walk-steps (a ∷ w) p q n e = go (targetIn a (getD states p empty-state .arcs)) refl (λ r. walk-steps w r q (suc n))
     where
       go :
-          (t : ℕ) → targetIn a (getD states p no-state .arcs) ≡ t →
+          (t : ℕ) → targetIn a (getD states p empty-state .arcs) ≡ t →
           ((r : ℕ) → walkFrom states r (suc n) w ≡ walk-at q (suc n + length w) → Steps states r w q) →
           Steps states p (a ∷ w) q
       go zero t again =
@@ -108,11 +108,11 @@ module _ (states : List State) where
     where
       nothing : (w : Word) → length states ≤ p → Steps states p w (h .end) → ⊥
       nothing [] past s =
-          let none : getD states (h .end) no-state ≡ no-state =
-          ap (λ (k : ℕ). getD states k no-state) (sym s) ∙ List·getD-eq-default states no-state past in
+          let none : getD states (h .end) empty-state ≡ empty-state =
+          ap (λ (k : ℕ). getD states k empty-state) (sym s) ∙ List·getD-eq-default states empty-state past in
           false≢true (sym (ap (λ (x : State). x .accepts) none) ∙ h .accepting)
       nothing (a ∷ w) past s =
-          let none : getD states p no-state ≡ no-state = List·getD-eq-default states no-state past in
+          let none : getD states p empty-state ≡ empty-state = List·getD-eq-default states empty-state past in
           let zero-is : 0 ≡ suc (s .0) = sym (ap (λ (x : State). targetIn a (x .arcs)) none) ∙ s .1 in
           omega arith
 
@@ -125,7 +125,7 @@ module _ (states : List State) where
   unfolding admits reachedState walk
   tells-admitted r =
       let w : Walk = walkFrom states 0 0 r in
-      let both = tells-and (tells-eqb (w .taken) (length r)) (tells-itself (getD states (w .at-state) no-state .accepts)) in
+      let both = tells-and (tells-eqb (w .taken) (length r)) (tells-itself (getD states (w .at-state) empty-state .accepts)) in
       record {
         fact = λ e.
             let f = both .fact e in
@@ -136,7 +136,7 @@ module _ (states : List State) where
             };
         test = λ h. both .test (
           ap (λ (x : Walk). x .taken) (h .way .walked),
-          subst (λ (x : Walk). getD states (x .at-state) no-state .accepts ≡ true) (sym (h .way .walked)) (h .accepting),
+          subst (λ (x : Walk). getD states (x .at-state) empty-state .accepts ≡ true) (sym (h .way .walked)) (h .accepting),
         );
       }
 

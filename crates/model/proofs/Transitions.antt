@@ -7,9 +7,10 @@ use mathlib.Core.List.{List·Memᴰ·tail as there, List·Memᴰ·not-nil, List�
 use mathlib.Core.List.{tail-eq-of-cons-eq, cons≢nil}
 use Prim.Native.Nat.{ℕ}
 use Rattle.model.specs.Classes.{Word}
-use Rattle.model.specs.Lists.{lastOr}
-use Rattle.model.specs.Joinings.{Transition, transition, transitionsInto, transitionsOf, groupAt}
-use Rattle.model.proofs.Notions.{Tree, Fits, Walks, _▸_, Deterministic}
+use Rattle.base.proofs.Lists.{lastOr-snoc}
+use Rattle.base.specs.Lists.{lastOr}
+use Rattle.model.specs.Joinings.{Transition, transition, transitionsInto, transitionsOf, groupAt, Deterministic}
+use Rattle.model.proofs.Notions.{Tree, Fits, Walks, _▸_}
 use Rattle.model.proofs.Groups.{group-in}
 
 -- ---- a word that is not empty, as a word with one name more
@@ -25,11 +26,6 @@ dropLast-snoc : (w : Word) (a : ℕ) → dropLast (w ▸ a) ≡ w
 dropLast-snoc [] a = refl
 dropLast-snoc (x ∷ []) a = refl
 dropLast-snoc (x ∷ y ∷ w) a = ap (λ (v : Word). x ∷ v) (dropLast-snoc (y ∷ w) a)
-
-lastOr-snoc : (x : ℕ) (w : Word) (a : ℕ) → lastOr x (w ▸ a) ≡ a
-unfolding lastOr
-lastOr-snoc x [] a = refl
-lastOr-snoc x (y ∷ w) a = lastOr-snoc y w a
 
 -- ---- arcs
 

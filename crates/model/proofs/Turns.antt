@@ -9,10 +9,10 @@ use lib.Dec.{eqb, ltb, eqb·suc-zero}
 use lib.ListN.{length, getD, take, drop, length-append, take-append-drop}
 use lib.Seq.{length-take-le, take-at, drop-at}
 use borrow.Author.Tests.{ltb-false, le-ltb, eqb-true, eq-eqb, ne-eqb}
-use Rattle.model.specs.Limits.{cut-off, unfinished}
+use Rattle.base.specs.Limits.{cut-off, unfinished}
 use Rattle.model.specs.Fields.{File, FileKind, fieldFault, withField, Read, refused, accepted-file, atEnd}
 use Rattle.model.specs.Fields.{statedLength, runsPast, bodyOf, afterField, readFrom}
-use Rattle.model.proofs.Tests.{or-false, false-or}
+use Rattle.base.proofs.Tests.{or-false, false-or}
 
 module _ (l : ℕ) (kind : FileKind) (f : File) (s : List ℕ) where
   -- the four cases of a turn: the end, a field cut off, a fault, a field

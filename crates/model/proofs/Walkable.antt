@@ -11,21 +11,21 @@ use native.Mathlib.Omega.{arith}
 use lib.Dec.{eqb}
 use lib.ListN.{length, getD, take}
 use lib.Seq.{take-length}
-use Rattle.model.specs.Lists.{all, filterBy, numbersFrom, hasRow}
-use Rattle.model.specs.Tables.{Arc, arc, State, no-state, targetIn, Walk, walkFrom, walk, reachedState, admits}
+use Rattle.base.specs.Lists.{all, filterBy, numbersFrom, hasRow}
+use Rattle.model.specs.Tables.{Arc, arc, State, empty-state, targetIn, Walk, walkFrom, walk, reachedState, admits}
 use Rattle.model.specs.Classes.{Word}
 use Rattle.model.specs.Claims.{allAmong}
-use Rattle.model.proofs.Tests.{decided, same-tests, tells-itself, tells-eqb, tells-ltb, tells-and, tells-all}
-use Rattle.model.proofs.Tests.{tells-hasRow}
-use Rattle.model.proofs.Lists.{in-flatMap, in-filterBy}
-use Rattle.model.proofs.Places.{in-numbersFrom}
+use Rattle.base.proofs.Tests.{decided, same-tests, tells-itself, tells-eqb, tells-ltb, tells-and, tells-all}
+use Rattle.base.proofs.Tests.{tells-hasRow}
+use Rattle.base.proofs.Lists.{in-flatMap, in-filterBy}
+use Rattle.base.proofs.Places.{in-numbersFrom}
 use Rattle.model.proofs.Admits.{walk-stops, walk-goes}
 
 -- the words of n names that can be walked from a state
 unfoldable pub walkable : List State → ℕ → ℕ → List Word
 walkable states zero q = [] ∷ []
 walkable states (suc n) q =
-    flatMap (λ (a : Arc). map (λ (w : Word). a .name ∷ w) (walkable states n (a .to))) (getD states q no-state .arcs)
+    flatMap (λ (a : Arc). map (λ (w : Word). a .name ∷ w) (walkable states n (a .to))) (getD states q empty-state .arcs)
 
 -- a name with a target is the name of an arc to it
 target-arc : (x t : ℕ) (arcs : List Arc) → targetIn x arcs ≡ suc t → In (arc x t) arcs
@@ -56,10 +56,10 @@ module _ (states : List State) where
   walked-begins zero w q k short e = here refl
   walked-begins (suc n) [] q k short e = let z : ⊥ = omega arith in absurd z
   walked-begins (suc n) (x ∷ w) q k short e =
-      go (targetIn x (getD states q no-state .arcs)) refl (λ t f. walked-begins n w t (suc k) (omega arith) f)
+      go (targetIn x (getD states q empty-state .arcs)) refl (λ t f. walked-begins n w t (suc k) (omega arith) f)
     where
       go :
-          (t : ℕ) → targetIn x (getD states q no-state .arcs) ≡ t →
+          (t : ℕ) → targetIn x (getD states q empty-state .arcs) ≡ t →
           ((y : ℕ) → walkFrom states y (suc k) w .taken ≡ suc k + length w → In (take n w) (walkable states n y)) →
           In (x ∷ take n w) (walkable states (suc n) q)
       go zero h again =
@@ -71,7 +71,7 @@ module _ (states : List State) where
           ap (λ (v : Walk). v .taken) (walk-goes states q k x w t h) in
           let rest : walkFrom states t (suc k) w .taken ≡ suc k + length w = omega (arith, e, goes) in
           in-flatMap (λ (a : Arc). map (λ (v : Word). a .name ∷ v) (walkable states n (a .to)))
-          (getD states q no-state .arcs) (target-arc x t (getD states q no-state .arcs) h)
+          (getD states q empty-state .arcs) (target-arc x t (getD states q empty-state .arcs) h)
           (Memᴰ·map (λ (v : Word). x ∷ v) (again t rest))
 
   -- so has a word that is admitted

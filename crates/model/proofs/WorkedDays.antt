@@ -1,4 +1,4 @@
--- The worked days hold: what document 01's table of days, its notes and its listing say is so of the definitions. In order: the
+-- The worked days hold: what the days, notes and listing of docs/SCOPE.md say is so of the definitions. In order: the
 -- tests that compute, all in one lemma, whose line `unfolding` names every definition that computes; the default class, told by
 -- Q3's states; and the theorem. Assumes nothing.
 use mathlib.Core.Path.{_≡_, refl, sym, ap, ap₂, _∙_, subst}
@@ -9,9 +9,9 @@ use Prim.Native.Nat.{ℕ, suc, _-_, _≤_}
 use native.Mathlib.Omega.{arith}
 use lib.Dec.{eqb, leb}
 use lib.ListN.{length}
-use Rattle.model.specs.Limits.{setting-limit}
-use Rattle.model.specs.Lists.{any, anyTwo, all, filterBy, numbersFrom, isIn, indexIn, same, hasRow, before, lastOr}
-use Rattle.model.specs.Fields.{Class, class-of, default-class, settingsOk, book}
+use Rattle.base.specs.Limits.{setting-limit}
+use Rattle.base.specs.Lists.{any, anyTwo, all, filterBy, numbersFrom, isIn, indexIn, same, hasRow, before, lastOr}
+use Rattle.model.specs.Fields.{Class, class-of, ClassOk, standard, settingsOk}
 use Rattle.model.specs.Fields.{nameOk, allBelow, above, nameFault, classFault, rowFault, stateFault, stateOk, arcsOk}
 use Rattle.model.specs.Fields.{fieldFault, withField, readFrom, readWith}
 use Rattle.model.specs.Tables.{State}
@@ -30,25 +30,25 @@ use Rattle.model.specs.Claims.{allAmong}
 use Rattle.model.specs.Listing.{digits, arcText, stateLine, stateLines, listing, refusalText, listingFault, listingOf}
 use Rattle.model.specs.WorkedDays.{sameRows, rowsOfLength, shortRows, acceptingIn, remarkHolds, isFile, dayHolds}
 use Rattle.model.specs.WorkedDays.{exampleHolds, daysHold, Day, Q3, finiteDays, TellsDefault, DaysClaimed}
-use Rattle.model.proofs.Tests.{Tells, decided, tells-itself, tells-eqb, tells-leb, tells-and, tells-or, tells-not}
-use Rattle.model.proofs.Tests.{tells-same, tells-all}
-use Rattle.model.proofs.Lists.{in-flatMap, in-filterBy}
-use Rattle.model.proofs.Places.{in-numbersFrom}
+use Rattle.base.proofs.Tests.{Tells, decided, tells-itself, tells-eqb, tells-leb, tells-and, tells-or, tells-not}
+use Rattle.base.proofs.Tests.{tells-same, tells-all}
+use Rattle.base.proofs.Lists.{in-flatMap, in-filterBy}
+use Rattle.base.proofs.Places.{in-numbersFrom}
 use Rattle.model.proofs.Walkable.{walkable, walkableTo, onlyThese, admits-only}
 
 -- ---- what computes
 
 -- no row of five names can be walked over the day's states, and those of at most four that they admit are the ones written down
 isExact : Day → Bool
-isExact day = onlyThese (bookStates (bookOf (day .book-bytes))) 4 (day .admitted-rows)
+isExact day = onlyThese (bookStates (bookOf standard (day .book-bytes))) 4 (day .admitted-rows)
 
 -- the states of Q3's book where this class is the default
 statesBy : Class → List State
-statesBy c = bookStates (readWith c book (Q3 .book-bytes) .file-is)
+statesBy c = bookStates (bookOf (record { default-class = c }) (Q3 .book-bytes))
 
 -- every kind with every two settings of at most 8 of which the second is at most the first
-settings : List Class
-settings =
+candidates : List Class
+candidates =
     flatMap (λ (kind : ℕ).
     flatMap (λ (x : ℕ). map (class-of kind x) (numbersFrom (suc x) 0)) (numbersFrom (suc setting-limit) 0)) (numbersFrom 3 0)
 
@@ -56,7 +56,7 @@ settings =
 givesStates : Class → Bool
 givesStates c =
     (settingsOk (c .kind) (c .first) (c .second) && not (eqb (c .kind) 0 && leb 4 (c .first)))
-    && same (stateFields (statesBy c)) (stateFields (statesBy default-class))
+    && same (stateFields (statesBy c)) (stateFields (statesBy (standard .default-class)))
 
 -- what computes
 record Computed : Type 0 where
@@ -65,13 +65,13 @@ record Computed : Type 0 where
   -- the rows admitted on the finite days
   finite : all isExact finiteDays ≡ true
   -- the default class alone gives Q3's states, contexts of more than three names left out
-  classes : filterBy givesStates settings ≡ default-class ∷ []
-  default-states : length (statesBy default-class) ≡ 4
+  classes : filterBy givesStates candidates ≡ standard .default-class ∷ []
+  default-states : length (statesBy (standard .default-class)) ≡ 4
   -- contexts of more than three names join nothing, since Q3's rows have at most three, and leave all six tree states
   long-contexts : (m h : ℕ) → length (statesBy (class-of 0 (suc (suc (suc (suc m)))) h)) ≡ 6
 
 computed : Computed
-unfolding flatMap walkable walkableTo onlyThese allAmong isExact statesBy settings givesStates
+unfolding flatMap walkable walkableTo onlyThese allAmong isExact statesBy candidates givesStates
     any anyTwo all filterBy numbersFrom isIn indexIn same hasRow before lastOr
     nameOk allBelow above nameFault classFault rowFault stateFault stateOk arcsOk fieldFault withField readFrom readWith
     fieldBytes nameFields classField arcBytes stateBody stateFields tableBytes arcsIn stateIn statesIn metByArcs
@@ -89,12 +89,12 @@ computed = record { days = refl; finite = refl; classes = refl; default-states =
 
 -- ---- the default class
 
--- a class that a class field may hold is among those settings
-in-settings : (c : Class) → settingsOk (c .kind) (c .first) (c .second) ≡ true → In c settings
-unfolding settings
-in-settings c ok = go (c .kind) (c .first) (c .second) ok
+-- a class that a class field may hold is among those candidates
+in-candidates : (c : Class) → ClassOk c → In c candidates
+unfolding candidates
+in-candidates c ok = go (c .kind) (c .first) (c .second) ok
   where
-    among : (kind x y : ℕ) → kind ≤ 2 → x ≤ setting-limit → y ≤ x → In (class-of kind x y) settings
+    among : (kind x y : ℕ) → kind ≤ 2 → x ≤ setting-limit → y ≤ x → In (class-of kind x y) candidates
     among kind x y low short within =
         in-flatMap (λ (n : ℕ).
         flatMap (λ (i : ℕ). map (class-of n i) (numbersFrom (suc i) 0)) (numbersFrom (suc setting-limit) 0)) (numbersFrom 3 0)
@@ -103,7 +103,7 @@ in-settings c ok = go (c .kind) (c .first) (c .second) ok
         (in-numbersFrom (suc setting-limit) 0 x (omega arith) (omega arith))
         (Memᴰ·map (class-of kind x) (in-numbersFrom (suc x) 0 y (omega arith) (omega arith))))
 
-    go : (kind x y : ℕ) → settingsOk kind x y ≡ true → In (class-of kind x y) settings
+    go : (kind x y : ℕ) → settingsOk kind x y ≡ true → In (class-of kind x y) candidates
     go kind x y e =
         ⊎-elim
         (λ f. among kind x y (omega (arith, f .0)) (omega (arith, f .1 .0 .1)) (omega (arith, f .1 .1 .1)))
@@ -119,7 +119,7 @@ in-settings c ok = go (c .kind) (c .first) (c .second) ok
         (tells-and (tells-eqb kind 2) (tells-and (tells-leb x setting-limit) (tells-eqb y 0)))) .fact e)
 
 -- a context of more than three names does not give Q3's states
-no-long-context : (c : Class) → c .kind ≡ 0 → 4 ≤ c .first → statesBy c ≡ statesBy default-class → ⊥
+no-long-context : (c : Class) → c .kind ≡ 0 → 4 ≤ c .first → statesBy c ≡ statesBy (standard .default-class) → ⊥
 no-long-context c context long e =
     let more : suc (suc (suc (suc (c .first - 4)))) ≡ c .first = omega arith in
     let c-is : class-of 0 (suc (suc (suc (suc (c .first - 4))))) (c .second) ≡ c =
@@ -130,33 +130,37 @@ no-long-context c context long e =
     omega arith
 
 -- the default class alone gives them
-default-told : TellsDefault Q3
-unfolding bookOf statesBy givesStates
-default-told c ok e =
+class-told : (c : Class) → ClassOk c → statesBy c ≡ statesBy (standard .default-class) → c ≡ standard .default-class
+unfolding givesStates
+class-told c ok e =
     ⊎-elim (λ long. absurd (no-long-context c (long .0) (long .1) e))
     (λ short.
     List·Memᴰ·eq-of-singleton
     (subst (λ (cs : List Class). In c cs) (computed .classes)
-    (in-filterBy givesStates settings (in-settings c ok)
+    (in-filterBy givesStates candidates (in-candidates c ok)
     (tells-and
     (tells-and (tells-itself (settingsOk (c .kind) (c .first) (c .second))) (tells-not long-context))
-    (tells-same (stateFields (statesBy c)) (stateFields (statesBy default-class))) .test
+    (tells-same (stateFields (statesBy c)) (stateFields (statesBy (standard .default-class)))) .test
     ((ok, short), ap (λ (states : List State). stateFields states) e)))))
     (decided long-context)
   where
     long-context : Tells (eqb (c .kind) 0 && leb 4 (c .first)) ((c .kind ≡ 0) × (4 ≤ c .first))
     long-context = tells-and (tells-eqb (c .kind) 0) (tells-leb 4 (c .first))
 
+default-told : TellsDefault Q3
+unfolding bookOf readWith statesBy
+default-told settings ok e = class-told (settings .default-class) ok e
+
 -- ---- the theorem
 
--- document 01's days, and all that is claimed of them
+-- the days of docs/SCOPE.md, section 10, and all that is claimed of them
 pub worked-days-hold : DaysClaimed
 unfolding isExact
 worked-days-hold =
     record {
       computed = computed .days;
       any-length = λ day m.
-          admits-only (bookStates (bookOf (day .book-bytes))) 4 (day .admitted-rows)
+          admits-only (bookStates (bookOf standard (day .book-bytes))) 4 (day .admitted-rows)
           (tells-all (λ d. tells-itself (isExact d)) finiteDays .fact (computed .finite) day m);
       default-told = default-told;
     }

@@ -5,9 +5,8 @@ use mathlib.Core.Bool.{true}
 use mathlib.Core.List.{List, [], _∷_, List·Memᴰ as In}
 use Prim.Native.Nat.{ℕ, _+_, _≤_, _<_}
 use lib.ListN.{length}
-use Rattle.model.specs.Limits.{state-limit}
-use Rattle.model.specs.Tables.{Arc, State, isFirstMet}
-use Rattle.model.proofs.Arcs.{Ascending}
+use Rattle.base.specs.Limits.{state-limit}
+use Rattle.model.specs.Tables.{Arc, State, isFirstMet, Ascending}
 
 -- the arcs of all states
 unfoldable pub arcCount : List State → ℕ

@@ -7,17 +7,17 @@ use Prim.Native.Nat.{ℕ, suc, _≤_, _<_}
 use native.Mathlib.Omega.{arith}
 use lib.ListN.{length, length-map}
 use borrow.Author.Tests.{eq-eqb}
-use Rattle.model.specs.Limits.{state-limit}
-use Rattle.model.specs.Lists.{indexIn}
+use Rattle.base.specs.Limits.{state-limit}
+use Rattle.base.specs.Lists.{indexIn}
 use Rattle.model.specs.Classes.{Word}
-use Rattle.model.specs.Tables.{Arc, arc, State, metByStates, isFirstMet}
-use Rattle.model.specs.Joinings.{transition, transitionsOf, groupAt}
+use Rattle.model.specs.Tables.{Arc, arc, State, metByStates, isFirstMet, Ascending}
+use Rattle.model.specs.Joinings.{transition, transitionsOf, groupAt, Deterministic}
 use Rattle.model.specs.Quotients.{arcsOutOf, metGroups, renumbered, stateOf, statesOf}
-use Rattle.model.proofs.Lists.{map-in}
-use Rattle.model.proofs.Places.{nth-of-index}
-use Rattle.model.proofs.Notions.{Tree, Fits, Deterministic, _▸_}
+use Rattle.base.proofs.Lists.{map-in}
+use Rattle.base.proofs.Places.{nth-of-index}
+use Rattle.model.proofs.Notions.{Tree, Fits, _▸_}
 use Rattle.model.proofs.Transitions.{arc-node}
-use Rattle.model.proofs.Arcs.{Ascending, arcsOutOf-ascending, arcsOutOf-in}
+use Rattle.model.proofs.Arcs.{arcsOutOf-ascending, arcsOutOf-in}
 use Rattle.model.proofs.FirstMet.{met-distinct, root-met, met-few, met-closed, states-length}
 use Rattle.model.proofs.MetOrder.{metByStates-follows}
 use Rattle.model.proofs.ArcCount.{arcs-few}

@@ -8,17 +8,13 @@ use native.Mathlib.Omega.{arith}
 use lib.Dec.{leb}
 use lib.ListN.{length, length-append}
 use borrow.Author.Tests.{leb-true}
-use Rattle.model.specs.Lists.{all}
-use Rattle.model.specs.Limits.{name-limit, name-bytes}
+use Rattle.base.specs.Lists.{all}
+use Rattle.base.specs.Limits.{name-limit, name-bytes}
 use Rattle.model.specs.Fields.{nameOk, startsName, continuesName}
 use Rattle.model.specs.Tables.{State, fieldBytes, nameFields, stateFields, stateBody}
 use Rattle.model.proofs.Writable.{arcCount}
 use Rattle.model.proofs.StateBodies.{body-length}
 use Rattle.model.proofs.Books.{NamesOk}
-
--- a book's table takes at most so many: 64 names, the class in 6 bytes, 512 states and as many arcs
-abbrev pub table-bytes : ℕ
-table-bytes = 5830
 
 -- a field has three bytes before its body
 field-length : (mark : ℕ) (body : List ℕ) → length (fieldBytes mark body) ≡ 3 + length body
@@ -26,7 +22,7 @@ unfolding fieldBytes
 field-length mark body = omega arith
 
 -- a name is within its limit
-name-length : (n : List ℕ) → nameOk n ≡ true → length n ≤ name-bytes
+pub name-length : (n : List ℕ) → nameOk n ≡ true → length n ≤ name-bytes
 unfolding nameOk
 name-length [] ok = omega arith
 name-length (b ∷ bs) ok =

@@ -1,5 +1,5 @@
--- What is given back (document 01): what every call says of its answer and of each lent byte; then which refusal a build, a
--- rewriting and a walk come to, in the order in which they are judged, and what is written where there is none. The crate `plans`
+-- What is given back (docs/SCOPE.md, section 4): what every call says of its answer and of each lent byte; then which refusal a build, a
+-- rewriting and a walk come to, in the order in which they are judged, and what is written where there is none. The crate `results`
 -- puts the two together, one definition for each public entry. Assumes nothing.
 use mathlib.Core.Path.{_≡_}
 use mathlib.Core.Bool.{Bool, true, false, _||_, not, cond}
@@ -7,10 +7,11 @@ use mathlib.Core.List.{List, [], _∷_, _++_}
 use Prim.Native.Nat.{ℕ, _-_, _<_}
 use lib.Dec.{eqb, ltb}
 use lib.ListN.{length, drop, replicate}
-use Rattle.model.specs.Limits.{state-limit, input-limit, work-bytes, when, firstOf}
-use Rattle.model.specs.Limits.{bad-sizes, bad-row, tree-too-large, bad-numbering, output-too-short}
-use Rattle.model.specs.Fields.{File, book, table, readFields, rowOk}
+use Rattle.base.specs.Limits.{state-limit, input-limit, work-bytes, when, firstOf}
+use Rattle.base.specs.Limits.{bad-sizes, bad-row, tree-too-large, bad-numbering, output-too-short}
+use Rattle.model.specs.Fields.{File, Settings, readBook, readTable, rowOk}
 use Rattle.model.specs.Tables.{State, statesIn, tableBytes, isFirstMet}
+use Rattle.model.specs.Classes.{Word}
 use Rattle.model.specs.Joinings.{treeOf}
 use Rattle.model.specs.Quotients.{bookStates}
 
@@ -75,18 +76,20 @@ unfoldable pub sizesFault : List ℕ → List ℕ → ℕ
 sizesFault input work = when (ltb input-limit (length input) || ltb (length work) work-bytes) bad-sizes
 
 -- the book that the bytes hold
-unfoldable pub bookOf : List ℕ → File
-bookOf s = readFields book s .file-is
+unfoldable pub bookOf : Settings → List ℕ → File
+bookOf settings s = readBook settings s .file-is
+
+-- 10: the prefix tree of the rows needs over 512 states
+abbrev pub treeFault : List Word → ℕ
+treeFault rows = when (ltb state-limit (length (treeOf rows))) tree-too-large
 
 -- the fields' refusals, then 10
-unfoldable pub bookFault : List ℕ → ℕ
-bookFault s =
-    firstOf (readFields book s .number)
-    (when (ltb state-limit (length (treeOf (bookOf s .items)))) tree-too-large)
+unfoldable pub bookFault : Settings → List ℕ → ℕ
+bookFault settings s = firstOf (readBook settings s .number) (treeFault (bookOf settings s .items))
 
 -- a build: 1, the fields', 10
-unfoldable pub buildFault : List ℕ → List ℕ → ℕ
-buildFault s work = firstOf (sizesFault s work) (bookFault s)
+unfoldable pub buildFault : Settings → List ℕ → List ℕ → ℕ
+buildFault settings s work = firstOf (sizesFault s work) (bookFault settings s)
 
 -- joins: tree states less table states
 unfoldable pub joinsOf : File → ℕ
@@ -94,7 +97,7 @@ joinsOf f = length (treeOf (f .items)) - length (bookStates f)
 
 -- the table that the bytes hold
 unfoldable pub tableOf : List ℕ → File
-tableOf s = readFields table s .file-is
+tableOf s = readTable s .file-is
 
 -- the states of that table
 unfoldable pub tableStates : List ℕ → List State
@@ -104,7 +107,7 @@ tableStates s = statesIn (tableOf s .items)
 unfoldable pub tableFault : List ℕ → List ℕ → ℕ
 tableFault s work =
     firstOf (sizesFault s work)
-    (firstOf (readFields table s .number)
+    (firstOf (readTable s .number)
     (when (not (isFirstMet (tableStates s))) bad-numbering))
 
 -- a table read and written again

@@ -5,9 +5,9 @@ use mathlib.Core.Bool.{Bool, true}
 use mathlib.Core.List.{List}
 use Prim.Native.Nat.{ℕ, _<_, _≤_}
 use lib.ListN.{length, getD}
-use Rattle.model.specs.Limits.{work-bytes}
-use Rattle.model.specs.Lists.{all, hasRow}
-use Rattle.model.specs.Fields.{File}
+use Rattle.base.specs.Limits.{work-bytes}
+use Rattle.base.specs.Lists.{all, hasRow}
+use Rattle.model.specs.Fields.{File, Settings, Allowed}
 use Rattle.model.specs.Tables.{admits}
 use Rattle.model.specs.Classes.{Word, InClass}
 use Rattle.model.specs.Joinings.{Step, treeOf, apart, isFullJoining, afterSteps, joinedGroups}
@@ -15,8 +15,8 @@ use Rattle.model.specs.Quotients.{bookStates, bookTable, tableAfter}
 use Rattle.model.specs.Calls.{bookFault, bookOf, tableFault, tableStates, rewritten}
 
 -- a book is accepted: read without a fault, and its prefix tree has at most 512 states
-abbrev pub Accepted : List ℕ → Type 0
-Accepted s = bookFault s ≡ 0
+abbrev pub Accepted : Settings → List ℕ → Type 0
+Accepted settings s = bookFault settings s ≡ 0
 
 -- each of these rows is among those
 unfoldable pub allAmong : List Word → List Word → Bool
@@ -40,30 +40,34 @@ pub record DefiningJoining (f : File) : Type 0 where
 abbrev pub Admitted : File → Word → Type 0
 Admitted f r = admits (bookStates f) r ≡ true
 
--- demand 3, undivided: its seven facts
-pub record Demand-3 : Type 1 where
-  -- every full joining of every accepted book with the same names, class and set of rows has the table that build writes
+-- demand 3, undivided, of books read with these settings: its seven facts
+pub record Demand-3 (settings : Settings) : Type 1 where
+  -- every full joining of every accepted book with the same names, class and set of rows, whatever settings that one is read
+  -- with, has the table that build writes
   pub any-order :
-      (s t : List ℕ) (steps : List Step) → Accepted s → Accepted t → SameBook (bookOf s) (bookOf t) →
-      isFullJoining (bookOf t .class-is) (bookOf t .items) steps ≡ true →
-      tableAfter (bookOf t) steps ≡ bookTable (bookOf s)
+      (others : Settings) (s t : List ℕ) (steps : List Step) → Accepted settings s → Accepted others t →
+      SameBook (bookOf settings s) (bookOf others t) →
+      isFullJoining (bookOf others t .class-is) (bookOf others t .items) steps ≡ true →
+      tableAfter (bookOf others t) steps ≡ bookTable (bookOf settings s)
   -- a book is such a book itself, so its own full joinings are among these
-  pub book-itself : (s : List ℕ) → SameBook (bookOf s) (bookOf s)
+  pub book-itself : (s : List ℕ) → SameBook (bookOf settings s) (bookOf settings s)
   -- such books have the same table, to the byte
   pub same-table :
-      (s t : List ℕ) → Accepted s → Accepted t → SameBook (bookOf s) (bookOf t) →
-      bookTable (bookOf s) ≡ bookTable (bookOf t)
+      (others : Settings) (s t : List ℕ) → Accepted settings s → Accepted others t →
+      SameBook (bookOf settings s) (bookOf others t) →
+      bookTable (bookOf settings s) ≡ bookTable (bookOf others t)
   -- there is one: the joining that defines the table is a full joining of its book
-  pub some-joining : (s : List ℕ) → Accepted s → DefiningJoining (bookOf s)
+  pub some-joining : (s : List ℕ) → Accepted settings s → DefiningJoining (bookOf settings s)
   -- the table admits the book's rows
-  pub rows-admitted : (s r : List ℕ) → Accepted s → hasRow r (bookOf s .items) ≡ true → Admitted (bookOf s) r
+  pub rows-admitted :
+      (s r : List ℕ) → Accepted settings s → hasRow r (bookOf settings s .items) ≡ true → Admitted (bookOf settings s) r
   -- what it admits lies in the class
-  pub in-class : (s : List ℕ) → Accepted s → InClass (bookOf s .class-is) (Admitted (bookOf s))
+  pub in-class : (s : List ℕ) → Accepted settings s → InClass (bookOf settings s .class-is) (Admitted (bookOf settings s))
   -- no set of words of the class that holds the book's rows admits less
   pub smallest :
-      (s : List ℕ) (l : Word → Type 0) → Accepted s → InClass (bookOf s .class-is) l →
-      ((r : Word) → hasRow r (bookOf s .items) ≡ true → l r) →
-      (r : Word) → Admitted (bookOf s) r → l r
+      (s : List ℕ) (l : Word → Type 0) → Accepted settings s → InClass (bookOf settings s .class-is) l →
+      ((r : Word) → hasRow r (bookOf settings s .items) ≡ true → l r) →
+      (r : Word) → Admitted (bookOf settings s) r → l r
 
 -- the numbers are bytes
 abbrev pub AllBytes : List ℕ → Type 0
@@ -73,13 +77,15 @@ AllBytes s = (i : ℕ) → i < length s → getD s i 0 < 256
 pub record Same-bytes : Type 0 where
   pub rewrites : (s work : List ℕ) → AllBytes s → tableFault s work ≡ 0 → rewritten s ≡ s
 
--- what build writes is read back, with no refusal, as the states that it was written from
-pub record Reads-back : Type 0 where
-  pub accepted-again : (s work : List ℕ) → Accepted s → work-bytes ≤ length work → tableFault (bookTable (bookOf s)) work ≡ 0
-  pub same-states : (s : List ℕ) → Accepted s → tableStates (bookTable (bookOf s)) ≡ bookStates (bookOf s)
+-- what build writes with these settings is read back, with no refusal, as the states that it was written from
+pub record Reads-back (settings : Settings) : Type 0 where
+  pub accepted-again :
+      (s work : List ℕ) → Accepted settings s → work-bytes ≤ length work → tableFault (bookTable (bookOf settings s)) work ≡ 0
+  pub same-states :
+      (s : List ℕ) → Accepted settings s → tableStates (bookTable (bookOf settings s)) ≡ bookStates (bookOf settings s)
 
--- all of it
+-- all of it, with all settings that are allowed
 pub record Demands : Type 1 where
-  pub third : Demand-3
+  pub third : (settings : Settings) → Allowed settings → Demand-3 settings
   pub same-bytes : Same-bytes
-  pub reads-back : Reads-back
+  pub reads-back : (settings : Settings) → Allowed settings → Reads-back settings

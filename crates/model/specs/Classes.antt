@@ -1,4 +1,4 @@
--- The two families (document 01): (k,h)-contextual sets of words, after Ahonen, and f-distinguishable ones, after Fernau.
+-- The classes (docs/SCOPE.md, section 6): (k,h)-contextual sets of words, after Ahonen, and f-distinguishable ones, after Fernau.
 -- A word is a row of any length. A set of words is any predicate, finite or not, whether or not an automaton carries it.
 -- Assumes nothing.
 use mathlib.Core.Path.{_≡_}
@@ -8,6 +8,7 @@ use mathlib.Core.List.{List, [], _∷_, _++_}
 use Prim.Native.Nat.{ℕ, _-_, _≤_}
 use lib.Dec.{eqb, ltb}
 use lib.ListN.{length, take, drop}
+use Rattle.base.specs.Limits.{context-kind, seen-set-kind}
 use Rattle.model.specs.Fields.{Class}
 
 -- a word: a row of any length, as the numbers of its names
@@ -48,9 +49,9 @@ seenSet (x ∷ xs) = putName x (seenSet xs)
 unfoldable pub lastNames : ℕ → Word → List ℕ
 lastNames j w = drop (length w - j) w
 
--- f (Fernau's distinguishing function) of kinds 1 and 2
+-- f (Fernau's distinguishing function): the seen set or the last names
 unfoldable pub fOf : Class → Word → List ℕ
-fOf c w = cond (eqb (c .kind) 1) (seenSet w) (lastNames (c .first) w)
+fOf c w = cond (eqb (c .kind) seen-set-kind) (seenSet w) (lastNames (c .first) w)
 
 -- f-distinguishable: equal f and a common tail make all tails equal
 pub record Distinguishable (c : Class) (l : Word → Type 0) : Type 0 where
@@ -58,4 +59,4 @@ pub record Distinguishable (c : Class) (l : Word → Type 0) : Type 0 where
 
 -- l is of the class
 abbrev pub InClass : Class → (Word → Type 0) → Type 0
-InClass c l = cond (eqb (c .kind) 0) (Contextual (c .first) (c .second) l) (Distinguishable c l)
+InClass c l = cond (eqb (c .kind) context-kind) (Contextual (c .first) (c .second) l) (Distinguishable c l)

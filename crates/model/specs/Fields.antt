@@ -1,15 +1,18 @@
--- Fields of books and tables (document 01, "Fields"), read in file order with refusals 2 to 9 and 11. One reading serves both
+-- Fields of books and tables (docs/SCOPE.md, section 3), read in file order with refusals 2 to 9 and 11. One reading serves both
 -- kinds of file. Names, rows and state fields are lists of bytes; what a state field means is in Tables. Assumes nothing.
+use mathlib.Core.Path.{_≡_}
 use mathlib.Core.Bool.{Bool, true, false, _&&_, _||_, not, cond}
 use mathlib.Core.List.{List, [], _∷_, _++_}
 use Prim.Native.Nat.{ℕ, zero, suc, _+_, _*_}
 use lib.Dec.{eqb, ltb, leb}
 use lib.ListN.{length, getD, take, drop}
-use Rattle.model.specs.Lists.{all, before, lastOr}
-use Rattle.model.specs.Limits.{name-limit, name-bytes, book-rows, row-limit, state-limit, setting-limit, when, firstOf}
-use Rattle.model.specs.Limits.{cut-off, misplaced, unfinished, bad-name, name-order, too-many, bad-class, bad-row, bad-state}
+use Rattle.base.specs.Lists.{all, before, lastOr}
+use Rattle.base.specs.Limits.{name-limit, name-bytes, book-rows, row-limit, state-limit, setting-limit, when, firstOf}
+use Rattle.base.specs.Limits.{name-mark, class-mark, row-mark, state-mark, name-due, names-met, class-met, items-met}
+use Rattle.base.specs.Limits.{context-kind, seen-set-kind, last-names-kind}
+use Rattle.base.specs.Limits.{cut-off, misplaced, unfinished, bad-name, name-order, too-many, bad-class, bad-row, bad-state}
 
--- a class: kind 0 context, with k and h; 1 seen set; 2 last names, with j
+-- a class: its kind and its settings, k and h of a context or j of last names
 pub record Class : Type 0 where
   pub kind : ℕ
   pub first : ℕ
@@ -19,10 +22,6 @@ pub record Class : Type 0 where
 abbrev pub class-of : ℕ → ℕ → ℕ → Class
 class-of kind first second = record { kind = kind; first = first; second = second }
 
--- the class of a book without a class field: context, k = 2, h = 1
-abbrev pub default-class : Class
-default-class = class-of 0 2 1
-
 -- context: k from 1 to 8, h from 1 to k
 abbrev pub contextOk : ℕ → ℕ → Bool
 contextOk k h = (leb 1 k && leb k setting-limit) && (leb 1 h && leb h k)
@@ -30,8 +29,24 @@ contextOk k h = (leb 1 k && leb k setting-limit) && (leb 1 h && leb h k)
 -- the settings that go with a kind
 abbrev pub settingsOk : ℕ → ℕ → ℕ → Bool
 settingsOk kind x y =
-    (eqb kind 0 && contextOk x y)
-    || ((eqb kind 1 && (eqb x 0 && eqb y 0)) || (eqb kind 2 && (leb x setting-limit && eqb y 0)))
+    (eqb kind context-kind && contextOk x y)
+    || ((eqb kind seen-set-kind && (eqb x 0 && eqb y 0)) || (eqb kind last-names-kind && (leb x setting-limit && eqb y 0)))
+
+-- a class that a class field may hold
+abbrev pub ClassOk : Class → Type 0
+ClassOk c = settingsOk (c .kind) (c .first) (c .second) ≡ true
+
+-- what an entry reads books and builds tables with: the class of a book without a class field
+pub record Settings : Type 0 where
+  pub default-class : Class
+
+-- which settings are allowed: those with a default class that a class field may hold
+abbrev pub Allowed : Settings → Type 0
+Allowed settings = ClassOk (settings .default-class)
+
+-- the settings of docs/SCOPE.md, section 3.5: context, k = 2, h = 1
+abbrev pub standard : Settings
+standard = record { default-class = class-of context-kind 2 1 }
 
 -- a class field's bytes: kind and two settings
 abbrev pub classOk : List ℕ → Bool
@@ -83,8 +98,7 @@ book = false
 abbrev pub table : FileKind
 table = true
 
--- a file as read so far: its place in the order (0 a name is due, 1 names met, 2 the class met, 3 rows or states met), its
--- names, its class, and its items: a book's rows or a table's state fields
+-- a file as read so far: the stage of reading, its names, its class, and its items: a book's rows or a table's state fields
 pub record File : Type 0 where
   pub stage : ℕ
   pub names : List (List ℕ)
@@ -97,25 +111,26 @@ file stage names class items = record { stage = stage; names = names; class-is =
 
 -- a file of which nothing is read yet; a book that names no class keeps the one given here
 abbrev pub unread : Class → File
-unread class = file 0 [] class []
+unread class = file name-due [] class []
 
--- which mark may come next: 01 name, 02 class (at most one in a book, exactly one in a table), 03 row, 04 state
+-- which mark may come next: a class comes at most once in a book, and exactly once in a table
 abbrev pub mayCome : FileKind → ℕ → ℕ → Bool
 mayCome kind stage mark =
-    (eqb mark 1 && leb stage 1)
-    || ((eqb mark 2 && eqb stage 1) || cond kind (eqb mark 4 && leb 2 stage) (eqb mark 3 && leb 1 stage))
+    (eqb mark name-mark && leb stage names-met)
+    || ((eqb mark class-mark && eqb stage names-met)
+    || cond kind (eqb mark state-mark && leb class-met stage) (eqb mark row-mark && leb names-met stage))
 
 -- the name stands above the last one before it, if there is one
 unfoldable pub above : List (List ℕ) → List ℕ → Bool
 above [] b = true
 above (n ∷ names) b = before (lastOr n names) b
 
--- one more name: 5, 6 and 7, 0 for no fault
-unfoldable pub nameFault : File → List ℕ → ℕ
-nameFault f body =
+-- one more name after those so far: 5, 6 and 7, 0 for no fault
+unfoldable pub nameFault : List (List ℕ) → List ℕ → ℕ
+nameFault names body =
     firstOf (when (not (nameOk body)) bad-name)
-    (firstOf (when (not (above (f .names) body)) name-order)
-    (when (leb name-limit (length (f .names))) too-many))
+    (firstOf (when (not (above names body)) name-order)
+    (when (leb name-limit (length names)) too-many))
 
 -- a class: 8
 unfoldable pub classFault : List ℕ → ℕ
@@ -125,35 +140,37 @@ classFault body = when (not (classOk body)) bad-class
 abbrev pub rowOk : ℕ → List ℕ → Bool
 rowOk n body = leb (length body) row-limit && allBelow n body
 
+-- one more item, a row or a state: 7 where there are as many as the limit, then its own refusal where it is not allowed
+abbrev pub itemFault : ℕ → (ℕ → List ℕ → Bool) → ℕ → File → List ℕ → ℕ
+itemFault limit ok bad f body =
+    firstOf (when (leb limit (length (f .items))) too-many) (when (not (ok (length (f .names)) body)) bad)
+
 -- one more row: 7 and 9
 unfoldable pub rowFault : File → List ℕ → ℕ
-rowFault f body =
-    firstOf (when (leb book-rows (length (f .items))) too-many)
-    (when (not (rowOk (length (f .names)) body)) bad-row)
+rowFault f body = itemFault book-rows rowOk bad-row f body
 
 -- one more state: 7 and 11
 unfoldable pub stateFault : File → List ℕ → ℕ
-stateFault f body =
-    firstOf (when (leb state-limit (length (f .items))) too-many)
-    (when (not (stateOk (length (f .names)) body)) bad-state)
+stateFault f body = itemFault state-limit stateOk bad-state f body
 
--- the mark decides how a field is read: one choice for each of 01 to 04, the last also for every other mark
+-- the mark decides how a field is read: one choice for each mark, the last also for every number that is none
 abbrev pub byMark : {A : Type 0} → ℕ → A → A → A → A → A
-byMark mark name class row state = cond (eqb mark 1) name (cond (eqb mark 2) class (cond (eqb mark 3) row state))
+byMark mark name class row state =
+    cond (eqb mark name-mark) name (cond (eqb mark class-mark) class (cond (eqb mark row-mark) row state))
 
 -- a field judged by the refusals that concern it, in ascending number
 unfoldable pub fieldFault : FileKind → File → ℕ → List ℕ → ℕ
 fieldFault kind f mark body =
     firstOf (when (not (mayCome kind (f .stage) mark)) misplaced)
-    (byMark mark (nameFault f body) (classFault body) (rowFault f body) (stateFault f body))
+    (byMark mark (nameFault (f .names) body) (classFault body) (rowFault f body) (stateFault f body))
 
 -- the file with one field more
 unfoldable pub withField : File → ℕ → List ℕ → File
 withField f mark body =
-    let item = file 3 (f .names) (f .class-is) (f .items ++ (body ∷ [])) in
+    let item = file items-met (f .names) (f .class-is) (f .items ++ (body ∷ [])) in
     byMark mark
-    (file 1 (f .names ++ (body ∷ [])) (f .class-is) (f .items))
-    (file 2 (f .names) (classFrom body) (f .items))
+    (file names-met (f .names ++ (body ∷ [])) (f .class-is) (f .items))
+    (file class-met (f .names) (classFrom body) (f .items))
     item
     item
 
@@ -164,7 +181,7 @@ pub record Read : Type 0 where
 
 -- the refusal with this number, and nothing read
 abbrev pub refused : ℕ → Read
-refused n = record { number = n; file-is = unread default-class }
+refused n = record { number = n; file-is = unread (standard .default-class) }
 
 -- no refusal, and the file
 abbrev pub accepted-file : File → Read
@@ -188,7 +205,7 @@ afterField s = drop (3 + statedLength s) s
 
 -- the end of the input: a row or a state must have come
 abbrev pub atEnd : File → Read
-atEnd f = cond (eqb (f .stage) 3) (accepted-file f) (refused unfinished)
+atEnd f = cond (eqb (f .stage) items-met) (accepted-file f) (refused unfinished)
 
 -- fields read one after the other, the first failure being the result (the first argument counts down and is more than the
 -- number of bytes)
@@ -210,10 +227,14 @@ readFrom (suc l) kind f s =
           ]
     ]
 
--- a whole file, with the class that a book has if it names none
-unfoldable pub readWith : Class → FileKind → List ℕ → Read
-readWith class kind s = readFrom (suc (length s)) kind (unread class) s
+-- a whole file; a book that names no class has that of the settings
+unfoldable pub readWith : Settings → FileKind → List ℕ → Read
+readWith settings kind s = readFrom (suc (length s)) kind (unread (settings .default-class)) s
 
--- a whole file, where a book that names no class has the default class
-abbrev pub readFields : FileKind → List ℕ → Read
-readFields kind s = readWith default-class kind s
+-- a whole book
+abbrev pub readBook : Settings → List ℕ → Read
+readBook settings s = readWith settings book s
+
+-- a whole table, which names its class itself, whatever the settings
+abbrev pub readTable : List ℕ → Read
+readTable s = readWith standard table s

@@ -1,12 +1,14 @@
--- The prefix tree of a book's rows and its joinings (document 01, "Both" and "A joining"; in the literature: state merging of
+-- The prefix tree of a book's rows and its joinings (docs/SCOPE.md, section 7; in the literature: state merging of
 -- the prefix-tree acceptor). A tree state is the word that leads to it. A partition of the tree's states into groups is a list
 -- that gives each state, in the tree's order, the number of its group. Assumes nothing.
+use mathlib.Core.Path.{_≡_}
 use mathlib.Core.Bool.{Bool, true, false, _&&_, _||_, not, cond}
-use mathlib.Core.List.{List, [], _∷_, _++_, map, flatMap, dropLast}
+use mathlib.Core.List.{List, [], _∷_, _++_, map, flatMap, dropLast, List·Memᴰ as In}
 use Prim.Native.Nat.{ℕ, zero, suc, _-_}
 use lib.Dec.{eqb, ltb}
 use lib.ListN.{length, getD}
-use Rattle.model.specs.Lists.{any, anyTwo, filterBy, numbersFrom, isIn, same, hasRow, lastOr}
+use Rattle.base.specs.Lists.{any, anyTwo, filterBy, numbersFrom, isIn, same, hasRow, lastOr}
+use Rattle.base.specs.Limits.{context-kind}
 use Rattle.model.specs.Fields.{Class}
 use Rattle.model.specs.Classes.{Word, fOf}
 
@@ -79,6 +81,10 @@ pub record Transition : Type 0 where
 abbrev pub transition : ℕ → ℕ → ℕ → Transition
 transition from name to = record { from = from; name = name; to = to }
 
+-- no two arcs of one name leave one group
+abbrev pub Deterministic : List Transition → Type 0
+Deterministic ts = (x a y z : ℕ) → In (transition x a y) ts → In (transition x a z) ts → y ≡ z
+
 -- the arcs that the tree's arcs into these states become
 unfoldable pub transitionsInto : List Word → List ℕ → List Word → List Transition
 transitionsInto nodes groups [] = []
@@ -145,7 +151,7 @@ byF c rows nodes groups x y =
 -- the class's rule joins the two groups
 unfoldable pub byRule : Class → List Word → List Word → List ℕ → ℕ → ℕ → Bool
 byRule c rows nodes groups x y =
-    elim (eqb (c .kind) 0) [
+    elim (eqb (c .kind) context-kind) [
       | true ↦ byContext (c .first) (c .second) (transitionsOf nodes groups) (groupsIn groups) x y
       | false ↦ byF c rows nodes groups x y
     ]

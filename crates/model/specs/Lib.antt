@@ -1,9 +1,7 @@
--- What is promised, in document 01's order: the fields of books and tables and their refusals; tables as automata, written,
+-- What is promised, nearly in the order of docs/SCOPE.md: the fields of books and tables and their refusals; tables as automata, written,
 -- read and walked; the two families of classes; the prefix tree, joinings and the table of a book; what the calls give back;
--- what is claimed of all that; what the sources say; the listing; the worked days. Lists and Limits hold what the others share.
+-- what is claimed of all that; what the sources say; the listing; the worked days.
 -- Assumes nothing.
-pub mod Lists
-pub mod Limits
 pub mod Fields
 pub mod Tables
 pub mod Classes

@@ -1,12 +1,12 @@
--- The listing of a book (document 01, "Worked days") as bytes; then the text that the listing program prints, a refusal's included.
+-- The listing of a book (docs/SCOPE.md, section 8) as bytes; then the text that the listing program prints, a refusal's included.
 -- Assumes nothing.
 use mathlib.Core.Bool.{true, false, cond}
 use mathlib.Core.List.{List, [], _∷_, _++_, flatMap}
 use Prim.Native.Nat.{ℕ, zero, suc, _+_, _/_, _%_}
 use lib.Dec.{eqb, ltb}
 use lib.ListN.{length, getD}
-use Rattle.model.specs.Limits.{input-limit, bad-sizes, when, firstOf}
-use Rattle.model.specs.Fields.{File}
+use Rattle.base.specs.Limits.{input-limit, bad-sizes, when, firstOf}
+use Rattle.model.specs.Fields.{File, Settings}
 use Rattle.model.specs.Tables.{Arc, State}
 use Rattle.model.specs.Quotients.{bookStates}
 use Rattle.model.specs.Calls.{bookOf, bookFault, joinsOf}
@@ -69,13 +69,13 @@ unfoldable pub refusalText : ℕ → List ℕ
 refusalText n = refused-word ++ (decimal n ++ newline)
 
 -- the refusal that the listing program prints, which lends enough: 1, the fields', 10
-unfoldable pub listingFault : List ℕ → ℕ
-listingFault s = firstOf (when (ltb input-limit (length s)) bad-sizes) (bookFault s)
+unfoldable pub listingFault : Settings → List ℕ → ℕ
+listingFault settings s = firstOf (when (ltb input-limit (length s)) bad-sizes) (bookFault settings s)
 
 -- what is printed for the bytes of a book
-unfoldable pub listingOf : List ℕ → List ℕ
-listingOf s =
-    elim (eqb (listingFault s) 0) [
-      | true ↦ bookListing (bookOf s)
-      | false ↦ refusalText (listingFault s)
+unfoldable pub listingOf : Settings → List ℕ → List ℕ
+listingOf settings s =
+    elim (eqb (listingFault settings s) 0) [
+      | true ↦ bookListing (bookOf settings s)
+      | false ↦ refusalText (listingFault settings s)
     ]

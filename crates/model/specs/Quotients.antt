@@ -1,11 +1,11 @@
--- The automaton of a partition, the quotient of the prefix tree, its states numbered first-met (document 01, "Numbering"):
+-- The automaton of a partition, the quotient of the prefix tree, its states numbered first-met (docs/SCOPE.md, section 7.4):
 -- the table of a joining and of a book. Assumes nothing.
 use mathlib.Core.Bool.{true, false, cond}
 use mathlib.Core.List.{List, [], _∷_, _++_, map}
 use Prim.Native.Nat.{ℕ, zero, suc}
 use lib.Dec.{eqb, ltb}
 use lib.ListN.{length, getD}
-use Rattle.model.specs.Lists.{isIn, indexIn}
+use Rattle.base.specs.Lists.{isIn, indexIn}
 use Rattle.model.specs.Fields.{File}
 use Rattle.model.specs.Tables.{Arc, arc, State, state, tableBytes}
 use Rattle.model.specs.Classes.{Word}

@@ -7,9 +7,10 @@ use mathlib.Core.Bool.{Bool, true, false}
 use mathlib.Core.List.{List, [], _∷_, _++_, map}
 use Prim.Native.Nat.{ℕ, suc, _-_, _≤_, _<_}
 use lib.ListN.{length, getD, take, drop}
-use Rattle.model.specs.Lists.{all, hasRow}
+use Rattle.base.specs.Lists.{all, hasRow}
+use Rattle.base.specs.Limits.{context-kind, seen-set-kind}
 use Rattle.model.specs.Fields.{Class, class-of, allBelow, File}
-use Rattle.model.specs.Tables.{State, state, arc, no-state, walk-at, walkFrom, admits}
+use Rattle.model.specs.Tables.{State, state, arc, empty-state, walk-at, walkFrom, admits}
 use Rattle.model.specs.Classes.{Word, fOf, TailsEqual, Contextual, Distinguishable}
 use Rattle.model.specs.Quotients.{bookStates}
 use Rattle.model.specs.Calls.{tableFault, tableStates}
@@ -36,7 +37,7 @@ pub record Distinguishable-22 (c : Class) (l : Word → Type 0) : Type 0 where
 
 -- the class of the seen set, the source's Ter
 abbrev pub seen-set : Class
-seen-set = class-of 1 0 0
+seen-set = class-of seen-set-kind 0 0
 
 -- the words of example (24): a, aaa, ab, aababac, with 0, 1, 2 for a, b, c
 abbrev pub words-24 : List Word
@@ -57,7 +58,7 @@ figure-3 = state false (arc 0 1 ∷ []) ∷ (state false (arc 0 2 ∷ []) ∷ (s
 
 -- what document 000 says
 pub record Document-000 : Type 1 where
-  -- f of kinds 1 and 2 is a distinguishing function
+  -- f is a distinguishing function
   pub definition-20 : (c : Class) → Distinguishing (fOf c)
   -- definition (22) as printed says the same as ours, of any set of words
   pub definition-22 : (c : Class) (l : Word → Type 0) → Distinguishable c l ↔ Distinguishable-22 c l
@@ -103,7 +104,7 @@ pub record Reaches (states : List State) (p : ℕ) (w : Word) (q : ℕ) : Type 0
 pub record AdmittedFrom (states : List State) (p : ℕ) (w : Word) : Type 0 where
   pub end : ℕ
   pub way : Reaches states p w end
-  pub accepting : getD states end no-state .accepts ≡ true
+  pub accepting : getD states end empty-state .accepts ≡ true
 
 -- two states have the same tails: the same words are admitted from both
 pub record SameTails (states : List State) (p q : ℕ) : Type 0 where
@@ -150,7 +151,7 @@ pub record Sample (k h : ℕ) (test : Word → Bool) : Type 0 where
   pub rows : List Word
   pub in-set : all test rows ≡ true
   pub tells :
-      (f : File) → f .class-is ≡ class-of 0 k h → allAmong rows (f .items) ≡ true → all test (f .items) ≡ true →
+      (f : File) → f .class-is ≡ class-of context-kind k h → allAmong rows (f .items) ≡ true → all test (f .items) ≡ true →
       (r : Word) → admits (bookStates f) r ≡ test r
 
 -- ---- document 002, theorems 5.18 and 5.19
@@ -185,9 +186,9 @@ pub record Document-002 : Type 1 where
       ↔ ((states : List State) × ContextualStates k h states × ((r : Word) → admits states r ≡ test r))
   -- from the automaton to the set of words, for every table
   pub lemma-5-10-if : (k h : ℕ) (states : List State) → ContextualStates k h states → Contextual k h (AdmittedBy states)
-  -- the tables of books of kind 0 are such automata
+  -- the tables of books of contexts are such automata
   pub lemma-5-10-built :
-      (f : File) → f .class-is .kind ≡ 0 → ContextualStates (f .class-is .first) (f .class-is .second) (bookStates f)
+      (f : File) → f .class-is .kind ≡ context-kind → ContextualStates (f .class-is .first) (f .class-is .second) (bookStates f)
   -- both directions for canonical automata
   pub lemma-5-10-canonical :
       (k h : ℕ) (states : List State) → Canonical states →

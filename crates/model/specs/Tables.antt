@@ -1,11 +1,11 @@
 -- Tables: deterministic automata as lists of states, written as fields, read back from them, checked for first-met numbering,
--- and walked (document 01, "Fields" and "Walking a row"). State 0 is the start. Assumes nothing.
+-- and walked (docs/SCOPE.md, sections 3 and 5). State 0 is the start. Assumes nothing.
 use mathlib.Core.Bool.{Bool, true, false, _&&_, cond}
 use mathlib.Core.List.{List, [], _∷_, _++_, map, flatMap}
-use Prim.Native.Nat.{ℕ, zero, suc, _+_, _-_, _*_, _/_, _%_, _^_}
+use Prim.Native.Nat.{ℕ, zero, suc, _+_, _-_, _*_, _/_, _%_, _^_, _≤_}
 use lib.Dec.{eqb, ltb}
 use lib.ListN.{length, getD, take, drop}
-use Rattle.model.specs.Limits.{when}
+use Rattle.base.specs.Limits.{when, name-mark, class-mark, state-mark, admitted, on-the-way, stops}
 use Rattle.model.specs.Fields.{Class}
 
 -- an arc out of a state: a name's number and the number of the target state
@@ -16,6 +16,11 @@ pub record Arc : Type 0 where
 -- an arc by its parts
 abbrev pub arc : ℕ → ℕ → Arc
 arc name to = record { name = name; to = to }
+
+-- the names of arcs ascend strictly, from `next` on
+abbrev pub Ascending : ℕ → List Arc → Type 0
+Ascending next [] = Unit {0}
+Ascending next (a ∷ arcs) = (next ≤ a .name) × Ascending (suc (a .name)) arcs
 
 -- a state: whether it accepts, and its arcs in ascending name number
 pub record State : Type 0 where
@@ -38,11 +43,11 @@ fieldBytes mark body = mark ∷ (twoBytes (length body) ++ body)
 
 -- the fields of the names, in order
 unfoldable pub nameFields : List (List ℕ) → List ℕ
-nameFields names = flatMap (fieldBytes 1) names
+nameFields names = flatMap (fieldBytes name-mark) names
 
 -- the field of the class
 unfoldable pub classField : Class → List ℕ
-classField c = fieldBytes 2 (c .kind ∷ (c .first ∷ (c .second ∷ [])))
+classField c = fieldBytes class-mark (c .kind ∷ (c .first ∷ (c .second ∷ [])))
 
 -- the arcs of a state field, three bytes each
 unfoldable pub arcBytes : List Arc → List ℕ
@@ -54,7 +59,7 @@ stateBody s = when (s .accepts) 1 ∷ arcBytes (s .arcs)
 
 -- the fields of the states, in order
 unfoldable pub stateFields : List State → List ℕ
-stateFields states = flatMap (λ (s : State). fieldBytes 4 (stateBody s)) states
+stateFields states = flatMap (λ (s : State). fieldBytes state-mark (stateBody s)) states
 
 -- a table's file: every name, the class, the states
 unfoldable pub tableBytes : List (List ℕ) → Class → List State → List ℕ
@@ -102,8 +107,8 @@ isFirstMet states = eqb (metByStates 0 1 states) (length states)
 -- ---- walked
 
 -- a state that does not accept and has no arc: what stands past the end of a table
-abbrev pub no-state : State
-no-state = state false []
+abbrev pub empty-state : State
+empty-state = state false []
 
 -- the target of the arc with this name plus 1, or 0 where there is no such arc
 unfoldable pub targetIn : ℕ → List Arc → ℕ
@@ -123,7 +128,7 @@ walk-at q n = record { at-state = q; taken = n }
 unfoldable pub walkFrom : List State → ℕ → ℕ → List ℕ → Walk
 walkFrom states q n [] = walk-at q n
 walkFrom states q n (x ∷ xs) =
-    let t = targetIn x (getD states q no-state .arcs) in
+    let t = targetIn x (getD states q empty-state .arcs) in
     elim (eqb t 0) [ true ↦ walk-at q n | false ↦ walkFrom states (t - 1) (suc n) xs ]
 
 -- the walk of a row from the start
@@ -132,16 +137,16 @@ walk states row = walkFrom states 0 0 row
 
 -- the state that a row's walk reaches
 unfoldable pub reachedState : List State → List ℕ → State
-reachedState states row = getD states (walk states row .at-state) no-state
+reachedState states row = getD states (walk states row .at-state) empty-state
 
 -- a row is admitted: all names walked, and the last state accepts
 unfoldable pub admits : List State → List ℕ → Bool
 admits states row = eqb (walk states row .taken) (length row) && reachedState states row .accepts
 
--- how a walk ends: 1 admitted, 2 on the way (all names walked, the last state not accepting), 3 stops (a name has no arc)
+-- how a walk ends: admitted, on the way (all names walked, the last state not accepting), or stops (a name has no arc)
 unfoldable pub outcome : List State → List ℕ → ℕ
 outcome states row =
-    cond (ltb (walk states row .taken) (length row)) 3 (cond (reachedState states row .accepts) 1 2)
+    cond (ltb (walk states row .taken) (length row)) stops (cond (reachedState states row .accepts) admitted on-the-way)
 
 -- the longest beginning of the row that can be walked
 unfoldable pub longestBeginning : List State → List ℕ → List ℕ

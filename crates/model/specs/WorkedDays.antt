@@ -1,4 +1,4 @@
--- The worked days (document 01): twelve days over four names, and three more, each with its book's bytes and what they come to,
+-- The worked days (docs/SCOPE.md, section 10): twelve over four names, and three more, each with its book's bytes and what they come to,
 -- written out; the example book of the listing; one test that compares everything written here with what the definitions
 -- compute; and what is claimed of the days: that test, rows of any length, and the default class. `worked-days-hold` of
 -- proofs/WorkedDays.antt proves it all. Byte values of names and text are hexadecimal, sets of names binary (s l d b from the
@@ -9,9 +9,10 @@ use mathlib.Core.List.{List, [], _∷_, _++_, map, flatMap, List·Memᴰ as In}
 use Prim.Native.Nat.{ℕ, zero, suc}
 use lib.Dec.{eqb}
 use lib.ListN.{length, getD}
-use Rattle.model.specs.Lists.{all, filterBy, numbersFrom, same, hasRow}
-use Rattle.model.specs.Fields.{Class, class-of, default-class, settingsOk, File, book, table, readWith, readFields}
-use Rattle.model.specs.Tables.{State, no-state, isFirstMet, walk, admits, outcome, longestBeginning, nextNames, nextCount}
+use Rattle.base.specs.Lists.{all, filterBy, numbersFrom, same, hasRow}
+use Rattle.base.specs.Limits.{items-met, context-kind, seen-set-kind, last-names-kind, admitted, on-the-way, stops}
+use Rattle.model.specs.Fields.{Class, class-of, Settings, Allowed, standard, File, readTable}
+use Rattle.model.specs.Tables.{State, empty-state, isFirstMet, walk, admits, outcome, longestBeginning, nextNames, nextCount}
 use Rattle.model.specs.Classes.{Word}
 use Rattle.model.specs.Joinings.{Step, step, treeOf, joinedGroups, isFullJoining}
 use Rattle.model.specs.Quotients.{bookStates, bookTable, tableAfter}
@@ -58,16 +59,6 @@ names-written =
 
 -- ---- what is written down of a day
 
--- how a walk ends, as `outcome` numbers it
-abbrev pub admitted : ℕ
-admitted = 1
-
-abbrev pub on-the-way : ℕ
-on-the-way = 2
-
-abbrev pub stops : ℕ
-stops = 3
-
 -- a walk worth a remark: the row, how its walk ends, the steps taken, the longest beginning that can be walked, and the names
 -- with an arc from the state reached, as a set and counted
 pub record Remark : Type 0 where
@@ -96,7 +87,7 @@ pub record Day : Type 0 where
   pub tree-states : ℕ
   pub table-states : ℕ
   pub joins : ℕ
-  pub table-bytes : List ℕ
+  pub table-is : List ℕ
   pub accepting : List ℕ
   pub admitted-rows : List Word
   pub remarks : List Remark
@@ -111,7 +102,7 @@ P1 =
           names-written
           ++ (2 ∷ 0 ∷ 3 ∷ 0 ∷ 2 ∷ 1 ∷ [])
           ++ (3 ∷ 0 ∷ 0 ∷ []);
-      class-is = class-of 0 2 1;
+      class-is = class-of context-kind 2 1;
       rows = [] ∷ [];
       tree = [] ∷ [];
       groups = 0 ∷ [];
@@ -119,7 +110,7 @@ P1 =
       tree-states = 1;
       table-states = 1;
       joins = 0;
-      table-bytes =
+      table-is =
           names-written
           ++ (2 ∷ 0 ∷ 3 ∷ 0 ∷ 2 ∷ 1 ∷ [])
           ++ (4 ∷ 0 ∷ 1 ∷ 1 ∷ []);
@@ -138,7 +129,7 @@ P2 =
           names-written
           ++ (2 ∷ 0 ∷ 3 ∷ 0 ∷ 1 ∷ 1 ∷ [])
           ++ (3 ∷ 0 ∷ 2 ∷ 3 ∷ 3 ∷ []);
-      class-is = class-of 0 1 1;
+      class-is = class-of context-kind 1 1;
       rows = (s ∷ s ∷ []) ∷ [];
       tree = [] ∷ (s ∷ []) ∷ (s ∷ s ∷ []) ∷ [];
       groups = 0 ∷ 1 ∷ 1 ∷ [];
@@ -146,7 +137,7 @@ P2 =
       tree-states = 3;
       table-states = 2;
       joins = 1;
-      table-bytes =
+      table-is =
           names-written
           ++ (2 ∷ 0 ∷ 3 ∷ 0 ∷ 1 ∷ 1 ∷ [])
           ++ (4 ∷ 0 ∷ 4 ∷ 0 ∷ 3 ∷ 0 ∷ 1 ∷ [])
@@ -167,7 +158,7 @@ P3 =
           names-written
           ++ (2 ∷ 0 ∷ 3 ∷ 0 ∷ 2 ∷ 1 ∷ [])
           ++ (3 ∷ 0 ∷ 2 ∷ 3 ∷ 3 ∷ []);
-      class-is = class-of 0 2 1;
+      class-is = class-of context-kind 2 1;
       rows = (s ∷ s ∷ []) ∷ [];
       tree = [] ∷ (s ∷ []) ∷ (s ∷ s ∷ []) ∷ [];
       groups = 0 ∷ 1 ∷ 2 ∷ [];
@@ -175,7 +166,7 @@ P3 =
       tree-states = 3;
       table-states = 3;
       joins = 0;
-      table-bytes =
+      table-is =
           names-written
           ++ (2 ∷ 0 ∷ 3 ∷ 0 ∷ 2 ∷ 1 ∷ [])
           ++ (4 ∷ 0 ∷ 4 ∷ 0 ∷ 3 ∷ 0 ∷ 1 ∷ [])
@@ -198,7 +189,7 @@ P4 =
           ++ (2 ∷ 0 ∷ 3 ∷ 0 ∷ 2 ∷ 1 ∷ [])
           ++ (3 ∷ 0 ∷ 3 ∷ 0 ∷ 2 ∷ 1 ∷ [])
           ++ (3 ∷ 0 ∷ 4 ∷ 0 ∷ 3 ∷ 2 ∷ 1 ∷ []);
-      class-is = class-of 0 2 1;
+      class-is = class-of context-kind 2 1;
       rows = (b ∷ l ∷ d ∷ []) ∷ (b ∷ s ∷ l ∷ d ∷ []) ∷ [];
       tree =
           [] ∷ (b ∷ []) ∷ (b ∷ l ∷ []) ∷ (b ∷ l ∷ d ∷ []) ∷ (b ∷ s ∷ []) ∷ (b ∷ s ∷ l ∷ []) ∷ (b ∷ s ∷ l ∷ d ∷ []) ∷ [];
@@ -207,7 +198,7 @@ P4 =
       tree-states = 7;
       table-states = 5;
       joins = 2;
-      table-bytes =
+      table-is =
           names-written
           ++ (2 ∷ 0 ∷ 3 ∷ 0 ∷ 2 ∷ 1 ∷ [])
           ++ (4 ∷ 0 ∷ 4 ∷ 0 ∷ 0 ∷ 0 ∷ 1 ∷ [])
@@ -232,7 +223,7 @@ P5 =
           ++ (2 ∷ 0 ∷ 3 ∷ 0 ∷ 2 ∷ 2 ∷ [])
           ++ (3 ∷ 0 ∷ 3 ∷ 0 ∷ 2 ∷ 1 ∷ [])
           ++ (3 ∷ 0 ∷ 4 ∷ 0 ∷ 3 ∷ 2 ∷ 1 ∷ []);
-      class-is = class-of 0 2 2;
+      class-is = class-of context-kind 2 2;
       rows = (b ∷ l ∷ d ∷ []) ∷ (b ∷ s ∷ l ∷ d ∷ []) ∷ [];
       tree =
           [] ∷ (b ∷ []) ∷ (b ∷ l ∷ []) ∷ (b ∷ l ∷ d ∷ []) ∷ (b ∷ s ∷ []) ∷ (b ∷ s ∷ l ∷ []) ∷ (b ∷ s ∷ l ∷ d ∷ []) ∷ [];
@@ -241,7 +232,7 @@ P5 =
       tree-states = 7;
       table-states = 6;
       joins = 1;
-      table-bytes =
+      table-is =
           names-written
           ++ (2 ∷ 0 ∷ 3 ∷ 0 ∷ 2 ∷ 2 ∷ [])
           ++ (4 ∷ 0 ∷ 4 ∷ 0 ∷ 0 ∷ 0 ∷ 1 ∷ [])
@@ -267,7 +258,7 @@ P6 =
           ++ (3 ∷ 0 ∷ 3 ∷ 0 ∷ 3 ∷ 2 ∷ [])
           ++ (3 ∷ 0 ∷ 3 ∷ 1 ∷ 3 ∷ 2 ∷ [])
           ++ (3 ∷ 0 ∷ 3 ∷ 0 ∷ 3 ∷ 0 ∷ []);
-      class-is = class-of 0 2 1;
+      class-is = class-of context-kind 2 1;
       rows = (b ∷ s ∷ l ∷ []) ∷ (d ∷ s ∷ l ∷ []) ∷ (b ∷ s ∷ b ∷ []) ∷ [];
       tree =
           [] ∷ (b ∷ []) ∷ (b ∷ s ∷ []) ∷ (b ∷ s ∷ l ∷ []) ∷ (d ∷ []) ∷ (d ∷ s ∷ []) ∷ (d ∷ s ∷ l ∷ []) ∷ (b ∷ s ∷ b ∷ []) ∷ [];
@@ -276,7 +267,7 @@ P6 =
       tree-states = 8;
       table-states = 6;
       joins = 2;
-      table-bytes =
+      table-is =
           names-written
           ++ (2 ∷ 0 ∷ 3 ∷ 0 ∷ 2 ∷ 1 ∷ [])
           ++ (4 ∷ 0 ∷ 7 ∷ 0 ∷ 0 ∷ 0 ∷ 1 ∷ 1 ∷ 0 ∷ 2 ∷ [])
@@ -302,7 +293,7 @@ P7 =
           ++ (3 ∷ 0 ∷ 3 ∷ 0 ∷ 3 ∷ 2 ∷ [])
           ++ (3 ∷ 0 ∷ 3 ∷ 1 ∷ 3 ∷ 2 ∷ [])
           ++ (3 ∷ 0 ∷ 3 ∷ 0 ∷ 3 ∷ 0 ∷ []);
-      class-is = class-of 0 2 2;
+      class-is = class-of context-kind 2 2;
       rows = (b ∷ s ∷ l ∷ []) ∷ (d ∷ s ∷ l ∷ []) ∷ (b ∷ s ∷ b ∷ []) ∷ [];
       tree =
           [] ∷ (b ∷ []) ∷ (b ∷ s ∷ []) ∷ (b ∷ s ∷ l ∷ []) ∷ (d ∷ []) ∷ (d ∷ s ∷ []) ∷ (d ∷ s ∷ l ∷ []) ∷ (b ∷ s ∷ b ∷ []) ∷ [];
@@ -311,7 +302,7 @@ P7 =
       tree-states = 8;
       table-states = 7;
       joins = 1;
-      table-bytes =
+      table-is =
           names-written
           ++ (2 ∷ 0 ∷ 3 ∷ 0 ∷ 2 ∷ 2 ∷ [])
           ++ (4 ∷ 0 ∷ 7 ∷ 0 ∷ 0 ∷ 0 ∷ 1 ∷ 1 ∷ 0 ∷ 2 ∷ [])
@@ -337,7 +328,7 @@ P8 =
           ++ (2 ∷ 0 ∷ 3 ∷ 1 ∷ 0 ∷ 0 ∷ [])
           ++ (3 ∷ 0 ∷ 1 ∷ 3 ∷ [])
           ++ (3 ∷ 0 ∷ 2 ∷ 3 ∷ 3 ∷ []);
-      class-is = class-of 1 0 0;
+      class-is = class-of seen-set-kind 0 0;
       rows = (s ∷ []) ∷ (s ∷ s ∷ []) ∷ [];
       tree = [] ∷ (s ∷ []) ∷ (s ∷ s ∷ []) ∷ [];
       groups = 0 ∷ 1 ∷ 1 ∷ [];
@@ -345,7 +336,7 @@ P8 =
       tree-states = 3;
       table-states = 2;
       joins = 1;
-      table-bytes =
+      table-is =
           names-written
           ++ (2 ∷ 0 ∷ 3 ∷ 1 ∷ 0 ∷ 0 ∷ [])
           ++ (4 ∷ 0 ∷ 4 ∷ 0 ∷ 3 ∷ 0 ∷ 1 ∷ [])
@@ -366,7 +357,7 @@ P9 =
           ++ (2 ∷ 0 ∷ 3 ∷ 2 ∷ 0 ∷ 0 ∷ [])
           ++ (3 ∷ 0 ∷ 1 ∷ 3 ∷ [])
           ++ (3 ∷ 0 ∷ 2 ∷ 3 ∷ 3 ∷ []);
-      class-is = class-of 2 0 0;
+      class-is = class-of last-names-kind 0 0;
       rows = (s ∷ []) ∷ (s ∷ s ∷ []) ∷ [];
       tree = [] ∷ (s ∷ []) ∷ (s ∷ s ∷ []) ∷ [];
       groups = 0 ∷ 0 ∷ 0 ∷ [];
@@ -374,7 +365,7 @@ P9 =
       tree-states = 3;
       table-states = 1;
       joins = 2;
-      table-bytes =
+      table-is =
           names-written
           ++ (2 ∷ 0 ∷ 3 ∷ 2 ∷ 0 ∷ 0 ∷ [])
           ++ (4 ∷ 0 ∷ 4 ∷ 1 ∷ 3 ∷ 0 ∷ 0 ∷ []);
@@ -394,7 +385,7 @@ P10 =
           ++ (2 ∷ 0 ∷ 3 ∷ 2 ∷ 1 ∷ 0 ∷ [])
           ++ (3 ∷ 0 ∷ 1 ∷ 3 ∷ [])
           ++ (3 ∷ 0 ∷ 2 ∷ 3 ∷ 3 ∷ []);
-      class-is = class-of 2 1 0;
+      class-is = class-of last-names-kind 1 0;
       rows = (s ∷ []) ∷ (s ∷ s ∷ []) ∷ [];
       tree = [] ∷ (s ∷ []) ∷ (s ∷ s ∷ []) ∷ [];
       groups = 0 ∷ 1 ∷ 1 ∷ [];
@@ -402,7 +393,7 @@ P10 =
       tree-states = 3;
       table-states = 2;
       joins = 1;
-      table-bytes =
+      table-is =
           names-written
           ++ (2 ∷ 0 ∷ 3 ∷ 2 ∷ 1 ∷ 0 ∷ [])
           ++ (4 ∷ 0 ∷ 4 ∷ 0 ∷ 3 ∷ 0 ∷ 1 ∷ [])
@@ -423,7 +414,7 @@ P11 =
           ++ (2 ∷ 0 ∷ 3 ∷ 1 ∷ 0 ∷ 0 ∷ [])
           ++ (3 ∷ 0 ∷ 2 ∷ 0 ∷ 3 ∷ [])
           ++ (3 ∷ 0 ∷ 2 ∷ 3 ∷ 0 ∷ []);
-      class-is = class-of 1 0 0;
+      class-is = class-of seen-set-kind 0 0;
       rows = (b ∷ s ∷ []) ∷ (s ∷ b ∷ []) ∷ [];
       tree = [] ∷ (b ∷ []) ∷ (b ∷ s ∷ []) ∷ (s ∷ []) ∷ (s ∷ b ∷ []) ∷ [];
       groups = 0 ∷ 1 ∷ 2 ∷ 3 ∷ 2 ∷ [];
@@ -431,7 +422,7 @@ P11 =
       tree-states = 5;
       table-states = 4;
       joins = 1;
-      table-bytes =
+      table-is =
           names-written
           ++ (2 ∷ 0 ∷ 3 ∷ 1 ∷ 0 ∷ 0 ∷ [])
           ++ (4 ∷ 0 ∷ 7 ∷ 0 ∷ 0 ∷ 0 ∷ 1 ∷ 3 ∷ 0 ∷ 2 ∷ [])
@@ -456,7 +447,7 @@ P12 =
           ++ (2 ∷ 0 ∷ 3 ∷ 0 ∷ 2 ∷ 1 ∷ [])
           ++ (3 ∷ 0 ∷ 2 ∷ 3 ∷ 3 ∷ [])
           ++ (3 ∷ 0 ∷ 2 ∷ 3 ∷ 3 ∷ []);
-      class-is = class-of 0 2 1;
+      class-is = class-of context-kind 2 1;
       rows = (s ∷ s ∷ []) ∷ (s ∷ s ∷ []) ∷ [];
       tree = [] ∷ (s ∷ []) ∷ (s ∷ s ∷ []) ∷ [];
       groups = 0 ∷ 1 ∷ 2 ∷ [];
@@ -464,7 +455,7 @@ P12 =
       tree-states = 3;
       table-states = 3;
       joins = 0;
-      table-bytes =
+      table-is =
           names-written
           ++ (2 ∷ 0 ∷ 3 ∷ 0 ∷ 2 ∷ 1 ∷ [])
           ++ (4 ∷ 0 ∷ 4 ∷ 0 ∷ 3 ∷ 0 ∷ 1 ∷ [])
@@ -478,7 +469,7 @@ P12 =
           remark (s ∷ s ∷ s ∷ []) stops 2 (s ∷ s ∷ []) 0b0000 0 ∷ [];
     }
 
--- the twelve days that document 01 marks P
+-- the twelve days that docs/SCOPE.md (section 10) marks P
 abbrev pub workedDays : List Day
 workedDays = P1 ∷ P2 ∷ P3 ∷ P4 ∷ P5 ∷ P6 ∷ P7 ∷ P8 ∷ P9 ∷ P10 ∷ P11 ∷ P12 ∷ []
 
@@ -493,7 +484,7 @@ Q1 =
           ++ (2 ∷ 0 ∷ 3 ∷ 1 ∷ 0 ∷ 0 ∷ [])
           ++ (3 ∷ 0 ∷ 2 ∷ 0 ∷ 3 ∷ [])
           ++ (3 ∷ 0 ∷ 3 ∷ 3 ∷ 0 ∷ 0 ∷ []);
-      class-is = class-of 1 0 0;
+      class-is = class-of seen-set-kind 0 0;
       rows = (b ∷ s ∷ []) ∷ (s ∷ b ∷ b ∷ []) ∷ [];
       tree =
           [] ∷ (b ∷ []) ∷ (b ∷ s ∷ []) ∷ (s ∷ []) ∷ (s ∷ b ∷ []) ∷ (s ∷ b ∷ b ∷ []) ∷ [];
@@ -502,7 +493,7 @@ Q1 =
       tree-states = 6;
       table-states = 5;
       joins = 1;
-      table-bytes =
+      table-is =
           names-written
           ++ (2 ∷ 0 ∷ 3 ∷ 1 ∷ 0 ∷ 0 ∷ [])
           ++ (4 ∷ 0 ∷ 7 ∷ 0 ∷ 0 ∷ 0 ∷ 1 ∷ 3 ∷ 0 ∷ 2 ∷ [])
@@ -528,7 +519,7 @@ Q2 =
           ++ (3 ∷ 0 ∷ 2 ∷ 3 ∷ 3 ∷ [])
           ++ (3 ∷ 0 ∷ 3 ∷ 3 ∷ 0 ∷ 1 ∷ [])
           ++ (3 ∷ 0 ∷ 4 ∷ 3 ∷ 3 ∷ 0 ∷ 2 ∷ []);
-      class-is = class-of 1 0 0;
+      class-is = class-of seen-set-kind 0 0;
       rows = (s ∷ []) ∷ (s ∷ s ∷ []) ∷ (s ∷ b ∷ d ∷ []) ∷ (s ∷ s ∷ b ∷ l ∷ []) ∷ [];
       tree =
           [] ∷ (s ∷ []) ∷ (s ∷ s ∷ []) ∷ (s ∷ b ∷ []) ∷ (s ∷ b ∷ d ∷ []) ∷ (s ∷ s ∷ b ∷ []) ∷ (s ∷ s ∷ b ∷ l ∷ []) ∷ [];
@@ -537,7 +528,7 @@ Q2 =
       tree-states = 7;
       table-states = 5;
       joins = 2;
-      table-bytes =
+      table-is =
           names-written
           ++ (2 ∷ 0 ∷ 3 ∷ 1 ∷ 0 ∷ 0 ∷ [])
           ++ (4 ∷ 0 ∷ 4 ∷ 0 ∷ 3 ∷ 0 ∷ 1 ∷ [])
@@ -562,7 +553,7 @@ Q3 =
           names-written
           ++ (3 ∷ 0 ∷ 2 ∷ 0 ∷ 3 ∷ [])
           ++ (3 ∷ 0 ∷ 3 ∷ 3 ∷ 3 ∷ 3 ∷ []);
-      class-is = class-of 0 2 1;
+      class-is = class-of context-kind 2 1;
       rows = (b ∷ s ∷ []) ∷ (s ∷ s ∷ s ∷ []) ∷ [];
       tree = [] ∷ (b ∷ []) ∷ (b ∷ s ∷ []) ∷ (s ∷ []) ∷ (s ∷ s ∷ []) ∷ (s ∷ s ∷ s ∷ []) ∷ [];
       groups = 0 ∷ 1 ∷ 2 ∷ 3 ∷ 3 ∷ 3 ∷ [];
@@ -570,7 +561,7 @@ Q3 =
       tree-states = 6;
       table-states = 4;
       joins = 2;
-      table-bytes =
+      table-is =
           names-written
           ++ (2 ∷ 0 ∷ 3 ∷ 0 ∷ 2 ∷ 1 ∷ [])
           ++ (4 ∷ 0 ∷ 7 ∷ 0 ∷ 0 ∷ 0 ∷ 1 ∷ 3 ∷ 0 ∷ 2 ∷ [])
@@ -636,7 +627,7 @@ shortRows = flatMap rowsOfLength (0 ∷ 1 ∷ 2 ∷ 3 ∷ 4 ∷ [])
 
 -- the numbers of the accepting states
 unfoldable pub acceptingIn : List State → List ℕ
-acceptingIn states = filterBy (λ (i : ℕ). getD states i no-state .accepts) (numbersFrom (length states) 0)
+acceptingIn states = filterBy (λ (i : ℕ). getD states i empty-state .accepts) (numbersFrom (length states) 0)
 
 -- the walk of the row is as the remark says
 unfoldable pub remarkHolds : List State → Remark → Bool
@@ -650,7 +641,7 @@ remarkHolds states r =
 -- the file is all read, and its names, its class and its items are these
 unfoldable pub isFile : File → List (List ℕ) → Class → List (List ℕ) → Bool
 isFile f names class items =
-    eqb (f .stage) 3
+    eqb (f .stage) items-met
     && sameRows (f .names) names
     && same (f .class-is .kind ∷ f .class-is .first ∷ f .class-is .second ∷ []) (class .kind ∷ class .first ∷ class .second ∷ [])
     && sameRows (f .items) items
@@ -659,33 +650,33 @@ isFile f names class items =
 -- compute of that book; its walks are over the table's bytes, read back
 unfoldable pub dayHolds : Day → Bool
 dayHolds day =
-    let f = bookOf (day .book-bytes) in
+    let f = bookOf standard (day .book-bytes) in
     let written = bookTable f in
     let states = tableStates written in
-    eqb (bookFault (day .book-bytes)) 0
+    eqb (bookFault standard (day .book-bytes)) 0
     && isFile f meal-names (day .class-is) (day .rows)
     && sameRows (treeOf (f .items)) (day .tree)
     && same (joinedGroups (f .class-is) (f .items)) (day .groups)
     && eqb (length (treeOf (f .items))) (day .tree-states)
     && eqb (length states) (day .table-states)
     && eqb (joinsOf f) (day .joins)
-    && same written (day .table-bytes)
-    && eqb (readFields table written .number) 0
+    && same written (day .table-is)
+    && eqb (readTable written .number) 0
     && isFirstMet states
     && same (acceptingIn states) (day .accepting)
     && sameRows (filterBy (admits states) shortRows) (day .admitted-rows)
     && all (remarkHolds states) (day .remarks)
     && isFullJoining (f .class-is) (f .items) (day .joining)
-    && same (tableAfter f (day .joining)) (day .table-bytes)
+    && same (tableAfter f (day .joining)) (day .table-is)
 
--- the example book is accepted and read as it should be; its table and its listing are those printed in document 01
+-- the example book is accepted and read as it should be; its table and its listing are those printed in docs/SCOPE.md, section 8
 unfoldable pub exampleHolds : Bool
 exampleHolds =
-    eqb (bookFault example-book) 0
-    && isFile (bookOf example-book) (snack ∷ []) (class-of 0 1 1) ((0 ∷ 0 ∷ []) ∷ [])
-    && same (bookTable (bookOf example-book)) example-table
-    && same (listingOf example-book) example-listing
-    && same (listingOf []) empty-listing
+    eqb (bookFault standard example-book) 0
+    && isFile (bookOf standard example-book) (snack ∷ []) (class-of context-kind 1 1) ((0 ∷ 0 ∷ []) ∷ [])
+    && same (bookTable (bookOf standard example-book)) example-table
+    && same (listingOf standard example-book) example-listing
+    && same (listingOf standard []) empty-listing
 
 -- the example holds, and the days, the further ones before the twelve; and the repeat of P3 has the table of P3
 unfoldable pub daysHold : Bool
@@ -693,7 +684,7 @@ daysHold =
     exampleHolds
     && all dayHolds furtherDays
     && all dayHolds workedDays
-    && same (bookTable (bookOf (P12 .book-bytes))) (bookTable (bookOf (P3 .book-bytes)))
+    && same (bookTable (bookOf standard (P12 .book-bytes))) (bookTable (bookOf standard (P3 .book-bytes)))
 
 -- ---- what is claimed
 
@@ -703,13 +694,14 @@ finiteDays = P1 ∷ P3 ∷ P4 ∷ P5 ∷ P6 ∷ P7 ∷ P11 ∷ P12 ∷ Q1 ∷ []
 
 -- of all rows, of any length and of any numbers, the states of the day's book admit those written down and no other
 abbrev pub AdmitsOnly : Day → Type 0
-AdmitsOnly day = (r : Word) → admits (bookStates (bookOf (day .book-bytes))) r ≡ hasRow r (day .admitted-rows)
+AdmitsOnly day = (r : Word) → admits (bookStates (bookOf standard (day .book-bytes))) r ≡ hasRow r (day .admitted-rows)
 
--- the book's states tell the default class: with any other default class that a class field may hold they would be others
+-- the book's states tell the default class: with any other that is allowed they would be others
 abbrev pub TellsDefault : Day → Type 0
 TellsDefault day =
-    (c : Class) → settingsOk (c .kind) (c .first) (c .second) ≡ true →
-    bookStates (readWith c book (day .book-bytes) .file-is) ≡ bookStates (bookOf (day .book-bytes)) → c ≡ default-class
+    (settings : Settings) → Allowed settings →
+    bookStates (bookOf settings (day .book-bytes)) ≡ bookStates (bookOf standard (day .book-bytes)) →
+    settings .default-class ≡ standard .default-class
 
 -- all of it
 pub record DaysClaimed : Type 0 where

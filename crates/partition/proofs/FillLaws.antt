@@ -5,9 +5,9 @@ use Prim.Native.Nat.{ℕ, _<_, _≤_}
 use native.Mathlib.Omega.{arith}
 use lib.ListN.{length, getD}
 use lib.Seq.{ext-getD}
-use Rattle.model.specs.Lists.{numbersFrom}
-use Rattle.indexed.proofs.Fills.{Filled}
-use Rattle.indexed.proofs.Keys.{number-at, numbers-length}
+use Rattle.base.specs.Lists.{numbersFrom}
+use Rattle.base.proofs.Fills.{Filled}
+use Rattle.base.proofs.Places.{number-at, length-numbersFrom}
 
 -- the states' own numbers
 abbrev pub IsOwn : ℕ → ℕ → Type 0
@@ -16,7 +16,7 @@ IsOwn k x = x ≡ k
 pub own-all :
     (i : ℕ) (out₀ out : List ℕ) → length out₀ ≤ i → Filled IsOwn i out₀ out → out ≡ numbersFrom (length out₀) 0
 own-all i out₀ out all filled =
-    ext-getD 0 out (numbersFrom (length out₀) 0) (filled .size ∙ sym (numbers-length (length out₀) 0)) each
+    ext-getD 0 out (numbersFrom (length out₀) 0) (filled .size ∙ sym (length-numbersFrom (length out₀) 0)) each
   where
     each : (k : ℕ) → k < length out → getD out k 0 ≡ getD (numbersFrom (length out₀) 0) k 0
     each k h =

@@ -10,13 +10,14 @@ use native.Mathlib.Omega.{arith}
 use lib.Dec.{eqb}
 use lib.ListN.{length, getD, set, length-map, length-set, List·getD-map}
 use lib.Seq.{getD-set-same, getD-set-other, ext-getD}
-use Rattle.model.specs.Lists.{numbersFrom}
-use Rattle.model.proofs.Tests.{eq-dec}
+use Rattle.base.specs.Lists.{numbersFrom}
+use Rattle.base.proofs.Tests.{eq-dec}
 use Rattle.indexed.specs.Trees.{up}
 use Rattle.indexed.specs.Partitions.{Labelled}
 use Rattle.indexed.specs.Passes.{relabelled}
-use Rattle.indexed.proofs.Fills.{Filled, filled-none, filled-more, rest-kept}
-use Rattle.indexed.proofs.Keys.{number-at, numbers-length, relabelled-length, relabelled-at}
+use Rattle.base.proofs.Fills.{Filled, filled-none, filled-more, rest-kept}
+use Rattle.base.proofs.Places.{number-at, length-numbersFrom}
+use Rattle.indexed.proofs.Keys.{relabelled-length, relabelled-at}
 use Rattle.partition.specs.Forests.{Forest, rootOf, rootsOf, FoundRoot, United}
 use Rattle.partition.proofs.JoinLaws.{label-moved, label-kept}
 
@@ -32,7 +33,7 @@ root-own above v own = up-own above v v own
 
 pub roots-length : (above : List ℕ) → length (rootsOf above) ≡ length above
 unfolding rootsOf
-roots-length above = length-map (numbersFrom (length above) 0) (rootOf above) ∙ numbers-length (length above) 0
+roots-length above = length-map (numbersFrom (length above) 0) (rootOf above) ∙ length-numbersFrom (length above) 0
 
 module _ (n : ℕ) (above : List ℕ) (forest : Forest n above) where
   -- any two numbers of steps that are enough come to one state

@@ -5,7 +5,7 @@ use mathlib.Core.Logic.{_⊎_}
 use mathlib.Core.List.{List, map}
 use Prim.Native.Nat.{ℕ, _<_, _≤_}
 use lib.ListN.{length, getD}
-use Rattle.model.specs.Lists.{numbersFrom}
+use Rattle.base.specs.Lists.{numbersFrom}
 use Rattle.indexed.specs.Trees.{up}
 use Rattle.indexed.specs.Passes.{relabelled}
 

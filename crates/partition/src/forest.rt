@@ -1,10 +1,10 @@
 // A partition as a forest: each state has a state above it, lower than itself, or is a root, and a group goes by its root.
-use cells::numbers::narrow16;
-use cells::numbers::wide16;
+use base::numbers::narrow16;
+use base::numbers::wide16;
 ghost use mathlib.Core.Path.{_≡_};
 ghost use Prim.Native.Nat.{_<_, _≤_};
 ghost use lib.ListN.{length, getD};
-ghost use Rattle.model.specs.Limits.{state-limit};
+ghost use Rattle.base.specs.Limits.{state-limit};
 ghost use Rattle.partition.specs.Forests.{Forest, rootsOf, FoundRoot, United, JoinedRoots};
 
 // The root of a state. Every other state on the way is put below the second above it, so that later ways are shorter.

@@ -2,12 +2,12 @@
 // joins are made in one that is kept as a forest.
 pub mod forest;
 
-use cells::numbers;
+use base::numbers;
 ghost use mathlib.Core.Path.{_≡_};
 ghost use Prim.Native.Nat.{_≤_};
 ghost use lib.ListN.{length};
-ghost use Rattle.model.specs.Limits.{state-limit};
-ghost use Rattle.model.specs.Lists.{numbersFrom};
+ghost use Rattle.base.specs.Limits.{state-limit};
+ghost use Rattle.base.specs.Lists.{numbersFrom};
 
 // Writes each state's own number.
 pub fn own(numbers: &mut [u16])

@@ -8,82 +8,98 @@ use native.Mathlib.Omega.{arith}
 use borrow.Author.Tests.{le-ltb, eq-eqb, ne-eqb}
 use lib.Dec.{eqb, ltb}
 use lib.ListN.{length, getD}
-use Rattle.model.specs.Limits.{when, firstOf, input-limit, work-bytes, bad-sizes}
-use Rattle.model.specs.Calls.{tooShort, faultWith, over, sizesFault, bookOf, bookFault, buildFault}
+use Rattle.base.specs.Limits.{when, firstOf, input-limit, work-bytes, listing-bytes, bad-sizes}
+use Rattle.model.specs.Fields.{Settings, Allowed}
+use Rattle.model.specs.Calls.{Says, tooShort, faultWith, over, sizesFault, bookOf, bookFault, buildFault}
 use Rattle.model.specs.Listing.{bookListing, refusalText, listingFault, listingOf}
 use Rattle.model.proofs.FieldLaws.{first-of}
-use Rattle.model.proofs.CallLaws.{refusal-is, answered, untouched, fault-roomy, short-is, one-wrote, front-of}
+use Rattle.model.proofs.CallLaws.{call-answered, refusal-is, answered, untouched, fault-roomy, short-is, one-wrote, front-of}
 use Rattle.writing.proofs.WritingLaws.{written-from-zero}
-use Rattle.listings.specs.Texts.{Puts}
-use Rattle.listings.proofs.Lengths.{listing-bytes}
-use Rattle.plans.specs.declared.Written.{Written}
-use Rattle.plans.specs.Says.{listingBook, ListSays, PrintSays}
-use Rattle.plans.proofs.ListLaws.{listing-short}
+use Rattle.writing.specs.Writing.{Put}
+use Rattle.results.specs.declared.Written.{Written}
+use Rattle.results.specs.Says.{listingBook, ListSays, printing, PrintSays}
+use Rattle.book_calls.proofs.ListLaws.{listing-short}
 
-module _ (book work work′ text : List ℕ) (work-fits : work-bytes ≤ length work) (text-fits : listing-bytes ≤ length text) where
+module _
+    (settings : Settings) (allowed : Allowed settings) (book work work′ text : List ℕ)
+    (work-fits : work-bytes ≤ length work) (text-fits : listing-bytes ≤ length text) where
   sizes-are : sizesFault book work ≡ when (ltb input-limit (length book)) bad-sizes
   unfolding sizesFault
   sizes-are = rw (le-ltb (length work) work-bytes work-fits, or-false (ltb input-limit (length book)))
 
   -- with so much lent neither the working area nor the text is refused
-  fault-is : faultWith (listingBook book work) (text ∷ []) ≡ listingFault book
+  fault-is : faultWith (listingBook settings book work) (text ∷ []) ≡ listingFault settings book
   unfolding listingBook listingFault buildFault
   fault-is =
-      let room : buildFault book work ≡ 0 → tooShort (listingBook book work .writes) (text ∷ []) ≡ false =
-      λ (none : buildFault book work ≡ 0).
-      short-is (listingBook book work) (bookListing (bookOf book)) text refl
-      ∙ le-ltb (length text) (length (bookListing (bookOf book)))
-      (omega (arith, text-fits, listing-short book (first-of (sizesFault book work) (bookFault book) none .1))) in
-      fault-roomy (listingBook book work) (text ∷ []) room ∙ ap (λ (n : ℕ). firstOf n (bookFault book)) sizes-are
+      let room : buildFault settings book work ≡ 0 → tooShort (listingBook settings book work .writes) (text ∷ []) ≡ false =
+      λ (none : buildFault settings book work ≡ 0).
+      short-is (listingBook settings book work) (bookListing (bookOf settings book)) text refl
+      ∙ le-ltb (length text) (length (bookListing (bookOf settings book)))
+      (omega (
+        arith,
+        text-fits,
+        listing-short settings allowed book (first-of (sizesFault book work) (bookFault settings book) none .1),
+      )) in
+      fault-roomy (listingBook settings book work) (text ∷ []) room ∙ ap (λ (n : ℕ). firstOf n (bookFault settings book)) sizes-are
 
-  refusal-printed : (number : ℕ) → listingFault book ≡ number → 0 < number → listingOf book ≡ refusalText number
+  refusal-printed : (number : ℕ) → listingFault settings book ≡ number → 0 < number → listingOf settings book ≡ refusalText number
   unfolding listingOf
   refusal-printed number e some =
-      let refuses : eqb (listingFault book) 0 ≡ false = ne-eqb (listingFault book) 0 (λ (z : listingFault book ≡ 0). omega arith) in
-      let printed : listingOf book ≡ refusalText (listingFault book) = rw (refuses, listingOf) in
+      let fault = listingFault settings book in
+      let refuses : eqb fault 0 ≡ false = ne-eqb fault 0 (λ (z : fault ≡ 0). omega arith) in
+      let printed : listingOf settings book ≡ refusalText (listingFault settings book) = rw (refuses, listingOf) in
       printed ∙ ap refusalText e
 
-  listing-printed : listingFault book ≡ 0 → listingOf book ≡ bookListing (bookOf book)
+  listing-printed : listingFault settings book ≡ 0 → listingOf settings book ≡ bookListing (bookOf settings book)
   unfolding listingOf
-  listing-printed e = rw (eq-eqb (listingFault book) 0 e, listingOf)
+  listing-printed e = rw (eq-eqb (listingFault settings book) 0 e, listingOf)
 
-  module _ (text₁ : List ℕ) (r : Written) (says : ListSays book work work′ text text₁ r) where
-    fault-told : r .refusal ≡ listingFault book
+  module _ (text₁ : List ℕ) (r : Written) (says : ListSays settings book work work′ text text₁ r) where
+    fault-told : r .refusal ≡ listingFault settings book
     unfolding listingBook
     fault-told = refusal-is (says .gives) (λ (w : Written). w .refusal) (λ k. refl) refl ∙ fault-is
 
+    -- a length told, and the working area as listing left it
+    told : {after : ℕ} → after ≡ length (listingOf settings book) → Says (printing settings book) work work′ [] [] after
+    unfolding printing
+    told e =
+        record {
+          gives = call-answered (printing settings book) refl refl e;
+          same-length = says .same-length;
+          work-zero = says .work-zero;
+        }
+
     pub prints-refusal :
-        (text′ : List ℕ) (after : ℕ) → 0 < r .refusal → Puts text₁ text′ 0 (refusalText (r .refusal)) after →
-        PrintSays book work work′ text text′ after
+        (text′ : List ℕ) (after : ℕ) → 0 < r .refusal → Put text₁ text′ 0 (refusalText (r .refusal)) after →
+        PrintSays settings book work work′ text text′ after
     prints-refusal text′ after some puts =
         let bytes = refusalText (r .refusal) in
         let same : text₁ ≡ text =
         ap (λ (l : List (List ℕ)). getD l 0 [])
         (untouched (says .gives) (record { is = fault-is ∙ sym fault-told; some = some })) in
-        let printed : bytes ≡ listingOf book = sym (refusal-printed (r .refusal) (sym fault-told) some) in
+        let printed : bytes ≡ listingOf settings book = sym (refusal-printed (r .refusal) (sym fault-told) some) in
         record {
+          says = told (omega (arith, puts .ends, ap length printed));
           text-is =
               written-from-zero (puts .written) ∙ ap (λ (l : List ℕ). over bytes l) same ∙ ap (λ (l : List ℕ). over l text) printed;
-          length-is = omega (arith, puts .ends, ap length printed);
-          same-length = says .same-length;
-          work-zero = says .work-zero;
         }
 
-    pub prints-listing : r .refusal ≡ 0 → PrintSays book work work′ text text₁ (r .length)
+    pub prints-listing : r .refusal ≡ 0 → PrintSays settings book work work′ text text₁ (r .length)
     unfolding listingBook
     prints-listing accepted =
-        let none : faultWith (listingBook book work) (text ∷ []) ≡ 0 = fault-is ∙ sym fault-told ∙ accepted in
+        let none : faultWith (listingBook settings book work) (text ∷ []) ≡ 0 = fault-is ∙ sym fault-told ∙ accepted in
         let printed = sym (listing-printed (sym fault-told ∙ accepted)) in
         record {
+          says = told (ap (λ (w : Written). w .length) (answered (says .gives) none) ∙ ap length printed);
           text-is =
-              one-wrote (listingBook book work) (bookListing (bookOf book)) text refl text₁ r (says .gives) none
+              one-wrote (listingBook settings book work) (bookListing (bookOf settings book)) text refl text₁ r (says .gives) none
               ∙ ap (λ (l : List ℕ). over l text) printed;
-          length-is = ap (λ (w : Written). w .length) (answered (says .gives) none) ∙ ap length printed;
-          same-length = says .same-length;
-          work-zero = says .work-zero;
         }
 
 -- what is printed lies within the text
-pub printed-within : {book work work′ text text′ : List ℕ} {r : ℕ} → PrintSays book work work′ text text′ r → r ≤ length text′
-printed-within {book} {work} {work′} {text} {text′} {r} says =
-    front-of (listingOf book) text text′ r (says .text-is) (says .length-is) .within
+pub printed-within :
+    {settings : Settings} {book work work′ text text′ : List ℕ} {r : ℕ} → PrintSays settings book work work′ text text′ r →
+    r ≤ length text′
+unfolding printing tooShort
+printed-within {settings} {book} {work} {work′} {text} {text′} {r} prints =
+    front-of (listingOf settings book) text text′ r (prints .text-is) (answered (prints .says .gives) refl) .within

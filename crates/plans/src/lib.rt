@@ -1,50 +1,27 @@
 // The public entries: a book's table built, a table rewritten, a row walked over a table, a book listed as text. Any bytes may be
 // lent; each call ends with a result or one numbered refusal, leaves every byte of the working area zero, and leaves the output as
 // it was where it refuses.
-mod building;
-pub mod limits;
-mod listing;
 pub mod printing;
-mod rewriting;
-mod walking;
 
-use cells::clear;
-ghost use Rattle.plans.specs.Says.{BuildSays, RewriteSays, WalkSays, WalkedSays, ListSays};
-
-// What a call that writes a table gives back: its refusal or 0, then the table's length in bytes, its states, and the joins: tree
-// states less table states.
-#[repr(C)]
-pub struct Built {
-    pub refusal: u8,
-    pub length: u32,
-    pub states: u32,
-    pub joins: u32,
-}
-
-// What a walk gives back: its refusal or 0; 1 admitted, 2 on the way, 3 stops; how many names may come next; how many names of the row
-// can be walked; the names that may come next, bit n for name n.
-#[repr(C)]
-pub struct Walked {
-    pub refusal: u8,
-    pub outcome: u8,
-    pub next_count: u8,
-    pub walked: u32,
-    pub next_names: u64,
-}
-
-// What a call that writes bytes gives back: a refusal's number or 0, and how many bytes were written.
-#[repr(C)]
-pub struct Written {
-    pub refusal: u8,
-    pub length: u32,
-}
+use base::cells::clear;
+use book_calls::building;
+use book_calls::listing;
+use fields::STANDARD;
+use results::Built;
+use results::Walked;
+use results::Written;
+use table_calls::rewriting;
+use table_calls::walking;
+ghost use Rattle.model.specs.Fields.{standard};
+ghost use Rattle.results.specs.Says.{BuildSays, RewriteSays, WalkSays, WalkedSays, ListSays};
 
 // Builds the table of a book: the prefix tree of its rows, joined by the rules of its class until none applies, numbered
 // first-met. `build-handed-over` of the crate handed_over says what holds of the table that is written: demand 3, whole.
 pub fn build_table(book: &[u8], work: &mut [u8], out: &mut [u8]) -> Built
-    ensures { λ r. ⌜ BuildSays (now (book .entry)) (now (work .entry)) (now (work .exit)) (now (out .entry)) (now (out .exit)) r ⌝ }
+    ensures { λ r. ⌜ BuildSays standard (now (book .entry)) (now (work .entry)) (now (work .exit))
+        (now (out .entry)) (now (out .exit)) r ⌝ }
 {
-    let built = building::build(book, work, out);
+    let built = building::build(STANDARD, book, work, out);
     clear(work);
     built
 }
@@ -56,6 +33,15 @@ pub fn rewrite_table(table: &[u8], work: &mut [u8], out: &mut [u8]) -> Built
     let built = rewriting::rewrite(table, work, out);
     clear(work);
     built
+}
+
+// Walks a row over a table, and clears the working area.
+fn walk_and_clear(table: &[u8], row: &[u8], work: &mut [u8]) -> Walked
+    ensures { λ r. ⌜ WalkedSays (now (table .entry)) (now (row .entry)) (now (work .entry)) (now (work .exit)) r ⌝ }
+{
+    let ended = walking::walk(table, row, work);
+    clear(work);
+    ended
 }
 
 // Walks a row over a table: the longest beginning of the row that can be walked, as a part of the row; what else there is to say
@@ -72,7 +58,7 @@ pub fn walk_row<'a>(
     ensures { λ r. ⌜ WalkSays (now (table .entry)) (now (row .entry)) (now (work .entry)) (now (work .exit)) (now r)
         (now (refusal .exit)) (now (outcome .exit)) (now («next_names» .exit)) (now («next_count» .exit)) ⌝ }
 {
-    let ended = walking::walk_and_clear(table, row, work);
+    let ended = walk_and_clear(table, row, work);
     *refusal = ended.refusal;
     *outcome = ended.outcome;
     *next_names = ended.next_names;
@@ -83,9 +69,10 @@ pub fn walk_row<'a>(
 
 // Writes the listing of a book: a line with the states and joins, then one for each state.
 pub fn list_book(book: &[u8], work: &mut [u8], text: &mut [u8]) -> Written
-    ensures { λ r. ⌜ ListSays (now (book .entry)) (now (work .entry)) (now (work .exit)) (now (text .entry)) (now (text .exit)) r ⌝ }
+    ensures { λ r. ⌜ ListSays standard (now (book .entry)) (now (work .entry)) (now (work .exit))
+        (now (text .entry)) (now (text .exit)) r ⌝ }
 {
-    let written = listing::list(book, work, text);
+    let written = listing::list(STANDARD, book, work, text);
     clear(work);
     written
 }
@@ -93,7 +80,8 @@ pub fn list_book(book: &[u8], work: &mut [u8], text: &mut [u8]) -> Written
 // build_table for C.
 #[no_mangle]
 pub extern "C" fn plans_build(book: &[u8], work: &mut [u8], out: &mut [u8]) -> Built
-    ensures { λ r. ⌜ BuildSays (now (book .entry)) (now (work .entry)) (now (work .exit)) (now (out .entry)) (now (out .exit)) r ⌝ }
+    ensures { λ r. ⌜ BuildSays standard (now (book .entry)) (now (work .entry)) (now (work .exit))
+        (now (out .entry)) (now (out .exit)) r ⌝ }
 {
     build_table(book, work, out)
 }
@@ -111,13 +99,14 @@ pub extern "C" fn plans_rewrite(table: &[u8], work: &mut [u8], out: &mut [u8]) -
 pub extern "C" fn plans_walk(table: &[u8], row: &[u8], work: &mut [u8]) -> Walked
     ensures { λ r. ⌜ WalkedSays (now (table .entry)) (now (row .entry)) (now (work .entry)) (now (work .exit)) r ⌝ }
 {
-    walking::walk_and_clear(table, row, work)
+    walk_and_clear(table, row, work)
 }
 
 // list_book for C.
 #[no_mangle]
 pub extern "C" fn plans_list(book: &[u8], work: &mut [u8], text: &mut [u8]) -> Written
-    ensures { λ r. ⌜ ListSays (now (book .entry)) (now (work .entry)) (now (work .exit)) (now (text .entry)) (now (text .exit)) r ⌝ }
+    ensures { λ r. ⌜ ListSays standard (now (book .entry)) (now (work .entry)) (now (work .exit))
+        (now (text .entry)) (now (text .exit)) r ⌝ }
 {
     list_book(book, work, text)
 }

@@ -8,14 +8,16 @@ use Prim.Native.Nat.{ℕ, zero, suc, _+_, _<_, _≤_}
 use native.Mathlib.Omega.{arith}
 use lib.ListN.{length, getD, set}
 use lib.Seq.{getD-set-same, getD-set-other, getD-take, length-take-le}
-use Rattle.model.specs.Limits.{name-limit, state-limit}
+use Rattle.base.specs.Limits.{name-limit, state-limit}
 use Rattle.model.specs.Classes.{Word}
 use Rattle.model.specs.Joinings.{treeOf}
-use Rattle.model.proofs.Tests.{eq-dec}
-use Rattle.cells.specs.Cells.{cellAt, withCell}
-use Rattle.cells.proofs.CellLaws.{cell-same, cell-other}
+use Rattle.base.proofs.Tests.{eq-dec}
+use Rattle.base.specs.Cells.{cellAt, withCell}
+use Rattle.base.proofs.CellLaws.{cell-same, cell-other}
 use Rattle.prefix_tree.specs.Growth.{Store, store, Sized, Grown, IsChild, NoChild, appended, longer, TreeBuilt}
-use Rattle.prefix_tree.proofs.WordLaws.{at-in, in-at, snoc-not-nil, snoc-left, snoc-last, below-or-last, snoc-old, snoc-new}
+use Rattle.base.proofs.Places.{nth-in, place-of}
+use Rattle.indexed.proofs.Words.{snoc-word}
+use Rattle.prefix_tree.proofs.WordLaws.{snoc-not-nil, below-or-last, snoc-old, snoc-new}
 use Rattle.prefix_tree.proofs.WordLaws.{snoc-length}
 
 -- ---- a child looked up
@@ -50,12 +52,12 @@ module _ {nodes rows : List Word} {count : ℕ} {s : Store} (g : Grown nodes row
   child-met c is =
       let size : length nodes ≡ count = g .size in
       let below : c < count = is .below in
-      Memᴰ·cast (sym (child-word c is)) (at-in nodes c (omega arith))
+      Memᴰ·cast (sym (child-word c is)) (nth-in [] nodes c (omega arith))
 
   -- where the cell does not hold the child, the longer word is none of the nodes
   pub child-new : NoChild count state name (s .parents) (s .names) (s .work) → In (longer nodes state name) nodes → ⊥
   child-new no-one m =
-      let r = in-at nodes (longer nodes state name) m in
+      let r = place-of [] nodes (longer nodes state name) m in
       let size : length nodes ≡ count = g .size in
       let low-r : r .0 < length nodes = r .1 in
       ⊎-elim (λ e. snoc-not-nil (getD nodes state []) name (sym (r .2) ∙ ap (λ (k : ℕ). getD nodes k []) e ∙ g .root))
@@ -69,9 +71,9 @@ module _ {nodes rows : List Word} {count : ℕ} {s : Store} (g : Grown nodes row
           let before : getD (s .parents) v 0 < v = g .parent-before v pos h in
           let parent : getD (s .parents) v 0 ≡ state =
           g .single (getD (s .parents) v 0) state (omega arith) low
-          (snoc-left (getD nodes (getD (s .parents) v 0) []) (getD nodes state []) (getD (s .names) v 0) name both) in
+          (snoc-word (getD nodes (getD (s .parents) v 0) []) (getD nodes state []) (getD (s .names) v 0) name both .0) in
           let named : getD (s .names) v 0 ≡ name =
-          snoc-last (getD nodes (getD (s .parents) v 0) []) (getD nodes state []) (getD (s .names) v 0) name both in
+          snoc-word (getD nodes (getD (s .parents) v 0) []) (getD nodes state []) (getD (s .names) v 0) name both .1 in
           let held = g .cell v pos h in
           no-one .none v h (rw (parent, named) at held) parent named
 
@@ -106,7 +108,7 @@ module _ {nodes rows : List Word} {count : ℕ} {s : Store} (g : Grown nodes row
 
   -- no state so far is the child that is appended
   not-yet : (v : ℕ) → v < count → getD nodes v [] ≡ longer nodes state name → ⊥
-  not-yet v h e = out (Memᴰ·cast (sym e) (at-in nodes v (omega (arith, g .size))))
+  not-yet v h e = out (Memᴰ·cast (sym e) (nth-in [] nodes v (omega (arith, g .size))))
 
   appended-before : (v : ℕ) → 0 < v → v < count + 1 → getD (set (s .parents) count state) v 0 < v
   appended-before v pos h =
@@ -224,7 +226,7 @@ module _ {nodes rows : List Word} {count : ℕ} {s : Store} (g : Grown nodes row
             λ r m.
             ⊎-elim (λ k. g .rows-met r k)
             (λ k.
-            Memᴰ·cast (List·Memᴰ·eq-of-singleton k ∙ sym is-row) (at-in nodes state (omega (arith, g .size))))
+            Memᴰ·cast (List·Memᴰ·eq-of-singleton k ∙ sym is-row) (nth-in [] nodes state (omega (arith, g .size))))
             (List·Memᴰ·append-cases rows m);
         accepting = marked-accepting;
       }

@@ -10,16 +10,18 @@ use native.Mathlib.Omega.{arith}
 use borrow.Author.Tests.{lt-ltb, le-ltb}
 use lib.ListN.{length, getD, take, set, length-set}
 use lib.Seq.{take-suc, take-all}
-use Rattle.model.specs.Limits.{name-limit, state-limit, tree-too-large, when}
+use Rattle.base.specs.Limits.{name-limit, state-limit, tree-too-large, when}
 use Rattle.model.specs.Classes.{Word}
 use Rattle.model.specs.Joinings.{beginnings, withStates, withRows, treeOf}
-use Rattle.fields.specs.Offsets.{bodyAt, nextAt, offsetAt, fieldsAt}
-use Rattle.fields.proofs.OffsetLaws.{fields-more, offset-suc, field-within, field-at, length-fields}
+use Rattle.model.specs.Calls.{treeFault}
+use Rattle.judging.specs.Offsets.{bodyAt, nextAt, offsetAt, fieldsAt}
+use Rattle.judging.proofs.OffsetLaws.{fields-more, offset-suc, field-within, field-at, length-fields}
 use Rattle.prefix_tree.specs.Growth.{Store, store, Sized, Grown, IsChild, NoChild, appended, longer, withState}
 use Rattle.prefix_tree.specs.Growth.{Stepped, StepTooMany, RowAdded, RowTooMany, RowBelow, RowsBelow}
-use Rattle.prefix_tree.specs.Growth.{treeFault, numberOf, countOf, TreeBuilt, TreeOf}
+use Rattle.prefix_tree.specs.Growth.{numberOf, countOf, TreeBuilt, TreeOf}
 use Rattle.prefix_tree.specs.declared.Tree.{Tree}
-use Rattle.prefix_tree.proofs.WordLaws.{at-in, snoc-new, snoc-length}
+use Rattle.base.proofs.Places.{nth-in}
+use Rattle.prefix_tree.proofs.WordLaws.{snoc-new, snoc-length}
 use Rattle.prefix_tree.proofs.TreeLaws.{withState-there, withState-new, walked, walked-none, walked-more, walked-longer}
 use Rattle.prefix_tree.proofs.TreeLaws.{treeOf-more, treeOf-longer}
 use Rattle.prefix_tree.proofs.GrowthLaws.{child-word, child-met, child-new, appended-grown, marked-grown, begun-grown, grown-built}
@@ -106,7 +108,7 @@ walking-begins row count s some few sizes =
       work-kept = refl;
       grown =
           λ nodes rows g.
-          rw (walked-none nodes row (Memᴰ·cast (sym (g .root)) (at-in nodes 0 (omega (arith, g .size))))) (g, g .root);
+          rw (walked-none nodes row (Memᴰ·cast (sym (g .root)) (nth-in [] nodes 0 (omega (arith, g .size))))) (g, g .root);
     }
 
 module _ (row : Word) (count : ℕ) (s₀ s : Store) (n state i : ℕ) (w : Walking row count s₀ s n state i) (more : i < length row) where
@@ -214,7 +216,7 @@ module _ (book : List ℕ) (start items : ℕ) (work₀ : List ℕ) (s : Store) 
   pub adding-below : RowsBelow (fieldsAt book start items) → RowBelow (bodyAt book at)
   adding-below below =
       rw (a .at-is, ← field-at book start items i more)
-      (below (getD (fieldsAt book start items) i []) (at-in (fieldsAt book start items) i (omega (arith, length-fields book start items))))
+      (below (getD (fieldsAt book start items) i []) (nth-in [] (fieldsAt book start items) i (omega (arith, length-fields book start items))))
 
   tree-next : treeOf (fieldsAt book start (suc i)) ≡ withStates (treeOf (fieldsAt book start i)) (beginnings (bodyAt book at))
   tree-next =
@@ -246,7 +248,7 @@ module _ (book : List ℕ) (start items : ℕ) (work₀ : List ℕ) (s : Store) 
       → Adding book start items work₀ s′ m next (i + 1)
   adding-goes s′ m is sizes kept next e = rw (e, add-one i) (adding-next s′ m is sizes kept)
 
-  pub adding-full : RowTooMany (bodyAt book at) n s → tree-too-large ≡ treeFault (treeOf (fieldsAt book start items))
+  pub adding-full : RowTooMany (bodyAt book at) n s → tree-too-large ≡ treeFault (fieldsAt book start items)
   adding-full full =
       let over = full .over (treeOf (fieldsAt book start i)) (fieldsAt book start i) (a .grown) in
       let large : state-limit < length (treeOf (fieldsAt book start items)) =
@@ -261,7 +263,7 @@ adding-ends book start items work₀ s n at i a done =
     subst (λ (k : ℕ). TreeBuilt (fieldsAt book start k) s n) all
     (grown-built (fieldsAt book start i) n s (a .grown) (a .some) (a .few) (a .sizes))
 
-pub tree-answer : (rows : List Word) (s s′ : Store) (answer : Tree) → numberOf answer ≡ treeFault (treeOf rows)
+pub tree-answer : (rows : List Word) (s s′ : Store) (answer : Tree) → numberOf answer ≡ treeFault rows
     → (numberOf answer ≡ 0 → TreeBuilt rows s′ (countOf answer))
     → Sized (s .parents) (s .names) (s .accepts) (s .work)
     → Sized (s′ .parents) (s′ .names) (s′ .accepts) (s′ .work)
@@ -278,6 +280,6 @@ tree-answer rows s s′ answer number built sizes sizes′ kept =
     }
 
 -- a tree that is built is not too large
-pub built-number : (rows : List Word) (s : Store) (n : ℕ) → TreeBuilt rows s n → 0 ≡ treeFault (treeOf rows)
+pub built-number : (rows : List Word) (s : Store) (n : ℕ) → TreeBuilt rows s n → 0 ≡ treeFault rows
 built-number rows s n built =
     sym (ap (λ (b : Bool). when b tree-too-large) (le-ltb _ (length (treeOf rows)) (omega (arith, built .size, built .few))))

@@ -8,12 +8,12 @@ use Prim.Native.Nat.{ℕ, zero, suc, _<_, _≤_}
 use native.Mathlib.Omega.{arith}
 use lib.ListN.{length, getD, take, drop, take-append-drop}
 use lib.Seq.{take-suc}
-use Rattle.model.specs.Lists.{hasRow}
+use Rattle.base.specs.Lists.{hasRow}
 use Rattle.model.specs.Classes.{Word}
 use Rattle.model.specs.Joinings.{beginnings, withStates, withRows, treeOf}
-use Rattle.model.proofs.Tests.{tells-hasRow, told-false, eq-dec}
-use Rattle.fields.specs.Offsets.{bodyAt, offsetAt, fieldsAt}
-use Rattle.fields.proofs.OffsetLaws.{fields-more}
+use Rattle.base.proofs.Tests.{tells-hasRow, told-false, eq-dec}
+use Rattle.judging.specs.Offsets.{bodyAt, offsetAt, fieldsAt}
+use Rattle.judging.proofs.OffsetLaws.{fields-more}
 use Rattle.prefix_tree.specs.Growth.{withState}
 use Rattle.prefix_tree.proofs.WordLaws.{snoc-length}
 

@@ -1,18 +1,18 @@
 -- The prefix tree as it grows in lent arrays. In order: the arrays, the tree that they hold so far, and what each function
--- promises: a child looked up, a state appended, one step, one row, and all rows, with document 01's number for the answer. Assumes
+-- promises: a child looked up, a state appended, one step, one row, and all rows, with the refusal's number for the answer. Assumes
 -- nothing.
 use mathlib.Core.Path.{_≡_}
 use mathlib.Core.Logic.{_↔_}
 use mathlib.Core.Bool.{cond}
 use mathlib.Core.List.{List, [], _∷_, _++_, List·Memᴰ as In}
 use Prim.Native.Nat.{ℕ, _<_, _≤_}
-use lib.Dec.{ltb}
 use lib.ListN.{length, getD, take, set}
-use Rattle.model.specs.Lists.{hasRow}
-use Rattle.model.specs.Limits.{name-limit, state-limit, work-bytes, tree-too-large, when}
+use Rattle.base.specs.Lists.{hasRow}
+use Rattle.base.specs.Limits.{name-limit, state-limit, work-bytes, tree-too-large}
 use Rattle.model.specs.Classes.{Word}
 use Rattle.model.specs.Joinings.{beginnings, withStates, treeOf}
-use Rattle.cells.specs.Cells.{cellAt, withCell}
+use Rattle.model.specs.Calls.{treeFault}
+use Rattle.base.specs.Cells.{cellAt, withCell}
 use Rattle.indexed.specs.Trees.{TreeArrays, AcceptsArray}
 use Rattle.prefix_tree.specs.declared.Found.{Found}
 use Rattle.prefix_tree.specs.declared.Went.{Went}
@@ -148,11 +148,7 @@ pub record RowBelow (row : Word) : Type 0 where
 abbrev pub RowsBelow : List Word → Type 0
 RowsBelow rows = (row : Word) → In row rows → RowBelow row
 
--- refusal 10 where a tree of these states is too large, 0 for none
-abbrev pub treeFault : List Word → ℕ
-treeFault nodes = when (ltb state-limit (length nodes)) tree-too-large
-
--- document 01's number for an answer, 0 for none
+-- the refusal's number for an answer, 0 for none
 abbrev pub numberOf : Tree → ℕ
 numberOf (tree.Built n) = 0
 numberOf tree.TooLarge = tree-too-large
@@ -172,7 +168,7 @@ pub record TreeBuilt (rows : List Word) (s : Store) (n : ℕ) : Type 0 where
 -- the whole: the answer's number is the refusal of the rows' tree; where that is none, the arrays hold the tree, of as many states as
 -- the answer says; and every array is as long as it was
 pub record TreeOf (rows : List Word) (s s′ : Store) (answer : Tree) : Type 0 where
-  pub number : numberOf answer ≡ treeFault (treeOf rows)
+  pub number : numberOf answer ≡ treeFault rows
   pub built : numberOf answer ≡ 0 → TreeBuilt rows s′ (countOf answer)
   pub parents-kept : length (s′ .parents) ≡ length (s .parents)
   pub names-kept : length (s′ .names) ≡ length (s .names)

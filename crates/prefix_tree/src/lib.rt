@@ -1,20 +1,20 @@
 // The prefix tree of a book's rows, in arrays that the caller lends: for each state, in the order met, its parent, its name and
 // whether it accepts. A child is found by its cell [state][name] of the working area, which counts only where the state that it
 // names has that parent and that name; so the area may hold anything at the start.
-use cells::cell;
-use cells::numbers::narrow16;
-use cells::numbers::wide8;
-use cells::numbers::wide16;
-use cells::set_cell;
-use fields::offsets::body;
-use fields::offsets::next_field;
-use judging::limits::NAME_LIMIT;
-use judging::limits::STATE_LIMIT;
+use base::cells::cell;
+use base::cells::set_cell;
+use base::limits::NAME_LIMIT;
+use base::limits::STATE_LIMIT;
+use base::numbers::narrow16;
+use base::numbers::wide8;
+use base::numbers::wide16;
+use judging::offsets::body;
+use judging::offsets::next_field;
 ghost use mathlib.Core.Path.{_≡_};
 ghost use Prim.Native.Nat.{_+_, _<_, _≤_};
 ghost use lib.ListN.{length, set};
-ghost use Rattle.model.specs.Limits.{name-limit, state-limit};
-ghost use Rattle.fields.specs.Offsets.{offsetAt, fieldsAt};
+ghost use Rattle.base.specs.Limits.{name-limit, state-limit};
+ghost use Rattle.judging.specs.Offsets.{offsetAt, fieldsAt};
 ghost use Rattle.prefix_tree.specs.Growth.{Roomy, store, Sized, ChildOf, appended, StepOf, RowBelow, RowOf, RowsBelow, TreeOf};
 
 // The state that a state goes on to by a name, if there is one.

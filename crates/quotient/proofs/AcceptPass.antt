@@ -10,10 +10,10 @@ use lib.Dec.{eqb}
 use lib.ListN.{length, getD, set, replicate, length-set, length-replicate, getD-replicate}
 use lib.Seq.{getD-set-same, getD-set-other, set-getD}
 use borrow.Author.Tests.{eqb-true, eqb-false}
-use Rattle.model.specs.Limits.{when}
+use Rattle.base.specs.Limits.{when}
 use Rattle.model.specs.Classes.{Word}
 use Rattle.model.specs.Joinings.{treeOf, groupAccepts}
-use Rattle.model.proofs.Tests.{Tells, not-told, eq-dec}
+use Rattle.base.proofs.Tests.{Tells, not-told, eq-dec}
 use Rattle.indexed.specs.Trees.{AcceptsArray}
 use Rattle.indexed.specs.Partitions.{Labelled}
 use Rattle.quotient.specs.Gathered.{Accepting}

@@ -8,16 +8,17 @@ use native.Mathlib.Omega.{arith}
 use lib.Bits.{bitOr}
 use lib.ListN.{length, getD, set, replicate, length-set, length-replicate, getD-replicate}
 use lib.Seq.{getD-set-same, getD-set-other}
-use Rattle.model.specs.Limits.{name-limit, state-limit, work-bytes}
+use Rattle.base.specs.Limits.{name-limit, state-limit, work-bytes}
 use Rattle.model.specs.Classes.{Word}
 use Rattle.model.specs.Tables.{Arc, arc, nameSet}
 use Rattle.model.specs.Joinings.{treeOf, transition, transitionsOf}
 use Rattle.model.specs.Quotients.{arcsOutOf}
 use Rattle.model.proofs.Arcs.{arcsOutOf-ascending, arcsOutOf-in, in-arcsOutOf}
-use Rattle.model.proofs.Tests.{eq-dec}
-use Rattle.indexed.proofs.Bits.{bit, bit-zero, bit-of-set, bits-told}
-use Rattle.cells.specs.Cells.{cellAt, withCell}
-use Rattle.cells.proofs.CellLaws.{length-withCell, cell-same, cell-other}
+use Rattle.base.proofs.Tests.{eq-dec}
+use Rattle.base.specs.Bits.{bit}
+use Rattle.base.proofs.Bits.{bit-zero, bit-of-set, bits-told}
+use Rattle.base.specs.Cells.{cellAt, withCell}
+use Rattle.base.proofs.CellLaws.{length-withCell, cell-same, cell-other}
 use Rattle.quotient.specs.Gathered.{Joined, ArcsAt, Gathered}
 use Rattle.quotient.proofs.NameSets.{bit-nameSet}
 use Rattle.quotient.proofs.TreeArcs.{TreeArc, label-low, transition-number, number-transition, one-target}
@@ -39,6 +40,17 @@ pub record GatheredUpTo (v : ℕ) (parents names groups work next : List ℕ) : 
       (w : ℕ) → 0 < w → w < v → w < length groups →
       cellAt work (getD groups (getD parents w 0) 0) (getD names w 0) ≡ getD groups w 0
   pub in-sets : (g a : ℕ) → g < length groups → (bit a (getD next g 0) ≡ 1) ↔ Leaves v parents names groups g a
+
+-- what the pass reads at the arc to v stands in the arrays, and is in range
+pub record ArcHere (parents names groups : List ℕ) (v : ℕ) : Type 0 where
+  pub few : length groups ≤ state-limit
+  pub inside : v < length groups
+  pub in-parents : v < length parents
+  pub in-names : v < length names
+  pub parent-below : getD parents v 0 < length groups
+  pub from-below : getD groups (getD parents v 0) 0 < length groups
+  pub into-below : getD groups v 0 < length groups
+  pub name-below : getD names v 0 < name-limit
 
 -- nothing gathered yet
 pub gather-start :
@@ -62,16 +74,30 @@ gather-start parents names groups work next₀ next room fits e =
 
 module _ (rows : List Word) (parents names groups : List ℕ) (joined : Joined rows parents names groups) where
   -- where the arc into a state goes from, and what its name is, fits
-  pub from-low : (v : ℕ) → 0 < v → v < length groups → getD groups (getD parents v 0) 0 < length groups
+  from-low : (v : ℕ) → 0 < v → v < length groups → getD groups (getD parents v 0) 0 < length groups
   from-low v pos h =
       let size : length groups ≡ length (treeOf rows) = joined .labels .size in
       let below : getD parents v 0 < v = joined .tree .parent-before v pos (omega arith) in
       omega (arith, label-low (joined .labels) (getD parents v 0) (omega arith))
 
-  pub name-low : (v : ℕ) → 0 < v → v < length groups → getD names v 0 < name-limit
+  name-low : (v : ℕ) → 0 < v → v < length groups → getD names v 0 < name-limit
   name-low v pos h =
       let size : length groups ≡ length (treeOf rows) = joined .labels .size in
       joined .tree .name-below v pos (omega arith)
+
+  pub arc-here : (v : ℕ) → 0 < v → v < length groups → ArcHere parents names groups v
+  arc-here v pos h =
+      let size = joined .labels .size in
+      record {
+        few = omega (arith, joined .few);
+        inside = h;
+        in-parents = omega (arith, joined .tree .parents-size);
+        in-names = omega (arith, joined .tree .names-size);
+        parent-below = omega (arith, joined .tree .parent-before v pos (omega arith));
+        from-below = from-low v pos h;
+        into-below = omega (arith, label-low (joined .labels) v (omega arith));
+        name-below = name-low v pos h;
+      }
 
   -- one more tree arc
   module _ (v : ℕ) (work next : List ℕ) (pos : 0 < v) (inside : v < length groups)
@@ -196,7 +222,7 @@ module _ (rows : List Word) (parents names groups : List ℕ) (joined : Joined r
     pub gathered-more :
         (row column value : ℕ) (work′ next′ : List ℕ) → row ≡ getD groups (getD parents v 0) 0 → column ≡ getD names v 0 →
         value ≡ getD groups v 0 → work′ ≡ withCell work row column value →
-        next′ ≡ set next row (bitOr (getD next row 0) (2 ^ column)) →
+        next′ ≡ set next row (bitOr (getD next row 0) (2 ^ getD names v 0)) →
         GatheredUpTo (v + 1) parents names groups work′ next′
     unfolding from name
     gathered-more row column value work′ next′ e f g h k = rw (h, k, e, f, g) gather-more

@@ -8,8 +8,8 @@ use lib.Count.{ones, trailingZeros}
 use lib.ListN.{length}
 use lib.Pow.{pow-pos}
 use Rattle.model.specs.Tables.{Arc, nameSet}
-use Rattle.model.specs.Limits.{name-limit}
-use Rattle.cells.specs.Cells.{cellAt}
+use Rattle.base.specs.Limits.{name-limit}
+use Rattle.base.specs.Cells.{cellAt}
 use Rattle.quotient.specs.Gathered.{ArcsAt}
 use Rattle.model.proofs.NameSets.{ones-nameSet, trailing-nameSet, nameSet-rest}
 

@@ -11,19 +11,19 @@ use native.Mathlib.Omega.{arith}
 use lib.Count.{trailingZeros}
 use lib.ListN.{length, getD, set, take, replicate, length-append, length-set, length-replicate, getD-replicate, List·getD-append}
 use lib.Seq.{take-suc-set, getD-set-same, getD-set-other, getD-take}
-use Rattle.model.specs.Limits.{name-limit, state-limit}
-use Rattle.model.specs.Lists.{any, isIn, indexIn}
+use Rattle.base.specs.Limits.{name-limit, state-limit}
+use Rattle.base.specs.Lists.{any, isIn, indexIn}
 use Rattle.model.specs.Classes.{Word}
 use Rattle.model.specs.Tables.{Arc}
 use Rattle.model.specs.Joinings.{Transition, treeOf, transitionsOf}
 use Rattle.model.specs.Quotients.{arcsOutOf, metWith, metFrom, metGroups}
-use Rattle.model.proofs.Tests.{tells-isIn, not-told}
-use Rattle.model.proofs.Places.{nth-in, nth-of-index, index-after, index-front}
+use Rattle.base.proofs.Tests.{tells-isIn, not-told}
+use Rattle.base.proofs.Places.{nth-in, nth-of-index, index-after, index-front}
 use Rattle.model.proofs.Trees.{treeOf-tree}
 use Rattle.model.proofs.Meeting.{metWith-grown}
 use Rattle.model.proofs.FirstMet.{met-few}
 use Rattle.model.proofs.MetOrder.{metFrom-appends, metFrom-ends, metFrom-step}
-use Rattle.cells.specs.Cells.{cellAt}
+use Rattle.base.specs.Cells.{cellAt}
 use Rattle.quotient.specs.Gathered.{ArcsAt, Gathered}
 use Rattle.quotient.specs.Numbered.{MetAs, MeetingOne, Meeting}
 use Rattle.quotient.proofs.ArcSets.{arcs-more, arcs-done}
@@ -43,7 +43,7 @@ pub met-low : {n : ℕ} {met numbers : List ℕ} {count : ℕ} (seen : List ℕ)
     getD met i 0 < n
 met-low {n} {met} {numbers} {count} seen r i h =
     let counted : count ≡ length seen = r .counted in
-    subst (λ (g : ℕ). g < n) (sym (met-nth seen r i h)) (r .low (getD seen i 0) (nth-in seen i (omega arith)))
+    subst (λ (g : ℕ). g < n) (sym (met-nth seen r i h)) (r .low (getD seen i 0) (nth-in 0 seen i (omega arith)))
 
 module _ {n : ℕ} {met numbers : List ℕ} {count target : ℕ} {after : List ℕ} (r : MeetingOne n met numbers count target after) where
   -- a target with a number is met

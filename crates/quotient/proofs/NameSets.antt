@@ -3,21 +3,15 @@ use mathlib.Core.Path.{_≡_, sym, ap, _∙_}
 use mathlib.Core.Logic.{inl, inr, ⊎-elim, _↔_}
 use mathlib.Core.List.{List, [], _∷_, List·Memᴰ as In, List·Memᴰ·head as here, List·Memᴰ·tail as there}
 use mathlib.Core.List.{List·Memᴰ·not-nil, List·Memᴰ·cases-cons}
-use Prim.Native.Nat.{ℕ, suc, _+_, _*_, _%_, _^_, _<_}
-use native.Mathlib.Nat.{one-mul, add-comm, mod-eq-of-lt}
+use Prim.Native.Nat.{ℕ, suc, _+_, _*_, _^_}
+use native.Mathlib.Nat.{add-comm}
 use native.Mathlib.Omega.{arith}
 use lib.Bits.{bitOr, or-shifted}
 use lib.Pow.{pow-lt}
-use Rattle.model.specs.Tables.{Arc, arc, nameSet}
-use Rattle.model.proofs.Arcs.{Ascending}
-use Rattle.indexed.proofs.Bits.{bit, bit-zero, bit-of-set}
+use Rattle.model.specs.Tables.{Arc, arc, nameSet, Ascending}
+use Rattle.base.specs.Bits.{bit}
+use Rattle.base.proofs.Bits.{bit-zero, bit-of-set}
 use Rattle.model.proofs.NameSets.{multiple-set}
-
--- the set of one name, as a shift gives it
-pub shifted-one : (a : ℕ) → a < 64 → 1 * 2 ^ a % 2 ^ 64 ≡ 2 ^ a
-shifted-one a h =
-    let fits : 1 * 2 ^ a < 2 ^ 64 = omega (arith, pow-lt {i = a} {j = 64} h) in
-    mod-eq-of-lt fits ∙ one-mul (2 ^ a)
 
 -- the first arc's name put into the set of the others
 set-with-first : (next : ℕ) (a : Arc) (arcs : List Arc) → Ascending next (a ∷ arcs) →

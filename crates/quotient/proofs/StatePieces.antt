@@ -1,7 +1,7 @@
 -- The states' fields in pieces: arcs from a set one by one, a state's head and its arcs, and the states in first-met order; and how many
 -- bytes they take. Assumes nothing.
 use mathlib.Core.Path.{_≡_, refl, sym, ap, ap₂, _∙_, subst}
-use mathlib.Core.Bool.{Bool, true, false}
+use mathlib.Core.Bool.{Bool}
 use mathlib.Core.List.{List, [], _∷_, _++_, map, flatMap, List·Memᴰ as In, List·Memᴰ·head as here, List·Memᴰ·tail as there}
 use Prim.Native.Nat.{ℕ, suc, _+_, _*_, _-_, _^_, _<_, _≤_}
 use native.Mathlib.Numerals.{add-one}
@@ -10,17 +10,18 @@ use lib.Count.{ones, trailingZeros}
 use lib.Dec.{eqb}
 use lib.ListN.{length, getD, drop, length-append, length-map, drop-of-length-le}
 use lib.Seq.{drop-cons}
-use Rattle.model.specs.Limits.{name-limit, when}
-use Rattle.model.specs.Lists.{indexIn}
+use Rattle.base.specs.Limits.{name-limit}
+use Rattle.base.specs.Lists.{indexIn}
 use Rattle.model.specs.Classes.{Word}
 use Rattle.model.specs.Tables.{Arc, arc, State, state, fieldBytes, arcBytes, stateBody, stateFields}
 use Rattle.model.specs.Joinings.{treeOf, transitionsOf, groupAccepts}
 use Rattle.model.specs.Quotients.{arcsOutOf, metGroups, renumbered, stateOf, statesOf}
 use Rattle.model.proofs.Arcs.{arcsOutOf-in}
 use Rattle.model.proofs.FirstMet.{met-closed, met-few}
-use Rattle.model.proofs.Places.{nth-in}
+use Rattle.base.proofs.Places.{nth-in}
+use Rattle.model.proofs.StateBodies.{accepts-read, arc-bytes-length}
 use Rattle.model.proofs.Trees.{treeOf-tree}
-use Rattle.cells.specs.Cells.{cellAt}
+use Rattle.base.specs.Cells.{cellAt}
 use Rattle.writing.specs.Writing.{stateHead, arcPart}
 use Rattle.writing.proofs.Pieces.{state-bytes, state-bytes-length, arc-bytes-cons}
 use Rattle.quotient.specs.Gathered.{ArcsAt, Gathered}
@@ -103,15 +104,13 @@ module _ {work : List ℕ} {row set : ℕ} {numbers bytes : List ℕ} where
 
 -- ---- one state
 
--- its head, and its arcs left
+-- its head, and its arcs left, three bytes each
 pub record StateParts (work : List ℕ) (row set accepts : ℕ) (numbers bytes : List ℕ) : Type 0 where
   pub rest : List ℕ
-  pub bytes-are : bytes ≡ stateHead (eqb accepts 1) (ones set) ++ rest
+  pub bytes-are : bytes ≡ stateHead (eqb accepts 1) (length rest) ++ rest
+  pub sized : length bytes ≡ 4 + length rest
+  pub counted : length rest ≡ 3 * ones set
   pub arcs-left : ArcsToWrite work row set numbers rest
-
-byte-test : (b : Bool) → eqb (when b 1) 1 ≡ b
-byte-test true = refl
-byte-test false = refl
 
 pub state-parts :
     {work : List ℕ} {row set accepts : ℕ} {numbers bytes : List ℕ} → StateToWrite work row set accepts numbers bytes →
@@ -119,14 +118,21 @@ pub state-parts :
 state-parts {work} {row} {set} {accepts} {numbers} {bytes} r =
     let arcs = renumbered (r .every) (r .arcs) in
     let test : r .accepting ≡ eqb accepts 1 =
-    sym (byte-test (r .accepting)) ∙ ap (λ (k : ℕ). eqb k 1) (sym (r .accepts-is)) in
-    let size : length arcs ≡ ones set =
-    renumbered-length (r .every) (r .arcs) ∙ sym (arcs-counted (r .arcs) (r .at-row)) in
+    sym (accepts-read (r .accepting)) ∙ ap (λ (k : ℕ). eqb k 1) (sym (r .accepts-is)) in
+    let rest = arcBytes arcs in
+    let whole : bytes ≡ stateHead (eqb accepts 1) (length rest) ++ rest =
+    r .bytes-are ∙ state-bytes (state (r .accepting) arcs) ∙ ap (λ (b : Bool). stateHead b (length rest) ++ rest) test in
     record {
-      rest = arcBytes arcs;
-      bytes-are =
-          r .bytes-are ∙ state-bytes (state (r .accepting) arcs)
-          ∙ ap₂ (λ (b : Bool) (n : ℕ). stateHead b n ++ arcBytes arcs) test size;
+      rest = rest;
+      bytes-are = whole;
+      sized = ap length whole ∙ length-append (stateHead (eqb accepts 1) (length rest)) rest;
+      counted =
+          omega (
+            arith,
+            arc-bytes-length arcs,
+            renumbered-length (r .every) (r .arcs),
+            arcs-counted (r .arcs) (r .at-row),
+          );
       arcs-left =
           record {
             size = r .size;
@@ -244,7 +250,7 @@ module _ (rows : List Word) (groups work next accepting met numbers : List ℕ) 
       let counted : count ≡ length every = ready .numbered .counted in
       let g-is : g ≡ getD every i 0 = e ∙ met-nth every (ready .numbered) i h in
       let g-low : g < length (treeOf rows) = omega (arith, met-low every (ready .numbered) i h) in
-      let g-met : In g every = subst (λ (x : ℕ). In x every) (sym g-is) (nth-in every i (omega arith)) in
+      let g-met : In g every = subst (λ (x : ℕ). In x every) (sym g-is) (nth-in 0 every i (omega arith)) in
       let arcs = arcsOutOf g (transitionsOf (treeOf rows) groups) in
       record {
         size = length (treeOf rows);

@@ -6,9 +6,9 @@ use Prim.Native.Nat.{ℕ, _<_}
 use native.Mathlib.Omega.{arith}
 use lib.ListN.{length, getD}
 use Rattle.model.specs.Classes.{Word}
-use Rattle.model.specs.Joinings.{transition, treeOf, transitionsOf, groupAt, groupAccepts}
-use Rattle.model.proofs.Notions.{Fits, Deterministic}
-use Rattle.model.proofs.Tests.{Tells, tells-by}
+use Rattle.model.specs.Joinings.{transition, treeOf, transitionsOf, groupAt, groupAccepts, Deterministic}
+use Rattle.model.proofs.Notions.{Fits}
+use Rattle.base.proofs.Tests.{Tells, tells-by}
 use Rattle.model.proofs.Groups.{tells-accepts}
 use Rattle.model.proofs.Transitions.{in-transitions, arc-node}
 use Rattle.model.proofs.Trees.{treeOf-tree}

@@ -4,16 +4,14 @@ use mathlib.Core.Path.{_≡_}
 use mathlib.Core.List.{List, List·Memᴰ as In}
 use Prim.Native.Nat.{ℕ, _<_, _≤_}
 use lib.ListN.{length, getD}
-use Rattle.model.specs.Limits.{name-limit, state-limit, work-bytes, when}
+use Rattle.base.specs.Limits.{name-limit, state-limit, work-bytes, when}
 use Rattle.model.specs.Classes.{Word}
-use Rattle.model.specs.Tables.{Arc, nameSet}
-use Rattle.model.specs.Joinings.{treeOf, transitionsOf, groupAccepts}
+use Rattle.model.specs.Tables.{Arc, nameSet, Ascending}
+use Rattle.model.specs.Joinings.{treeOf, transitionsOf, groupAccepts, Deterministic}
 use Rattle.model.specs.Quotients.{arcsOutOf}
-use Rattle.model.proofs.Arcs.{Ascending}
-use Rattle.model.proofs.Notions.{Deterministic}
 use Rattle.indexed.specs.Trees.{TreeArrays}
 use Rattle.indexed.specs.Partitions.{Labelled, ForkClosed}
-use Rattle.cells.specs.Cells.{cellAt}
+use Rattle.base.specs.Cells.{cellAt}
 
 -- the rows' tree in arrays, of at most 512 states, and a partition of it that no fork is open in
 pub record Joined (rows : List Word) (parents names groups : List ℕ) : Type 0 where

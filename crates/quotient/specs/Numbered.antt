@@ -5,13 +5,13 @@ use mathlib.Core.Bool.{cond}
 use mathlib.Core.List.{List, [], _∷_, _++_, List·Memᴰ as In}
 use Prim.Native.Nat.{ℕ, _<_, _≤_}
 use lib.ListN.{length, getD, take}
-use Rattle.model.specs.Limits.{state-limit}
-use Rattle.model.specs.Lists.{isIn, indexIn}
+use Rattle.base.specs.Limits.{state-limit}
+use Rattle.base.specs.Lists.{isIn, indexIn}
 use Rattle.model.specs.Tables.{Arc}
 use Rattle.model.specs.Quotients.{metWith}
 use Rattle.quotient.specs.Gathered.{ArcsAt}
 
--- of n groups these are met, in this order: each has its place as number, and every other group 512
+-- of n groups these are met, in this order: each has its place as number, and every other group `state-limit`
 pub record MetAs (n : ℕ) (met numbers : List ℕ) (count : ℕ) (seen : List ℕ) : Type 0 where
   pub few : n ≤ state-limit
   pub met-size : n ≤ length met

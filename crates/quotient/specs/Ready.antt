@@ -5,8 +5,8 @@ use mathlib.Core.Bool.{Bool}
 use mathlib.Core.List.{List, List·Memᴰ as In}
 use Prim.Native.Nat.{ℕ, _≤_}
 use lib.ListN.{length, getD}
-use Rattle.model.specs.Limits.{when}
-use Rattle.model.specs.Lists.{indexIn}
+use Rattle.base.specs.Limits.{when, state-mark}
+use Rattle.base.specs.Lists.{indexIn}
 use Rattle.model.specs.Classes.{Word}
 use Rattle.model.specs.Tables.{Arc, state, fieldBytes, arcBytes, stateBody, stateFields}
 use Rattle.model.specs.Joinings.{treeOf}
@@ -52,4 +52,4 @@ pub record StateToWrite (work : List ℕ) (row set accepts : ℕ) (numbers bytes
   pub numbers-size : size ≤ length numbers
   pub placed : (a : Arc) → In a arcs → getD numbers (a .to) 0 ≡ indexIn (a .to) every
   pub accepts-is : accepts ≡ when accepting 1
-  pub bytes-are : bytes ≡ fieldBytes 4 (stateBody (state accepting (renumbered every arcs)))
+  pub bytes-are : bytes ≡ fieldBytes state-mark (stateBody (state accepting (renumbered every arcs)))

@@ -1,8 +1,9 @@
 // The arcs of the joined automaton, and which groups accept, gathered in one pass each over the tree's states.
 use crate::sets;
-use cells::numbers::wide8;
-use cells::numbers::wide16;
-use cells::set_cell;
+use base::cells::clear;
+use base::cells::set_cell;
+use base::numbers::wide8;
+use base::numbers::wide16;
 ghost use mathlib.Core.Path.{_≡_};
 ghost use mathlib.Core.Bool.{cond};
 ghost use mathlib.Core.List.{List};
@@ -11,7 +12,7 @@ ghost use lib.Dec.{eqb};
 ghost use lib.ListN.{length};
 ghost use Rattle.model.specs.Classes.{Word};
 ghost use Rattle.model.specs.Joinings.{treeOf};
-ghost use Rattle.model.specs.Limits.{work-bytes};
+ghost use Rattle.base.specs.Limits.{work-bytes};
 ghost use Rattle.indexed.specs.Trees.{AcceptsArray};
 ghost use Rattle.indexed.specs.Partitions.{Labelled};
 ghost use Rattle.quotient.specs.Gathered.{Joined, Gathered, Accepting};
@@ -28,8 +29,8 @@ pub fn gather(parents: &[u16], names: &[u8], groups: &[u16], work: &mut [u8], ne
     let mut v = 1;
     while v < groups.len() {
         let from = wide16(groups[wide16(parents[v])]);
-        let name = wide8(names[v]);
-        set_cell(work, from, name, wide16(groups[v]));
+        let name = names[v];
+        set_cell(work, from, wide8(name), wide16(groups[v]));
         sets::put(next, from, name);
         v += 1;
     }
@@ -49,7 +50,7 @@ pub fn mark_accepting(accepts: &[u8], groups: &[u16], accepting: &mut [u8])
     ensures { λ _. ⌜ ((rows : List Word) → AcceptsArray rows (now (accepts .entry)) →
         Labelled (length (treeOf rows)) (now (groups .entry)) → Accepting rows (now (groups .entry)) (now (accepting .exit))) ⌝ }
 {
-    cells::clear(accepting);
+    clear(accepting);
     let mut v = 0;
     while v < groups.len() {
         let g = wide16(groups[v]);

@@ -9,7 +9,7 @@ ghost use mathlib.Core.List.{List};
 ghost use Prim.Native.Nat.{_≤_};
 ghost use lib.ListN.{length};
 ghost use Rattle.model.specs.Classes.{Word};
-ghost use Rattle.model.specs.Limits.{work-bytes};
+ghost use Rattle.base.specs.Limits.{work-bytes};
 ghost use Rattle.indexed.specs.Trees.{AcceptsArray};
 ghost use Rattle.quotient.specs.Gathered.{Joined};
 ghost use Rattle.quotient.specs.Ready.{Prepared};

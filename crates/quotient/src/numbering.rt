@@ -1,22 +1,20 @@
 // First-met numbers of groups: the root's group is 0; groups are taken in ascending number and their arcs in ascending name, and each
 // new target has the next number. The bytes of the states' fields are counted on the way.
 use crate::Quotient;
-use crate::sets;
-use cells::cell;
-use cells::numbers::narrow16;
-use cells::numbers::wide16;
+use base::cells::cell;
+use base::limits::NO_STATE;
+use base::numbers::narrow16;
+use base::numbers::wide16;
+use base::sets;
 ghost use mathlib.Core.Path.{_≡_};
 ghost use mathlib.Core.List.{List};
 ghost use Prim.Native.Nat.{ℕ, _<_, _≤_};
 ghost use lib.ListN.{length, replicate};
 ghost use Rattle.model.specs.Classes.{Word};
-ghost use Rattle.model.specs.Limits.{state-limit, work-bytes};
+ghost use Rattle.base.specs.Limits.{state-limit, work-bytes};
 ghost use Rattle.quotient.specs.Gathered.{Gathered};
 ghost use Rattle.quotient.specs.Numbered.{MetAs, MeetingOne, Meeting};
 ghost use Rattle.quotient.specs.Ready.{NumberedStates};
-
-// The number of a group that is not met yet.
-pub const NOT_MET: u16 = 512;
 
 // No group met yet.
 fn none_met(numbers: &mut [u16])
@@ -24,7 +22,7 @@ fn none_met(numbers: &mut [u16])
 {
     let mut i = 0;
     while i < numbers.len() {
-        numbers[i] = NOT_MET;
+        numbers[i] = NO_STATE;
         i += 1;
     }
 }
@@ -37,7 +35,7 @@ fn meet_one(met: &mut [u16], numbers: &mut [u16], count: usize, target: usize) -
         MetAs n (now (met .exit)) (now (numbers .exit)) r after) ⌝ }
 {
     let number = numbers[target];
-    if number != NOT_MET {
+    if number != NO_STATE {
         return count;
     }
     met[count] = narrow16(target);

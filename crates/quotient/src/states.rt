@@ -1,20 +1,20 @@
 // The states' fields, written front to back from the arcs gathered and the numbers given.
-use crate::sets;
-use cells::cell;
-use cells::numbers::narrow8;
-use cells::numbers::wide16;
+use base::cells::cell;
+use base::numbers::narrow8;
+use base::numbers::wide16;
+use base::sets;
 use writing::put_arc;
 use writing::put_state;
 ghost use mathlib.Core.Path.{_≡_};
 ghost use mathlib.Core.List.{List};
-ghost use Prim.Native.Nat.{ℕ, _+_, _<_, _≤_};
+ghost use Prim.Native.Nat.{ℕ, _<_, _≤_};
 ghost use lib.ListN.{length, getD};
 ghost use Rattle.model.specs.Classes.{Word};
 ghost use Rattle.model.specs.Joinings.{treeOf};
-ghost use Rattle.model.specs.Limits.{state-limit, work-bytes};
+ghost use Rattle.base.specs.Limits.{state-limit, work-bytes};
 ghost use Rattle.model.specs.Quotients.{statesOf};
 ghost use Rattle.model.specs.Tables.{stateFields};
-ghost use Rattle.writing.specs.Writing.{Put};
+ghost use Rattle.writing.specs.Writing.{Fits, Put};
 ghost use Rattle.quotient.specs.Ready.{Ready, ArcsToWrite, StateToWrite};
 
 // The number of a group.
@@ -35,9 +35,9 @@ fn write_arcs(
     at: usize,
 ) -> usize
     requires { ⌜ (work-bytes ≤ length (now work)) × (row < state-limit) ⌝ }
-    requires { ⌜ ((bytes : List ℕ) × ArcsToWrite (now work) row names (now numbers) bytes × (at + length bytes ≤ length (now out))) ⌝ }
+    requires { ⌜ ((bytes : List ℕ) × ArcsToWrite (now work) row names (now numbers) bytes × Fits (now out) at bytes) ⌝ }
     ensures { λ r. ⌜ ((bytes : List ℕ) → ArcsToWrite (now (work .entry)) row names (now (numbers .entry)) bytes →
-        Put (now (out .entry)) (now (out .exit)) at bytes (length bytes) r) ⌝ }
+        Put (now (out .entry)) (now (out .exit)) at bytes r) ⌝ }
 {
     let mut left = names;
     let mut end = at;
@@ -50,7 +50,8 @@ fn write_arcs(
     end
 }
 
-// Writes a group's state field. Returns the offset after it.
+// Writes a group's state field: the arcs, and then the head in front of them, whose length is known from where they end. Returns the
+// offset after the field.
 fn write_state(
     work: &[u8],
     row: usize,
@@ -61,13 +62,14 @@ fn write_state(
     at: usize,
 ) -> usize
     requires { ⌜ (work-bytes ≤ length (now work)) × (row < state-limit) ⌝ }
-    requires { ⌜ ((bytes : List ℕ) × StateToWrite (now work) row names accepts (now numbers) bytes
-        × (at + length bytes ≤ length (now out))) ⌝ }
+    requires { ⌜ ((bytes : List ℕ) × StateToWrite (now work) row names accepts (now numbers) bytes × Fits (now out) at bytes) ⌝ }
     ensures { λ r. ⌜ ((bytes : List ℕ) → StateToWrite (now (work .entry)) row names accepts (now (numbers .entry)) bytes →
-        Put (now (out .entry)) (now (out .exit)) at bytes (length bytes) r) ⌝ }
+        Put (now (out .entry)) (now (out .exit)) at bytes r) ⌝ }
 {
-    let start = put_state(out, at, accepts == 1, sets::how_many(names));
-    write_arcs(work, row, names, numbers, out, start)
+    let start = at + 4;
+    let end = write_arcs(work, row, names, numbers, out, start);
+    put_state(out, at, accepts == 1, end - start);
+    end
 }
 
 // Writes the states' fields from offset `at` on, each byte once, and leaves the rest of the output as it was. Returns the offset
@@ -84,11 +86,10 @@ pub fn write_states(
 ) -> usize
     requires { ⌜ ((rows : List Word) × (groups : List ℕ)
         × Ready rows groups (now work) (now next) (now accepting) (now met) (now numbers) count
-        × (at + length (stateFields (statesOf rows (treeOf rows) groups)) ≤ length (now out))) ⌝ }
+        × Fits (now out) at (stateFields (statesOf rows (treeOf rows) groups))) ⌝ }
     ensures { λ r. ⌜ ((rows : List Word) → (groups : List ℕ) →
         Ready rows groups (now (work .entry)) (now (next .entry)) (now (accepting .entry)) (now (met .entry)) (now (numbers .entry)) count →
-        Put (now (out .entry)) (now (out .exit)) at (stateFields (statesOf rows (treeOf rows) groups))
-        (length (stateFields (statesOf rows (treeOf rows) groups))) r) ⌝ }
+        Put (now (out .entry)) (now (out .exit)) at (stateFields (statesOf rows (treeOf rows) groups)) r) ⌝ }
 {
     let mut end = at;
     let mut i = 0;

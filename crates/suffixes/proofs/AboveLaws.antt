@@ -9,12 +9,12 @@ use native.Mathlib.Nat.{mod-lt}
 use native.Mathlib.Omega.{arith}
 use lib.ListN.{length, getD, set, length-set}
 use lib.Pow.{pow-pos, shr-lt, shr-shr, shr-le, split, high}
-use Rattle.model.specs.Limits.{name-limit}
-use Rattle.model.proofs.Tests.{decided, tells-ltb}
+use Rattle.base.specs.Limits.{name-limit}
+use Rattle.base.proofs.Tests.{decided, tells-ltb}
 use Rattle.indexed.specs.Trees.{Arrays, SameSuffix, up}
 use Rattle.indexed.specs.Passes.{SuffixAlike, NamesAbove}
 use Rattle.indexed.proofs.Suffixes.{parent-below}
-use Rattle.indexed.proofs.Fills.{fill-more}
+use Rattle.base.proofs.Fills.{fill-more}
 use Rattle.suffixes.specs.Codes.{code, least, Coded, TopName}
 use Rattle.suffixes.proofs.CodeLaws.{CodedTo, name-small, code-small, code-one, code-alike, coded-root, coded-more}
 

@@ -6,8 +6,8 @@ use mathlib.Core.List.{List}
 use Prim.Native.Nat.{ℕ, _<_, _≤_}
 use native.Mathlib.Omega.{arith}
 use lib.ListN.{getD}
-use Rattle.model.specs.Limits.{state-limit}
-use Rattle.model.proofs.Tests.{decided, tells-ltb}
+use Rattle.base.specs.Limits.{state-limit}
+use Rattle.base.proofs.Tests.{decided, tells-ltb}
 use Rattle.indexed.specs.Trees.{Arrays, SameSuffix}
 use Rattle.indexed.specs.Passes.{SuffixClasses, BySuffix, ByValue}
 use Rattle.suffixes.specs.Codes.{least, Coded}

@@ -9,11 +9,11 @@ use native.Mathlib.Omega.{arith}
 use lib.Bits.{bitAnd, bitOr, or-shifted, and-mask}
 use lib.ListN.{length, getD, set, length-set}
 use lib.Pow.{pow-pos, pow-add, pow-mono, pow-lt, shl-exact, mod-pow-add, high, low}
-use Rattle.model.specs.Limits.{name-limit, setting-limit}
+use Rattle.base.specs.Limits.{name-limit, setting-limit}
 use Rattle.indexed.specs.Trees.{Arrays, SameSuffix}
 use Rattle.indexed.proofs.Suffixes.{parent-below}
 use Rattle.suffixes.specs.Codes.{code, least, Coded}
-use Rattle.indexed.proofs.Fills.{fill-more}
+use Rattle.base.proofs.Fills.{fill-more}
 
 -- the first v of n states have their codes
 pub record CodedTo (n i : ℕ) (parents names : List ℕ) (v : ℕ) (values : List ℕ) : Type 0 where

@@ -3,7 +3,7 @@ use mathlib.Core.Path.{_≡_}
 use mathlib.Core.List.{List}
 use Prim.Native.Nat.{ℕ, _<_, _≤_}
 use lib.ListN.{length, getD}
-use Rattle.model.specs.Limits.{state-limit}
+use Rattle.base.specs.Limits.{state-limit}
 
 -- the class of the state before the last name
 abbrev pub above : List ℕ → List ℕ → ℕ → ℕ

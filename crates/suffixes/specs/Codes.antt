@@ -5,7 +5,7 @@ use mathlib.Core.Path.{_≡_}
 use mathlib.Core.List.{List}
 use Prim.Native.Nat.{ℕ, zero, suc, _+_, _*_, _^_, _<_}
 use lib.ListN.{length, getD}
-use Rattle.model.specs.Limits.{name-limit}
+use Rattle.base.specs.Limits.{name-limit}
 
 -- the last i names, all names where there are fewer
 unfoldable pub code : List ℕ → List ℕ → ℕ → ℕ → ℕ

@@ -1,23 +1,20 @@
 // Classes of the states of a prefix tree by their last names, and the partition by them. A state's class is the first state with
 // the same last names. The last names of each state are one number, its code, seven bits a name; states are compared by their
 // codes. For passes against the arcs the name before the last ones is a state's key.
-use cells::numbers::wide16;
+use base::limits::NAME_LIMIT;
+use base::limits::NO_STATE;
+use base::limits::STATE_LIMIT;
+use base::numbers::wide16;
 ghost use mathlib.Core.Path.{_≡_};
 ghost use mathlib.Core.Bool.{false};
 ghost use Prim.Native.Nat.{ℕ, suc, _+_, _-_, _*_, _/_, _%_, _^_, _<_, _≤_};
 ghost use lib.ListN.{length, getD};
-ghost use Rattle.model.specs.Limits.{name-limit, setting-limit};
+ghost use Rattle.base.specs.Limits.{name-limit, setting-limit};
 ghost use Rattle.indexed.specs.Trees.{Arrays};
 ghost use Rattle.indexed.specs.Partitions.{Alone};
 ghost use Rattle.indexed.specs.Passes.{SuffixClasses, BySuffix, NamesAbove};
 ghost use Rattle.suffixes.specs.Codes.{least, Coded, TopName};
 ghost use Rattle.suffixes.specs.Classes.{above, Judged, Dropped};
-
-// The class of a state with too few names: as many states as a tree may have.
-const NONE: u16 = 512;
-
-// The name above a state with too few names: as many as there may be.
-const NO_NAME: u8 = 64;
 
 // The class of the state before the last name of v.
 pub fn class_above(old: &[u16], parents: &[u16], v: usize) -> usize
@@ -27,18 +24,6 @@ pub fn class_above(old: &[u16], parents: &[u16], v: usize) -> usize
 {
     let parent = wide16(parents[v]);
     wide16(old[parent])
-}
-
-// Copies the numbers of one slice into another of the same length.
-pub fn copy(from: &[u16], to: &mut [u16])
-    requires { ⌜ length (now to) ≡ length (now from) ⌝ }
-    ensures { λ _. ⌜ now (to .exit) ≡ now (from .entry) ⌝ }
-{
-    let mut v = 0;
-    while v < to.len() {
-        to[v] = from[v];
-        v += 1;
-    }
 }
 
 // Ones in the bits of i names.
@@ -102,7 +87,7 @@ fn top_name(j: usize, code: u64) -> u8
 {
     let top = code >> (7 * j);
     if top == 0 {
-        return NO_NAME;
+        return NAME_LIMIT;
     }
     (top - 1) as u8
 }
@@ -126,7 +111,7 @@ pub fn codes_and_names_above(
 {
     let mask = mask_of(j);
     values[0] = 0;
-    keys[0] = NO_NAME;
+    keys[0] = NAME_LIMIT;
     let mut v = 1;
     while v < values.len() {
         let parent = wide16(parents[v]);
@@ -142,7 +127,7 @@ fn class_or_none(bound: u64, value: u64, class: u16) -> u16
     ensures { λ r. ⌜ Judged bound value class r ⌝ }
 {
     if value < bound {
-        return NONE;
+        return NO_STATE;
     }
     class
 }
@@ -181,7 +166,7 @@ pub fn suffix_classes(i: usize, parents: &[u16], names: &[u8], classes: &mut [u1
         ⌜ SuffixClasses (length (now (classes .entry))) i (now (parents .entry)) (now (names .entry)) (now (classes .exit)) ⌝ }
 {
     let n = classes.len();
-    let mut values = [0u64; 512];
+    let mut values = [0u64; STATE_LIMIT];
     classes_in(i, parents, names, &mut values[..n], classes);
 }
 
@@ -214,6 +199,6 @@ pub fn by_suffix(k: usize, parents: &[u16], names: &[u8], groups: &mut [u16]) ->
     ensures none { λ joined. ⌜ (joined ≡ false → Alone (length (now (groups .entry))) (now (groups .exit))) ⌝ }
 {
     let n = groups.len();
-    let mut values = [0u64; 512];
+    let mut values = [0u64; STATE_LIMIT];
     groups_in(k, parents, names, &mut values[..n], groups)
 }

@@ -10,8 +10,7 @@ use lib.Dec.{eqb, leb}
 use lib.ListN.{length, getD, drop, drop-of-length-le, length-drop}
 use lib.Seq.{drop-cons, drop-drop, getD-drop}
 use Rattle.model.specs.Fields.{arcsOk, stateOk}
-use Rattle.model.specs.Tables.{Arc, arc, arcsIn, stateIn, targetIn}
-use Rattle.model.proofs.Arcs.{Ascending}
+use Rattle.model.specs.Tables.{Arc, arc, arcsIn, stateIn, targetIn, Ascending}
 use Rattle.model.proofs.TableBodies.{arcs-ascend}
 pub use Rattle.model.proofs.TableBodies.{NamesBelow, state-ascends}
 use Rattle.judging.proofs.StateLaws.{ArcsLeft, arcs-begin, arcs-cut, arcs-unnamed, arcs-unordered, arcs-go}

@@ -10,7 +10,7 @@ use borrow.Author.Tests.{lt-ltb, le-ltb, ne-eqb, ltb-true, eqb-true, eqb-false}
 use lib.Dec.{eqb, ltb}
 use lib.ListN.{length, getD, drop, drop-of-length-le}
 use lib.Seq.{drop-cons}
-use Rattle.model.specs.Tables.{Arc, arc, State, no-state, metByArcs, metByStates, isFirstMet, targetIn}
+use Rattle.model.specs.Tables.{Arc, arc, State, empty-state, metByArcs, metByStates, isFirstMet, targetIn}
 use Rattle.tables.specs.Arcs.{metWith, targetAt}
 use Rattle.tables.proofs.ArcLaws.{arcsFrom, arcs-turn, arcs-end}
 
@@ -54,12 +54,12 @@ from-end s i m h = ap (metByArcs m) (arcs-end s i h)
 module _ (states : List State) (i m : ℕ) (h : i < length states) where
   pub states-stop : m ≤ i → metByStates i m (drop i states) ≡ 0
   unfolding metByStates
-  states-stop low = rw (drop-cons states i no-state h, metByStates, le-ltb i m low)
+  states-stop low = rw (drop-cons states i empty-state h, metByStates, le-ltb i m low)
 
   pub states-go : i < m
-      → metByStates i m (drop i states) ≡ metByStates (i + 1) (metByArcs m (getD states i no-state .arcs)) (drop (i + 1) states)
+      → metByStates i m (drop i states) ≡ metByStates (i + 1) (metByArcs m (getD states i empty-state .arcs)) (drop (i + 1) states)
   unfolding metByStates
-  states-go low = rw (drop-cons states i no-state h, metByStates, lt-ltb i m low, add-one)
+  states-go low = rw (drop-cons states i empty-state h, metByStates, lt-ltb i m low, add-one)
 
 pub states-end : (states : List State) (i m : ℕ) → length states ≤ i → metByStates i m (drop i states) ≡ m
 unfolding metByStates
@@ -122,7 +122,7 @@ states-grow i m (s ∷ states) h = go (ltb i m) (states-grow (suc i) (metByArcs 
 
 -- the target of any arc of any state is one of the states met
 targets-met : (n i m : ℕ) (states : List State) → 0 < metByStates i m states → (j : ℕ) → j < length states
-    → targetIn n (getD states j no-state .arcs) ≤ metByStates i m states
+    → targetIn n (getD states j empty-state .arcs) ≤ metByStates i m states
 unfolding metByStates
 targets-met n i m [] h j k = let z : ⊥ = omega arith in absurd z
 targets-met n i m (s ∷ states) h j k = go (ltb i m) (targets-met n (suc i) (metByArcs m (s .arcs)) states) h j k
@@ -130,9 +130,9 @@ targets-met n i m (s ∷ states) h j k = go (ltb i m) (targets-met n (suc i) (me
     rest : ℕ
     rest = metByStates (suc i) (metByArcs m (s .arcs)) states
 
-    go : (b : Bool) → (0 < rest → (j : ℕ) → j < length states → targetIn n (getD states j no-state .arcs) ≤ rest)
+    go : (b : Bool) → (0 < rest → (j : ℕ) → j < length states → targetIn n (getD states j empty-state .arcs) ≤ rest)
         → 0 < elim b [ true ↦ rest | false ↦ 0 ] → (j : ℕ) → j < suc (length states)
-        → targetIn n (getD (s ∷ states) j no-state .arcs) ≤ elim b [ true ↦ rest | false ↦ 0 ]
+        → targetIn n (getD (s ∷ states) j empty-state .arcs) ≤ elim b [ true ↦ rest | false ↦ 0 ]
     go true again k zero l =
         let met = metByArcs m (s .arcs) in
         omega (arith, states-grow (suc i) met states k, target-met n m (s .arcs) (some-met (suc i) met states k))
@@ -141,7 +141,7 @@ targets-met n i m (s ∷ states) h j k = go (ltb i m) (targets-met n (suc i) (me
 
 -- in a table numbered first-met every arc leads to a state
 pub target-in-table : (n : ℕ) (states : List State) → isFirstMet states ≡ true → (j : ℕ) → j < length states
-    → targetIn n (getD states j no-state .arcs) ≤ length states
+    → targetIn n (getD states j empty-state .arcs) ≤ length states
 unfolding isFirstMet
 target-in-table n states ok j h =
     let all-met : metByStates 0 1 states ≡ length states = eqb-true (metByStates 0 1 states) (length states) ok in

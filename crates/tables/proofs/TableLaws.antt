@@ -1,39 +1,35 @@
 -- Tables as read: where each state's field stands, which passed the reader's test; and the pass over the states, from its begin
 -- over its turns to its answers. Assumes nothing.
 use mathlib.Core.Path.{_≡_, refl, sym, ap, _∙_, subst}
-use mathlib.Core.Bool.{Bool, true, false, not}
-use mathlib.Core.List.{List, [], _∷_, map, List·Memᴰ as In, List·Memᴰ·head as here, List·Memᴰ·tail as there}
-use Prim.Native.Nat.{ℕ, zero, suc, _+_, _≤_, _<_}
+use mathlib.Core.Bool.{Bool, true, false}
+use mathlib.Core.List.{List, [], map, List·Memᴰ as In}
+use Prim.Native.Nat.{ℕ, _+_, _≤_, _<_}
 use native.Mathlib.Numerals.{add-one}
 use native.Mathlib.Omega.{arith}
 use borrow.Author.Tests.{ltb-true, ltb-false, eq-eqb, ne-eqb}
 use lib.Dec.{ltb}
 use lib.ListN.{length, getD, drop, length-map, List·getD-map}
-use Rattle.model.specs.Limits.{when, firstOf, work-bytes, bad-sizes}
-use Rattle.model.specs.Fields.{File, Read, default-class, table, readFields}
-use Rattle.model.specs.Tables.{State, no-state, stateIn, statesIn, metByArcs, metByStates, isFirstMet}
-use Rattle.model.specs.Calls.{Refuses, tableOf, tableStates, tableFault}
-use Rattle.model.proofs.CallLaws.{SizesBad, refuses-first, sizes-refuse, sizes-pass}
+use Rattle.base.specs.Limits.{work-bytes, bad-sizes, bad-numbering}
+use Rattle.model.specs.Fields.{File, Read, readTable}
+use Rattle.model.specs.Tables.{State, empty-state, stateIn, statesIn, metByArcs, metByStates, isFirstMet}
+use Rattle.model.specs.Calls.{Refuses, sizesFault, tableOf, tableStates, tableFault}
+use Rattle.model.proofs.CallLaws.{SizesBad, refuses-first, refuses-then, sizes-refuse, sizes-fit}
+use Rattle.base.proofs.Places.{nth-in}
 use Rattle.model.proofs.TableBodies.{bodies-ok}
-use Rattle.fields.specs.Offsets.{bodyAt, nextAt, offsetAt, fieldsAt}
-use Rattle.fields.specs.Places.{ReadAs}
+use Rattle.judging.specs.Offsets.{bodyAt, nextAt, offsetAt, fieldsAt}
+use Rattle.fields.specs.Places.{TableReadAs}
 use Rattle.fields.specs.declared.Place.{Place}
 use Rattle.fields.specs.declared.Fields.the-variants as read
-use Rattle.fields.proofs.OffsetLaws.{offset-suc, field-within, length-fields, field-at}
-use Rattle.cells.specs.Cells.{cellAt, withCell}
-use Rattle.cells.proofs.CellLaws.{length-withCell, cell-same, cell-other-row}
+use Rattle.judging.proofs.OffsetLaws.{offset-suc, field-within, length-fields, field-at}
+use Rattle.base.specs.Cells.{cellAt, withCell}
+use Rattle.base.proofs.CellLaws.{length-withCell, cell-same, cell-other-row}
 use Rattle.tables.specs.Arcs.{StateOk}
-use Rattle.tables.specs.Accepting.{readFault, TableRead, StateField, AcceptedAs, OpenedAs}
+use Rattle.tables.specs.Accepting.{TableRead, StateField, TableAt, OpenedAs}
 use Rattle.tables.specs.declared.Accepted.{Accepted}
 use Rattle.tables.specs.declared.Accepted.the-variants.{Table, Refused}
 use Rattle.tables.proofs.MetLaws.{states-stop, states-go, states-end, first-met-some}
 
 -- ---- where each state's field stands
-
-nth-in : (xs : List (List ℕ)) (i : ℕ) → i < length xs → In (getD xs i []) xs
-nth-in [] i h = let z : ⊥ = omega arith in absurd z
-nth-in (x ∷ xs) zero h = here refl
-nth-in (x ∷ xs) (suc i) h = there (nth-in xs i (omega arith))
 
 module _ (s : List ℕ) (p : Place) (t : TableRead s p) where
   items-are : fieldsAt s (p .start) (p .items) ≡ tableOf s .items
@@ -58,31 +54,33 @@ module _ (s : List ℕ) (p : Place) (t : TableRead s p) where
             subst StateOk (field-at s (p .start) (p .items) i h)
             (bodies-ok s (t .no-refusal) (getD (fieldsAt s (p .start) (p .items)) i [])
             (subst (λ (l : List (List ℕ)). In (getD (fieldsAt s (p .start) (p .items)) i []) l) items-are
-            (nth-in (fieldsAt s (p .start) (p .items)) i place)));
+            (nth-in [] (fieldsAt s (p .start) (p .items)) i place)));
       }
 
   -- and means the i-th state
-  pub field-means : (i : ℕ) → i < p .items → stateIn (bodyAt s (offsetAt s (p .start) i)) ≡ getD (tableStates s) i no-state
+  pub field-means : (i : ℕ) → i < p .items → stateIn (bodyAt s (offsetAt s (p .start) i)) ≡ getD (tableStates s) i empty-state
   unfolding stateIn
   field-means i h =
       ap stateIn (sym (field-at s (p .start) (p .items) i h))
       ∙ sym (List·getD-map stateIn (fieldsAt s (p .start) (p .items)) i [])
-      ∙ ap (λ (l : List State). getD l i no-state) (sym states-are)
+      ∙ ap (λ (l : List State). getD l i empty-state) (sym states-are)
 
 -- ---- the pass over the states
 
 -- before state i: the offset is its field's, the offsets of those before are kept, and the numbers met decide
 pub record Passing (s : List ℕ) (p : Place) (lent work : List ℕ) (at met i : ℕ) : Type 0 where
+  pub sized : sizesFault s lent ≡ 0
   pub same-length : length work ≡ length lent
   pub within : i ≤ p .items
   pub at-is : at ≡ offsetAt s (p .start) i
   pub kept : (j : ℕ) → j < i → cellAt work j 0 ≡ offsetAt s (p .start) j
   pub decides : metByStates i met (drop i (tableStates s)) ≡ metByStates 0 1 (tableStates s)
 
-pub passing-begins : (s : List ℕ) (p : Place) (lent : List ℕ) → Passing s p lent lent (p .start) 1 0
+pub passing-begins : (s : List ℕ) (p : Place) (lent : List ℕ) → sizesFault s lent ≡ 0 → Passing s p lent lent (p .start) 1 0
 unfolding offsetAt
-passing-begins s p lent =
+passing-begins s p lent sized =
     record {
+      sized = sized;
       same-length = refl;
       within = omega arith;
       at-is = refl;
@@ -90,37 +88,36 @@ passing-begins s p lent =
       decides = refl;
     }
 
-fault-none : (s : List ℕ) → readFields table s .number ≡ 0 → isFirstMet (tableStates s) ≡ true → readFault s ≡ 0
-unfolding readFault
-fault-none s e f = rw (e, f)
+module _ (s lent : List ℕ) (sized : sizesFault s lent ≡ 0) where
+  fault-none : readTable s .number ≡ 0 → isFirstMet (tableStates s) ≡ true → tableFault s lent ≡ 0
+  unfolding tableFault
+  fault-none e f = rw (sized, e, f)
 
-fault-12 : (s : List ℕ) → readFields table s .number ≡ 0 → isFirstMet (tableStates s) ≡ false → readFault s ≡ 12
-unfolding readFault
-fault-12 s e f = rw (e, f)
+  fault-12 : readTable s .number ≡ 0 → isFirstMet (tableStates s) ≡ false → tableFault s lent ≡ bad-numbering
+  unfolding tableFault
+  fault-12 e f = rw (sized, e, f)
 
-first-of-some : (a b : ℕ) → 0 < a → firstOf a b ≡ a
-first-of-some zero b h = let z : ⊥ = omega arith in absurd z
-first-of-some (suc a) b h = refl
-
-pub fault-fields : (s : List ℕ) (k : ℕ) → readFields table s .number ≡ k → 0 < k → readFault s ≡ k
-unfolding readFault
-fault-fields s k e h = rw e (first-of-some k (when (not (isFirstMet (tableStates s))) 12) h)
+  fault-fields : (k : ℕ) → Refuses (readTable s .number) k → tableFault s lent ≡ k
+  unfolding tableFault
+  fault-fields k r = refuses-then sized (refuses-first _ r) .is
 
 module _ (s : List ℕ) (p : Place) (t : TableRead s p) (lent work : List ℕ) (at met i : ℕ) (now : Passing s p lent work at met i) where
   -- the place of state i's field
   pub field-here : i < p .items → StateField s at
   field-here h = subst (StateField s) (sym (now .at-is)) (field-is s p t i h)
 
-  pub passing-goes : (next : ℕ) → work-bytes ≤ length lent → i < p .items → i < met
+  pub passing-goes : (next : ℕ) → i < p .items → i < met
       → next ≡ metByArcs met (stateIn (bodyAt s at) .arcs)
       → Passing s p lent (withCell work i 0 at) (nextAt s at) next (i + 1)
-  passing-goes next room h low e =
+  passing-goes next h low e =
+      let room = sizes-fit s lent (now .sized) .work-fits in
       let few : i < 512 = omega (arith, t .sound .few-items) in
       let big : work-bytes ≤ length work = omega (arith, now .same-length) in
-      let state-is : stateIn (bodyAt s at) ≡ getD (tableStates s) i no-state =
+      let state-is : stateIn (bodyAt s at) ≡ getD (tableStates s) i empty-state =
       ap (λ (a : ℕ). stateIn (bodyAt s a)) (now .at-is) ∙ field-means s p t i h in
       let there-is : i < length (tableStates s) = omega (arith, states-count s p t) in
       record {
+        sized = now .sized;
         same-length = length-withCell work i 0 at ∙ now .same-length;
         within = omega arith;
         at-is = ap (nextAt s) (now .at-is) ∙ sym (offset-suc s (p .start) i) ∙ ap (offsetAt s (p .start)) (sym (add-one i));
@@ -142,17 +139,17 @@ module _ (s : List ℕ) (p : Place) (t : TableRead s p) (lent work : List ℕ) (
           subst (λ (k : ℕ). cellAt (withCell work i 0 at) k 0 ≡ offsetAt s (p .start) k) (sym same)
           (cell-same work i 0 at few (omega arith) big ∙ now .at-is)
 
-  refuse : (metByStates 0 1 (tableStates s) ≡ length (tableStates s) → ⊥) → AcceptedAs s lent work (Refused 12)
+  refuse : (metByStates 0 1 (tableStates s) ≡ length (tableStates s) → ⊥) → OpenedAs s lent work (Refused 12)
   unfolding isFirstMet
   refuse n =
       record {
-        number = sym (fault-12 s (t .no-refusal) (ne-eqb (metByStates 0 1 (tableStates s)) (length (tableStates s)) n));
+        number = sym (fault-12 s lent (now .sized) (t .no-refusal) (ne-eqb (metByStates 0 1 (tableStates s)) (length (tableStates s)) n));
         kept = omega arith;
         same-length = now .same-length;
       }
 
   -- a state never met when its turn comes
-  pub passing-stops : i < p .items → met ≤ i → AcceptedAs s lent work (Refused 12)
+  pub passing-stops : i < p .items → met ≤ i → OpenedAs s lent work (Refused 12)
   passing-stops h low =
       let there-is : i < length (tableStates s) = omega (arith, states-count s p t) in
       let none = states-stop (tableStates s) i met there-is low in
@@ -164,18 +161,19 @@ module _ (s : List ℕ) (p : Place) (t : TableRead s p) (lent work : List ℕ) (
       sym (now .decides) ∙ states-end (tableStates s) i met past
 
   -- at the end more or fewer states are met than there are
-  pub passing-refused : p .items ≤ i → (met ≡ p .items → ⊥) → AcceptedAs s lent work (Refused 12)
+  pub passing-refused : p .items ≤ i → (met ≡ p .items → ⊥) → OpenedAs s lent work (Refused 12)
   passing-refused h n =
       refuse (λ (e : metByStates 0 1 (tableStates s) ≡ length (tableStates s)). n (omega (arith, all-met h, states-count s p t)))
 
-  pub passing-accepted : work-bytes ≤ length lent → p .items ≤ i → met ≡ p .items → AcceptedAs s lent work (Table p)
+  pub passing-accepted : p .items ≤ i → met ≡ p .items → OpenedAs s lent work (Table p)
   unfolding isFirstMet
-  passing-accepted room h e =
+  passing-accepted h e =
+      let room = sizes-fit s lent (now .sized) .work-fits in
       let count = states-count s p t in
       let first-met : isFirstMet (tableStates s) ≡ true =
       eq-eqb (metByStates 0 1 (tableStates s)) (length (tableStates s)) (omega (arith, all-met h, count)) in
       record {
-        number = sym (fault-none s (t .no-refusal) first-met);
+        number = sym (fault-none s lent (now .sized) (t .no-refusal) first-met);
         kept =
             record {
               read = t;
@@ -201,7 +199,7 @@ module _ (s : List ℕ) (p : Place) (t : TableRead s p) (lent work : List ℕ) (
 
 -- ---- the reader's answer
 
-pub table-read : (s : List ℕ) (p : Place) → ReadAs default-class table s (read.Accepted p) → TableRead s p
+pub table-read : (s : List ℕ) (p : Place) → TableReadAs s (read.Accepted p) → TableRead s p
 unfolding tableOf
 table-read s p r =
     record {
@@ -210,10 +208,11 @@ table-read s p r =
       file-is = ap (λ (a : Read). a .file-is) (r .is);
     }
 
-pub table-refused : (s lent : List ℕ) (k : ℕ) → ReadAs default-class table s (read.Refused k) → AcceptedAs s lent lent (Refused k)
-table-refused s lent k r =
+pub table-refused :
+    (s lent : List ℕ) (k : ℕ) → sizesFault s lent ≡ 0 → TableReadAs s (read.Refused k) → OpenedAs s lent lent (Refused k)
+table-refused s lent k sized r =
     record {
-      number = sym (fault-fields s k (sym (ap (λ (a : Read). a .number) (r .is))) (r .kept));
+      number = sym (fault-fields s lent sized k (record { is = sym (ap (λ (a : Read). a .number) (r .is)); some = r .kept }));
       kept = r .kept;
       same-length = refl;
     }
@@ -229,22 +228,22 @@ opened-bad s lent bad =
       same-length = refl;
     }
 
-pub opened-judged :
-    (s before after : List ℕ) (answer : Accepted) → SizesBad s before ≡ false → AcceptedAs s before after answer →
-    OpenedAs s before after answer
-unfolding tableFault readFault
-opened-judged s before after answer fit judged =
-    record {
-      number = judged .number ∙ ap (λ (n : ℕ). firstOf n (readFault s)) (sym (sizes-pass s before fit));
-      kept = judged .kept;
-      same-length = judged .same-length;
-    }
+-- ---- a table opened as this case
 
--- ---- what an opened table is
+pub record TableOpened (s before after : List ℕ) (p : Place) : Type 0 where
+  pub not-refused : tableFault s before ≡ 0
+  pub kept : TableAt s after p
 
-pub opened-none : (s before after : List ℕ) (p : Place) → OpenedAs s before after (Table p) → tableFault s before ≡ 0
-opened-none s before after p opened = sym (opened .number)
+pub opened-table :
+    {s before after : List ℕ} {answer : Accepted} {p : Place} → OpenedAs s before after answer → answer ≡ Table p →
+    TableOpened s before after p
+opened-table {s} {before} {after} opened e =
+    let here = subst (OpenedAs s before after) e opened in
+    record { not-refused = sym (here .number); kept = here .kept }
 
-pub opened-refuses :
-    (s before after : List ℕ) (k : ℕ) → OpenedAs s before after (Refused k) → Refuses (tableFault s before) k
-opened-refuses s before after k opened = record { is = sym (opened .number); some = opened .kept }
+pub opened-refused :
+    {s before after : List ℕ} {answer : Accepted} {k : ℕ} → OpenedAs s before after answer → answer ≡ Refused k →
+    Refuses (tableFault s before) k
+opened-refused {s} {before} {after} opened e =
+    let here = subst (OpenedAs s before after) e opened in
+    record { is = sym (here .number); some = here .kept }

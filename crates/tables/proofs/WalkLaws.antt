@@ -11,10 +11,10 @@ use lib.Dec.{eqb}
 use lib.ListN.{length, getD, drop, drop-of-length-le}
 use lib.Seq.{drop-cons}
 use Rattle.model.specs.Tables as model
-use Rattle.model.specs.Tables.{State, no-state, stateIn, targetIn, walk-at, walkFrom}
+use Rattle.model.specs.Tables.{State, empty-state, stateIn, targetIn, walk-at, walkFrom}
 use Rattle.model.specs.Calls.{tableStates}
-use Rattle.fields.specs.Offsets.{bodyAt}
-use Rattle.cells.specs.Cells.{cellAt}
+use Rattle.judging.specs.Offsets.{bodyAt}
+use Rattle.base.specs.Cells.{cellAt}
 use Rattle.tables.specs.Accepting.{Ready}
 use Rattle.tables.specs.Walking.{targetOf, MovedTo, WalkedAs}
 use Rattle.tables.specs.declared.Walk.{Walk}
@@ -50,14 +50,15 @@ module _ (states : List State) (q n name : ℕ) (row : List ℕ) where
   one-on : (t : ℕ) → targetOf states q name ≡ suc t → walkFrom states q n (name ∷ row) ≡ walkFrom states t (suc n) row
   unfolding walkFrom targetOf
   one-on t e =
-      let back : targetIn name (getD states q no-state .arcs) - 1 ≡ t = omega arith in
-      let some : eqb (targetIn name (getD states q no-state .arcs)) 0 ≡ false =
-      ne-eqb (targetIn name (getD states q no-state .arcs)) 0 (λ (z : targetIn name (getD states q no-state .arcs) ≡ 0). omega arith) in
+      let back : targetIn name (getD states q empty-state .arcs) - 1 ≡ t = omega arith in
+      let some : eqb (targetIn name (getD states q empty-state .arcs)) 0 ≡ false =
+      ne-eqb (targetIn name (getD states q empty-state .arcs)) 0
+      (λ (z : targetIn name (getD states q empty-state .arcs) ≡ 0). omega arith) in
       rw (some, walkFrom) (ap (λ (p : ℕ). walkFrom states p (suc n) row) back)
 
   stops-there : targetOf states q name ≡ 0 → walkFrom states q n (name ∷ row) ≡ walk-at q n
   unfolding walkFrom targetOf
-  stops-there e = rw (eq-eqb (targetIn name (getD states q no-state .arcs)) 0 e, walkFrom)
+  stops-there e = rw (eq-eqb (targetIn name (getD states q empty-state .arcs)) 0 e, walkFrom)
 
 module _ (states : List State) (row : List ℕ) (w : Walk) (i : ℕ) (now : Walking states row w i) where
   pub walking-goes : (next : Walk) → i < length row → MovedTo states w (getD row i 0) next → Walking states row next (i + 1)

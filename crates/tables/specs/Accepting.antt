@@ -1,29 +1,25 @@
 -- A table accepted: its refusal, the place where its parts stand, and the lent area in which the offset of each state's field is
 -- kept. Assumes nothing.
 use mathlib.Core.Path.{_≡_}
-use mathlib.Core.Bool.{true, not}
+use mathlib.Core.Bool.{true}
 use mathlib.Core.List.{List}
 use Prim.Native.Nat.{ℕ, _≤_, _<_}
 use lib.ListN.{length, getD}
-use Rattle.model.specs.Limits.{when, firstOf, bad-numbering, state-limit, work-bytes}
-use Rattle.model.specs.Fields.{table, readFields}
-use Rattle.model.specs.Tables.{stateIn, isFirstMet, no-state}
+use Rattle.base.specs.Limits.{state-limit, work-bytes}
+use Rattle.model.specs.Fields.{readTable}
+use Rattle.model.specs.Tables.{stateIn, isFirstMet, empty-state}
 use Rattle.model.specs.Calls.{tableOf, tableStates, tableFault}
-use Rattle.fields.specs.Offsets.{bodyAt, nextAt, offsetAt}
+use Rattle.judging.specs.Offsets.{bodyAt, nextAt, offsetAt}
 use Rattle.fields.specs.Places.{fileOf, Sound}
 use Rattle.fields.specs.declared.Place.{Place}
-use Rattle.cells.specs.Cells.{cellAt}
+use Rattle.base.specs.Cells.{cellAt}
 use Rattle.tables.specs.Arcs.{StateOk}
 use Rattle.tables.specs.declared.Accepted.{Accepted}
 use Rattle.tables.specs.declared.Accepted.the-variants as answer
 
--- the fields' refusals, then 12; 0 for none
-unfoldable pub readFault : List ℕ → ℕ
-readFault s = firstOf (readFields table s .number) (when (not (isFirstMet (tableStates s))) bad-numbering)
-
 -- a table whose fields are read: the place stands for it
 pub record TableRead (s : List ℕ) (p : Place) : Type 0 where
-  pub no-refusal : readFields table s .number ≡ 0
+  pub no-refusal : readTable s .number ≡ 0
   pub sound : Sound s p
   pub file-is : fileOf s p ≡ tableOf s
 
@@ -39,7 +35,7 @@ pub record Ready (s work : List ℕ) : Type 0 where
   pub few-states : length (tableStates s) ≤ state-limit
   pub first-met : isFirstMet (tableStates s) ≡ true
   pub field : (i : ℕ) → i < length (tableStates s) → StateField s (cellAt work i 0)
-  pub means : (i : ℕ) → i < length (tableStates s) → stateIn (bodyAt s (cellAt work i 0)) ≡ getD (tableStates s) i no-state
+  pub means : (i : ℕ) → i < length (tableStates s) → stateIn (bodyAt s (cellAt work i 0)) ≡ getD (tableStates s) i empty-state
 
 -- an accepted table
 pub record TableAt (s work : List ℕ) (p : Place) : Type 0 where
@@ -49,7 +45,7 @@ pub record TableAt (s work : List ℕ) (p : Place) : Type 0 where
   pub kept-offsets : (i : ℕ) → i < p .items → cellAt work i 0 ≡ offsetAt s (p .start) i
   pub ready : Ready s work
 
--- document 01's number for an answer, 0 for none
+-- the refusal's number for an answer, 0 for none
 abbrev pub numberOf : Accepted → ℕ
 numberOf (answer.Table p) = 0
 numberOf (answer.Refused k) = k
@@ -59,13 +55,7 @@ abbrev pub Kept : List ℕ → List ℕ → Accepted → Type 0
 Kept s work (answer.Table p) = TableAt s work p
 Kept s work (answer.Refused k) = 0 < k
 
--- a table judged: the number is what the definitions give, and the lent area keeps its length
-pub record AcceptedAs (s before after : List ℕ) (answer : Accepted) : Type 0 where
-  pub number : numberOf answer ≡ readFault s
-  pub kept : Kept s after answer
-  pub same-length : length after ≡ length before
-
--- a table opened: the same with 1, whatever the sizes are
+-- a table opened: the number is what the definition gives, and the lent area keeps its length
 pub record OpenedAs (s before after : List ℕ) (answer : Accepted) : Type 0 where
   pub number : numberOf answer ≡ tableFault s before
   pub kept : Kept s after answer

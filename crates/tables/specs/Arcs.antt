@@ -6,7 +6,7 @@ use mathlib.Core.List.{List}
 use Prim.Native.Nat.{ℕ, _+_, _*_, _<_}
 use lib.Dec.{eqb}
 use lib.ListN.{getD}
-use Rattle.model.specs.Limits.{name-limit}
+use Rattle.base.specs.Limits.{name-limit, number-limit}
 use Rattle.model.specs.Fields.{stateOk}
 
 -- the bytes are a state field over at most 64 names: its arcs are whole, and their names ascend
@@ -19,7 +19,7 @@ targetAt body i = 256 * getD body (i + 1) 0 + getD body (i + 2) 0
 
 pub record IsTarget (body : List ℕ) (i answer : ℕ) : Type 0 where
   pub is : answer ≡ targetAt body i
-  pub small : answer < 65536
+  pub small : answer < number-limit
 
 -- how many states are met after an arc to a state met already, or to the next new one
 abbrev pub metWith : ℕ → ℕ → ℕ

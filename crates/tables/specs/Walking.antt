@@ -4,14 +4,14 @@ use mathlib.Core.List.{List}
 use Prim.Native.Nat.{ℕ, suc, _≤_, _<_}
 use lib.ListN.{length, getD}
 use Rattle.model.specs.Tables as model
-use Rattle.model.specs.Tables.{State, no-state, targetIn, walk-at}
+use Rattle.model.specs.Tables.{State, empty-state, targetIn, walk-at}
 use Rattle.tables.specs.declared.Walk.{Walk}
 use Rattle.tables.specs.declared.Stepped.{Stepped}
 use Rattle.tables.specs.declared.Stepped.the-variants as stepped
 
 -- the target of the walk's arc by this name plus 1, or 0 where its state has none
 unfoldable pub targetOf : List State → ℕ → ℕ → ℕ
-targetOf states q name = targetIn name (getD states q no-state .arcs)
+targetOf states q name = targetIn name (getD states q empty-state .arcs)
 
 -- the walk that model means
 abbrev pub walkOf : Walk → model.Walk

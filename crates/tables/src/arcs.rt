@@ -1,23 +1,25 @@
 // One state's field, over its bytes after mark and length: whether it accepts, the names of its arcs as a set, the target of an
 // arc, and the check of first-met numbering. Every function here requires that the field passed the reader's test.
-use cells::numbers::wide8;
+use base::numbers::two_bytes;
+use base::sets::with_name;
 ghost use mathlib.Core.Path.{_≡_};
-ghost use Prim.Native.Nat.{_+_, _≤_};
+ghost use Prim.Native.Nat.{_+_, _≤_, _<_};
 ghost use lib.ListN.{length};
+ghost use Rattle.base.specs.Limits.{number-limit};
 ghost use Rattle.model.specs.Tables.{stateIn, metByArcs, targetIn, nameSet};
 ghost use Rattle.tables.specs.Arcs.{StateOk, IsTarget, metWith};
 
 // The target of the arc at an offset, high byte first.
-fn target_at(state: &[u8], i: usize) -> usize
+pub fn target_at(state: &[u8], i: usize) -> usize
     requires { ⌜ i + 3 ≤ length (now state) ⌝ }
     ensures { λ r. ⌜ IsTarget (now (state .entry)) i r ⌝ }
 {
-    256 * wide8(state[i + 1]) + wide8(state[i + 2])
+    two_bytes(state[i + 1], state[i + 2])
 }
 
 // How many states are met after an arc to a state met already, or to the next new one.
 fn met_with(met: usize, to: usize) -> usize
-    requires { ⌜ (to ≤ met) × (to ≤ 65535) ⌝ }
+    requires { ⌜ (to ≤ met) × (to < number-limit) ⌝ }
     ensures { λ r. ⌜ r ≡ metWith met to ⌝ }
 {
     if to == met {
@@ -72,7 +74,7 @@ pub fn name_set(state: &[u8]) -> u64
     let mut i = 1;
     while i < state.len() {
         let name = state[i];
-        names = names | (1u64 << name);
+        names = with_name(names, name);
         i += 3;
     }
     names

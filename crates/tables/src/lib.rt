@@ -2,26 +2,24 @@
 // lent area, and a walk finds its state's field by that offset.
 pub mod arcs;
 
-use cells::cell;
-use cells::set_cell;
+use base::cells::cell;
+use base::cells::set_cell;
+use base::limits::BAD_NUMBERING;
+use base::limits::BAD_SIZES;
 use fields::Fields;
 use fields::Place;
-use fields::offsets::body;
-use fields::offsets::next_field;
-use judging::limits::BAD_SIZES;
+use judging::offsets::body;
+use judging::offsets::next_field;
 use judging::sizes::sizes_bad;
 ghost use mathlib.Core.Path.{_≡_};
 ghost use Prim.Native.Nat.{_≤_, _<_};
 ghost use lib.ListN.{length};
-ghost use Rattle.model.specs.Limits.{input-limit, work-bytes, row-limit};
+ghost use Rattle.base.specs.Limits.{row-limit};
 ghost use Rattle.model.specs.Tables.{stateIn, nameSet};
-ghost use Rattle.model.specs.Calls.{tableStates};
-ghost use Rattle.fields.specs.Offsets.{bodyAt};
-ghost use Rattle.tables.specs.Accepting.{TableRead, AcceptedAs, OpenedAs, StateField, Ready};
+ghost use Rattle.model.specs.Calls.{sizesFault, tableStates};
+ghost use Rattle.judging.specs.Offsets.{bodyAt};
+ghost use Rattle.tables.specs.Accepting.{TableRead, OpenedAs, StateField, Ready};
 ghost use Rattle.tables.specs.Walking.{SteppedAs, WalkedAs};
-
-// The refusal of a table whose states are not numbered first-met.
-pub const BAD_NUMBERING: u8 = 12;
 
 // A table's answer: where its parts stand, or its first refusal, which is not 0.
 pub enum Accepted {
@@ -45,9 +43,8 @@ pub enum Stepped {
 // first column of the lent area.
 fn number_states(s: &[u8], p: Place, work: &mut [u8]) -> Accepted
     requires { ⌜ TableRead (now s) p ⌝ }
-    requires { ⌜ length (now s) ≤ input-limit ⌝ }
-    requires { ⌜ work-bytes ≤ length (now work) ⌝ }
-    ensures { λ r. ⌜ AcceptedAs (now (s .entry)) (now (work .entry)) (now (work .exit)) r ⌝ }
+    requires { ⌜ sizesFault (now s) (now work) ≡ 0 ⌝ }
+    ensures { λ r. ⌜ OpenedAs (now (s .entry)) (now (work .entry)) (now (work .exit)) r ⌝ }
 {
     let items = p.items;
     let mut at = p.start;
@@ -71,11 +68,10 @@ fn number_states(s: &[u8], p: Place, work: &mut [u8]) -> Accepted
 
 // A table of sizes that are not refused, judged by its fields' refusals and then by 12.
 fn accept_table(s: &[u8], work: &mut [u8]) -> Accepted
-    requires { ⌜ length (now s) ≤ input-limit ⌝ }
-    requires { ⌜ work-bytes ≤ length (now work) ⌝ }
-    ensures { λ r. ⌜ AcceptedAs (now (s .entry)) (now (work .entry)) (now (work .exit)) r ⌝ }
+    requires { ⌜ sizesFault (now s) (now work) ≡ 0 ⌝ }
+    ensures { λ r. ⌜ OpenedAs (now (s .entry)) (now (work .entry)) (now (work .exit)) r ⌝ }
 {
-    let read = fields::read_fields(s, true);
+    let read = fields::read_table(s);
     match read {
         Fields::Accepted(p) => number_states(s, p, work),
         Fields::Refused(k) => Accepted::Refused(k),

@@ -10,7 +10,7 @@ use lib.Dec.{eqb}
 use lib.ListN.{getD, set, replicate, length-set, length-replicate}
 use borrow.Author.Count.{below-more}
 use borrow.Author.Tests.{eqb-true, eqb-false}
-use Rattle.model.specs.Limits.{state-limit}
+use Rattle.base.specs.Limits.{state-limit}
 use Rattle.indexed.specs.Chains.{Searched}
 use Rattle.indexed.proofs.Chains.{heads-none, chained-none, chained-push, chained-skip}
 use Rattle.values.specs.Buckets.{bucketOf, Listed, Buckets, Linked, FirstEnd}

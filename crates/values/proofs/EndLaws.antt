@@ -10,7 +10,7 @@ use lib.Dec.{eqb}
 use lib.ListN.{length, getD, set}
 use borrow.Author.Tests.{eqb-true, eqb-false, not-false}
 use Rattle.indexed.specs.Passes.{ByEnds, ByValue}
-use Rattle.indexed.proofs.Fills.{Filled, fill-more}
+use Rattle.base.proofs.Fills.{Filled, fill-more}
 use Rattle.indexed.specs.Partitions.{Alone}
 use Rattle.values.specs.Buckets.{FirstEnd, EndLabel}
 

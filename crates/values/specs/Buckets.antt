@@ -6,7 +6,7 @@ use mathlib.Core.List.{List}
 use Prim.Native.Nat.{ℕ, _+_, _*_, _/_, _<_, _≤_}
 use lib.Bits.{bitAnd, bitXor}
 use lib.ListN.{length, getD, set}
-use Rattle.model.specs.Limits.{state-limit}
+use Rattle.base.specs.Limits.{state-limit}
 use Rattle.indexed.specs.Chains.{Chained}
 
 -- the bucket of a value of 64 bits, below 512: its two halves of 32 bits, each times a large odd number, and nine bits of these

@@ -2,12 +2,13 @@
 // by the first of them, and every other state is by itself; where all accept, these are the classes of equal values. The first
 // accepting states of values are kept in 512 lists, each value in the list of its bucket, so that a state is compared with few
 // others.
-use cells::numbers;
+use base::limits::STATE_LIMIT;
+use base::numbers;
 ghost use mathlib.Core.Path.{_≡_};
 ghost use mathlib.Core.Bool.{false};
 ghost use Prim.Native.Nat.{_+_, _<_, _≤_};
 ghost use lib.ListN.{length, getD};
-ghost use Rattle.model.specs.Limits.{state-limit};
+ghost use Rattle.base.specs.Limits.{state-limit};
 ghost use Rattle.indexed.specs.Partitions.{Alone};
 ghost use Rattle.indexed.specs.Passes.{ByEnds, ByValue};
 ghost use Rattle.values.specs.Buckets.{bucketOf, Buckets, SomeBuckets, Linked, FirstAlike, EndLabel};
@@ -25,7 +26,13 @@ fn bucket(value: u64) -> usize
 
 // The first accepting state with the value of state v, which accepts, sought in the list of the value's bucket, where the first
 // of each value is. It asks of no state whether it accepts: whichever states are in the lists, those are the accepting ones.
-fn first_alike(values: &[u64], links: &[u16; 512], heads: &[u16; 512], b: usize, v: usize) -> usize
+fn first_alike(
+    values: &[u64],
+    links: &[u16; STATE_LIMIT],
+    heads: &[u16; STATE_LIMIT],
+    b: usize,
+    v: usize,
+) -> usize
     requires few { ⌜ length (now values) ≤ state-limit ⌝ }
     requires inside { ⌜ v < length (now values) ⌝ }
     requires list { ⌜ b ≡ bucketOf (getD (now values) v 0) ⌝ }
@@ -46,7 +53,13 @@ fn first_alike(values: &[u64], links: &[u16; 512], heads: &[u16; 512], b: usize,
 }
 
 // Puts state v at the end of list b where it is the first with its value.
-fn link(links: &mut [u16; 512], heads: &mut [u16; 512], b: usize, v: usize, first: usize)
+fn link(
+    links: &mut [u16; STATE_LIMIT],
+    heads: &mut [u16; STATE_LIMIT],
+    b: usize,
+    v: usize,
+    first: usize,
+)
     requires inside { ⌜ v < state-limit ⌝ }
     requires below { ⌜ b < state-limit ⌝ }
     ensures { λ _.
@@ -63,8 +76,8 @@ fn link(links: &mut [u16; 512], heads: &mut [u16; 512], b: usize, v: usize, firs
 fn end_label(
     accepts: &[u8],
     values: &[u64],
-    links: &mut [u16; 512],
-    heads: &mut [u16; 512],
+    links: &mut [u16; STATE_LIMIT],
+    heads: &mut [u16; STATE_LIMIT],
     v: usize,
 ) -> usize
     requires few { ⌜ length (now values) ≤ state-limit ⌝ }
@@ -93,8 +106,8 @@ pub fn by_ends(accepts: &[u8], values: &[u64], groups: &mut [u16]) -> bool
         ⌜ ByEnds (length (now (groups .entry))) (now (accepts .entry)) (now (values .entry)) (now (groups .exit)) ⌝ }
     ensures none { λ joined. ⌜ (joined ≡ false → Alone (length (now (groups .entry))) (now (groups .exit))) ⌝ }
 {
-    let mut links = [0u16; 512];
-    let mut heads = [0u16; 512];
+    let mut links = [0u16; STATE_LIMIT];
+    let mut heads = [0u16; STATE_LIMIT];
     let mut joined = false;
     let mut v = 0;
     while v < groups.len() {
@@ -114,6 +127,6 @@ pub fn classes_of(values: &[u64], classes: &mut [u16]) -> bool
     ensures none { λ joined. ⌜ (joined ≡ false → Alone (length (now (classes .entry))) (now (classes .exit))) ⌝ }
 {
     let n = classes.len();
-    let all = [1u8; 512];
+    let all = [1u8; STATE_LIMIT];
     by_ends(&all[..n], values, classes)
 }

@@ -1,11 +1,11 @@
-// Document 01's edges for books, one line each: what was tried, and the first line of the listing that it comes to.
+// The edges of docs/SCOPE.md, section 10.1, for books, one line each: what was tried, and the first line of the listing that it comes to.
 use crate::parts::NAME;
 use crate::parts::ROOM;
 use crate::parts::count;
 use crate::parts::put;
 use crate::parts::put_names;
 use crate::parts::say;
-use plans::limits::LISTING_BYTES;
+use base::limits::LISTING_BYTES;
 use plans::printing::print_book;
 ghost use Prim.Native.Nat.{_≤_};
 ghost use Rattle.io.specs.Counts.{Counts};
@@ -13,7 +13,7 @@ ghost use Rattle.io.specs.Counts.{Counts};
 // A row of one snack.
 const ROW: [u8; 4] = *b"\x03\x00\x01\x00";
 
-// Document 01's example book, whose table has 28 bytes and whose listing 41.
+// The example book of docs/SCOPE.md, section 8, whose table has 28 bytes and whose listing 41.
 const EXAMPLE: [u8; 19] = *b"\x01\x00\x05snack\x02\x00\x03\x00\x01\x01\x03\x00\x02\x00\x00";
 
 // Where the first line of a text ends.

@@ -1,15 +1,15 @@
-// The worked days and the sources' examples, as files, each with its listing; then document 01's edges, of books each with the first
-// line that it comes to, of tables and walks each with the refusal's number or 0. The file `stdout` has what document 01 gives, and for
+// The worked days and the sources' examples, as files, each with its listing; then the edges of docs/SCOPE.md, of books each with the first
+// line that it comes to, of tables and walks each with the refusal's number or 0. The file `stdout` has what docs/SCOPE.md gives, and for
 // the sources' examples the listings of examples/sources.
 mod books;
 mod parts;
 mod tables;
 
+use base::limits::LISTING_BYTES;
 use libc::STDOUT_FILENO;
-use plans::limits::LISTING_BYTES;
 use plans::printing::print_book;
 
-// Document 01's days and its example, and three days more. One more is a file in data/ and a line here.
+// The days and the example of docs/SCOPE.md, and three days more. One more is a file in data/ and a line here.
 fn days() {
     day(b"P1.book");
     day(b"P2.book");

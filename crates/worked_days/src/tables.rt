@@ -1,4 +1,4 @@
-// Document 01's edges for tables and walks, one line each: what was tried, and the refusal's number, or 0.
+// The edges of docs/SCOPE.md, section 10.1, for tables and walks, one line each: what was tried, and the refusal's number, or 0.
 use crate::parts::NAME;
 use crate::parts::ROOM;
 use crate::parts::count;
@@ -6,7 +6,7 @@ use crate::parts::put;
 use crate::parts::put_names;
 ghost use Prim.Native.Nat.{_≤_};
 
-// A class field: context, k = 1, h = 1. Then document 01's example table.
+// A class field: context, k = 1, h = 1. Then the example table of docs/SCOPE.md, section 8.
 const CLASS: [u8; 6] = *b"\x02\x00\x03\x00\x01\x01";
 
 const GOOD: [u8; 28] =

@@ -6,8 +6,8 @@ use mathlib.Core.List.{List}
 use Prim.Native.Nat.{ℕ, suc, _<_, _≤_}
 use native.Mathlib.Omega.{arith}
 use lib.ListN.{length, getD}
-use Rattle.model.specs.Limits.{name-limit, state-limit}
-use Rattle.model.proofs.Tests.{eq-dec}
+use Rattle.base.specs.Limits.{name-limit, state-limit}
+use Rattle.base.proofs.Tests.{eq-dec}
 use Rattle.indexed.specs.Partitions.{Refines, Labelled, KeyClosed}
 use Rattle.indexed.proofs.Keys.{Relabel, moved, kept, relabelled-cases, relabelled-coarser}
 use Rattle.partition.specs.Forests.{Forest, rootsOf, JoinedRoots}

@@ -1,15 +1,13 @@
 -- Laws of a partition reached with pairs pending in the queue, whatever closed means: none pending yet, two groups made one, pairs
 -- added that every closed partition joins, the first pair taken, and none left. Assumes nothing.
-use mathlib.Core.Path.{_≡_, refl, sym, subst, subst₂}
+use mathlib.Core.Path.{_≡_, sym, subst, subst₂}
 use mathlib.Core.Logic.{_⊎_, inl, inr}
-use mathlib.Core.Bool.{Bool, true, false}
+use mathlib.Core.Bool.{Bool}
 use mathlib.Core.List.{List}
 use Prim.Native.Nat.{ℕ, suc, _<_, _≤_}
 use native.Mathlib.Omega.{arith}
-use lib.Dec.{ltb}
 use lib.ListN.{getD}
-use borrow.Author.Tests.{ltb-true, ltb-false}
-use Rattle.model.proofs.Tests.{eq-dec}
+use Rattle.base.proofs.Tests.{eq-dec, le-or-lt}
 use Rattle.indexed.specs.Partitions.{Refines, Labelled}
 use Rattle.partition.specs.Joins.{JoinedTwo}
 use Rattle.worklist.specs.Lists.{Grew}
@@ -30,14 +28,6 @@ Two n x y = (x < n) × (y < n)
 abbrev pub Each : (ℕ → ℕ → Type 0) → List ℕ → List ℕ → ℕ → ℕ → Type 0
 Each P firsts seconds from to = (i : ℕ) → from ≤ i → i < to → P (getD firsts i 0) (getD seconds i 0)
 
--- a place is in the shorter queue, or past it
-before-or-past : (i tail : ℕ) → (i < tail) ⊎ (tail ≤ i)
-before-or-past i tail = go (ltb i tail) refl
-  where
-    go : (b : Bool) → ltb i tail ≡ b → (i < tail) ⊎ (tail ≤ i)
-    go true e = inl (ltb-true i tail e)
-    go false e = inr (ltb-false i tail e)
-
 module _ {firsts seconds firsts′ seconds′ : List ℕ} {tail tail′ : ℕ} (grew : Grew firsts seconds firsts′ seconds′ tail tail′)
     (P : ℕ → ℕ → Type 0) where
   -- each of the longer queue, so each of the shorter
@@ -48,11 +38,11 @@ module _ {firsts seconds firsts′ seconds′ : List ℕ} {tail tail′ : ℕ} (
   -- each of the shorter queue and each that was added, so each of the longer
   each-longer :
       (done : ℕ) → Each P firsts seconds done tail → Each P firsts′ seconds′ tail tail′ → Each P firsts′ seconds′ done tail′
-  each-longer done old new i low high = go (before-or-past i tail)
+  each-longer done old new i low high = go (le-or-lt tail i)
     where
-      go : (i < tail) ⊎ (tail ≤ i) → P (getD firsts′ i 0) (getD seconds′ i 0)
-      go (inl h) = subst₂ P (sym (grew .firsts-kept i h)) (sym (grew .seconds-kept i h)) (old i low h)
-      go (inr h) = new i h high
+      go : (tail ≤ i) ⊎ (i < tail) → P (getD firsts′ i 0) (getD seconds′ i 0)
+      go (inl h) = new i h high
+      go (inr h) = subst₂ P (sym (grew .firsts-kept i h)) (sym (grew .seconds-kept i h)) (old i low h)
 
 -- the first, and each after it
 pub each-first :

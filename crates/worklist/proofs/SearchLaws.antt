@@ -1,22 +1,22 @@
 -- Laws of the search on two lists of arcs: both are followed by ascending name, and every pair of arcs of one name after which
--- enough names lead on is still to come; at the end of a list there is none. Assumes nothing.
+-- enough names can be walked is still to come; at the end of a list there is none. Assumes nothing.
 use mathlib.Core.Path.{_≡_, refl, sym, ap, _∙_, subst, subst₂}
-use mathlib.Core.Logic.{_⊎_, inl, inr, ⊎-elim}
+use mathlib.Core.Logic.{_⊎_, ⊎-elim}
 use mathlib.Core.List.{List}
 use Prim.Native.Nat.{ℕ, zero, suc, _+_, _<_, _≤_}
 use native.Mathlib.Omega.{arith}
 use lib.ListN.{getD}
-use Rattle.model.specs.Limits.{state-limit}
-use Rattle.model.proofs.Tests.{decided, eq-dec, tells-leb}
+use Rattle.base.specs.Limits.{state-limit}
+use Rattle.base.proofs.Tests.{eq-dec, le-or-lt}
 use Rattle.indexed.specs.Trees.{Arrays}
 use Rattle.indexed.specs.Partitions.{Share}
-use Rattle.indexed.proofs.Keys.{number-at}
+use Rattle.base.proofs.Places.{number-at}
 use Rattle.worklist.specs.Lists.{Next, Sorted}
 use Rattle.worklist.specs.Forks.{ForkLists}
 use Rattle.worklist.specs.Searches.{Past, ShareAfter}
 use Rattle.worklist.proofs.ListLaws.{same-at, left, next-after, follow-less}
 
--- only the groups of two states tell whether names lead on in common
+-- only the groups of two states tell whether names can be walked in common
 pub share-groups :
     (n : ℕ) (parents names groups : List ℕ) (j v w v′ w′ : ℕ) → getD groups v 0 ≡ getD groups v′ 0 →
     getD groups w 0 ≡ getD groups w′ 0 → Share n parents names groups j v w → Share n parents names groups j v′ w′
@@ -24,7 +24,7 @@ share-groups n parents names groups zero v w v′ w′ e f share = tt
 share-groups n parents names groups (suc j) v w v′ w′ e f (x, y, hx, hy, ix, iy, name, from-x, from-y, share) =
     (x, y, hx, hy, ix, iy, name, from-x ∙ e, from-y ∙ f, share)
 
--- no name leads on in any case
+-- no name can be walked in any case
 pub share-none : (n : ℕ) (parents names groups : List ℕ) (j v w : ℕ) → j ≡ 0 → Share n parents names groups j v w
 share-none n parents names groups zero v w none = tt
 share-none n parents names groups (suc j) v w none = absurd (omega arith)
@@ -42,10 +42,6 @@ next-later n keys rows g k k′ at higher reached next =
       least = λ u w is inside listed from. next .least u w is inside listed (omega arith);
     }
 
--- one number is no higher than another, or above it
-le-or-gt : (x y : ℕ) → (x ≤ y) ⊎ (y < x)
-le-or-gt x y = ⊎-elim inl (λ (no : x ≤ y → ⊥). inr (omega arith)) (decided (tells-leb x y))
-
 -- one list followed past a name
 module _
     {n : ℕ} {names rows links heads : List ℕ} {g : ℕ} (sorted : Sorted n names rows links heads) (low : g < state-limit)
@@ -62,7 +58,7 @@ module _
       (λ (higher : name < getD names u 0). subst (Next n names rows g (suc m)) (sym (past .stays higher))
       (next-later n names rows g k (suc m) (suc u) (omega arith)
       (λ v is. omega (arith, same-at names u v (omega arith), later higher)) next))
-      (le-or-gt (getD names u 0) name)
+      (le-or-lt (getD names u 0) name)
 
   -- the end is no farther, and nearer past the arc
   past-less : getD names u 0 ≤ name → left names at < left names (suc u)
@@ -71,9 +67,9 @@ module _
   past-left : left names at ≤ left names (suc u)
   past-left =
       ⊎-elim (λ (lower : getD names u 0 ≤ name). omega (arith, past-less lower))
-      (λ (higher : name < getD names u 0). omega (arith, ap (left names) (past .stays higher))) (le-or-gt (getD names u 0) name)
+      (λ (higher : name < getD names u 0). omega (arith, ap (left names) (past .stays higher))) (le-or-lt (getD names u 0) name)
 
--- lists x and y followed up to one name: each pair of arcs of theirs that has one name, after which i names lead on, is still to
+-- lists x and y followed up to one name: each pair of arcs of theirs that has one name, after which i names can be walked, is still to
 -- come
 pub record Walking (n : ℕ) (parents names groups rows : List ℕ) (i x y p q : ℕ) : Type 0 where
   pub from : ℕ
@@ -142,7 +138,7 @@ module _
               ⊎-elim
               (λ (passed : getD names c 0 ≤ m).
               absurd (apart (only-pair c d hc hd in-x in-y (omega arith) (omega (arith, after .alike)) after)))
-              (λ (later : m < getD names c 0). omega arith) (le-or-gt (getD names c 0) m);
+              (λ (later : m < getD names c 0). omega arith) (le-or-lt (getD names c 0) m);
         }
       where
         sorted : Sorted n names (lists .rows) links heads
@@ -157,7 +153,7 @@ module _
         (λ (gt : getD names w 0 < getD names u 0).
         walking-past apart (getD names w 0) (at-w .reached w refl) (omega arith) (omega arith) (λ h. absurd (omega arith))
         (λ h. refl))
-        (le-or-gt (getD names u 0) (getD names w 0))
+        (le-or-lt (getD names u 0) (getD names w 0))
 
     pub walking-less : left names p′ + left names q′ < left names p + left names q
     walking-less =
@@ -166,7 +162,7 @@ module _
         omega (arith, past-less sorted x-low at-u past-u le, past-left sorted y-low at-w past-w, same-p, same-q))
         (λ (gt : getD names w 0 < getD names u 0).
         omega (arith, past-left sorted x-low at-u past-u, past-less sorted y-low at-w past-w (omega arith), same-p, same-q))
-        (le-or-gt (getD names u 0) (getD names w 0))
+        (le-or-lt (getD names u 0) (getD names w 0))
       where
         sorted : Sorted n names (lists .rows) links heads
         sorted = lists .kind .sorted

@@ -5,17 +5,17 @@ use mathlib.Core.List.{List}
 use Prim.Native.Nat.{ℕ, _+_, _<_, _≤_}
 use native.Mathlib.Omega.{arith}
 use lib.ListN.{length, getD}
-use Rattle.model.specs.Limits.{state-limit}
-use Rattle.model.specs.Lists.{numbersFrom}
+use Rattle.base.specs.Limits.{state-limit}
+use Rattle.base.specs.Lists.{numbersFrom}
 use Rattle.indexed.specs.Partitions.{Labelled}
-use Rattle.indexed.proofs.Keys.{number-at, numbers-length}
+use Rattle.base.proofs.Places.{number-at, length-numbersFrom}
 use Rattle.partition.specs.Forests.{Forest, JoinedRoots}
 use Rattle.worklist.specs.Lists.{pair-limit, Sorted, Merged}
 use Rattle.worklist.specs.Settling.{NoLists, QueueRoom}
 
 -- the states' own numbers: how many they are, and that each is a state
 pub own-size : {n : ℕ} {numbers : List ℕ} → numbers ≡ numbersFrom n 0 → length numbers ≡ n
-own-size {n} own = ap length own ∙ numbers-length n 0
+own-size {n} own = ap length own ∙ length-numbersFrom n 0
 
 pub own-below : {n : ℕ} {numbers : List ℕ} → numbers ≡ numbersFrom n 0 → (v : ℕ) → v < n → getD numbers v 0 < n
 own-below {n} own v h =

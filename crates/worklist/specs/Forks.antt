@@ -5,8 +5,8 @@ use mathlib.Core.Bool.{Bool}
 use mathlib.Core.List.{List}
 use Prim.Native.Nat.{ℕ, _+_, _<_, _≤_}
 use lib.ListN.{length, getD}
-use Rattle.model.specs.Limits.{state-limit}
-use Rattle.model.specs.Lists.{numbersFrom}
+use Rattle.base.specs.Limits.{state-limit}
+use Rattle.base.specs.Lists.{numbersFrom}
 use Rattle.indexed.specs.Partitions.{Refines, Labelled, KeyClosed}
 use Rattle.partition.specs.Joins.{JoinedTwo}
 use Rattle.partition.specs.Forests.{Forest, rootsOf}

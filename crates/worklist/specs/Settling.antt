@@ -4,8 +4,8 @@ use mathlib.Core.Path.{_≡_}
 use mathlib.Core.List.{List}
 use Prim.Native.Nat.{ℕ, suc, _+_, _<_, _≤_}
 use lib.ListN.{length, getD}
-use Rattle.model.specs.Limits.{name-limit, state-limit}
-use Rattle.model.specs.Lists.{numbersFrom}
+use Rattle.base.specs.Limits.{name-limit, state-limit}
+use Rattle.base.specs.Lists.{numbersFrom}
 use Rattle.indexed.specs.Partitions.{Refines, Labelled, KeyClosed}
 use Rattle.partition.specs.Forests.{Forest, rootsOf}
 use Rattle.worklist.specs.Lists.{pair-limit, live, Sorted, Filled, Merged}

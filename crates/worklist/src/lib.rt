@@ -6,14 +6,16 @@ pub mod forks;
 pub mod lists;
 pub mod search;
 
-use cells::numbers::wide16;
+use crate::lists::PAIR_LIMIT;
+use base::limits::STATE_LIMIT;
+use base::numbers::wide16;
 use partition::forest;
 ghost use mathlib.Core.Path.{_≡_};
 ghost use mathlib.Core.Bool.{false};
 ghost use mathlib.Core.List.{List};
 ghost use Prim.Native.Nat.{ℕ, _<_};
 ghost use lib.ListN.{length};
-ghost use Rattle.model.specs.Limits.{state-limit};
+ghost use Rattle.base.specs.Limits.{state-limit};
 ghost use Rattle.partition.specs.Forests.{Forest, rootsOf};
 ghost use Rattle.worklist.specs.Settling.{RoundReady, RoundClosed, JoinedUntil, NoKeys, NoLists, QueueRoom, FilledAll};
 ghost use Rattle.worklist.specs.Settling.{ListedAll, MergedAll, Settling, SettledAt, SettledAll};
@@ -27,14 +29,14 @@ fn fill_all(
     keys: &[u8],
     more: &[u8],
     groups: &[u16],
-    links1: &mut [u16; 512],
-    heads1: &mut [u16; 512],
-    links2: &mut [u16; 512],
-    heads2: &mut [u16; 512],
-    links3: &mut [u16; 512],
-    heads3: &mut [u16; 512],
-    firsts: &mut [u16; 1536],
-    seconds: &mut [u16; 1536],
+    links1: &mut [u16; STATE_LIMIT],
+    heads1: &mut [u16; STATE_LIMIT],
+    links2: &mut [u16; STATE_LIMIT],
+    heads2: &mut [u16; STATE_LIMIT],
+    links3: &mut [u16; STATE_LIMIT],
+    heads3: &mut [u16; STATE_LIMIT],
+    firsts: &mut [u16; PAIR_LIMIT],
+    seconds: &mut [u16; PAIR_LIMIT],
 ) -> usize
     requires ready { ⌜ RoundReady (length (now groups)) (now parents) (now names) (now numbers) (now keys) (now more)
         (now groups) ⌝ }
@@ -94,14 +96,14 @@ fn merge_all(
     numbers: &[u16],
     keys: &[u8],
     more: &[u8],
-    links1: &mut [u16; 512],
-    heads1: &mut [u16; 512],
-    links2: &mut [u16; 512],
-    heads2: &mut [u16; 512],
-    links3: &mut [u16; 512],
-    heads3: &mut [u16; 512],
-    firsts: &mut [u16; 1536],
-    seconds: &mut [u16; 1536],
+    links1: &mut [u16; STATE_LIMIT],
+    heads1: &mut [u16; STATE_LIMIT],
+    links2: &mut [u16; STATE_LIMIT],
+    heads2: &mut [u16; STATE_LIMIT],
+    links3: &mut [u16; STATE_LIMIT],
+    heads3: &mut [u16; STATE_LIMIT],
+    firsts: &mut [u16; PAIR_LIMIT],
+    seconds: &mut [u16; PAIR_LIMIT],
     tail: usize,
     to: usize,
     from: usize,
@@ -165,14 +167,14 @@ fn settle_at(
     keys: &[u8],
     more: &[u8],
     groups: &mut [u16],
-    links1: &mut [u16; 512],
-    heads1: &mut [u16; 512],
-    links2: &mut [u16; 512],
-    heads2: &mut [u16; 512],
-    links3: &mut [u16; 512],
-    heads3: &mut [u16; 512],
-    firsts: &mut [u16; 1536],
-    seconds: &mut [u16; 1536],
+    links1: &mut [u16; STATE_LIMIT],
+    heads1: &mut [u16; STATE_LIMIT],
+    links2: &mut [u16; STATE_LIMIT],
+    heads2: &mut [u16; STATE_LIMIT],
+    links3: &mut [u16; STATE_LIMIT],
+    heads3: &mut [u16; STATE_LIMIT],
+    firsts: &mut [u16; PAIR_LIMIT],
+    seconds: &mut [u16; PAIR_LIMIT],
     done: usize,
     tail: usize,
 ) -> usize
@@ -221,14 +223,14 @@ fn settle(
     keys: &[u8],
     more: &[u8],
     groups: &mut [u16],
-    links1: &mut [u16; 512],
-    heads1: &mut [u16; 512],
-    links2: &mut [u16; 512],
-    heads2: &mut [u16; 512],
-    links3: &mut [u16; 512],
-    heads3: &mut [u16; 512],
-    firsts: &mut [u16; 1536],
-    seconds: &mut [u16; 1536],
+    links1: &mut [u16; STATE_LIMIT],
+    heads1: &mut [u16; STATE_LIMIT],
+    links2: &mut [u16; STATE_LIMIT],
+    heads2: &mut [u16; STATE_LIMIT],
+    links3: &mut [u16; STATE_LIMIT],
+    heads3: &mut [u16; STATE_LIMIT],
+    firsts: &mut [u16; PAIR_LIMIT],
+    seconds: &mut [u16; PAIR_LIMIT],
     tail: usize,
 )
     requires forest { ⌜ Forest (length (now parents)) (now groups) ⌝ }
@@ -273,14 +275,14 @@ fn close_in(
     keys: &[u8],
     more: &[u8],
     groups: &mut [u16],
-    links1: &mut [u16; 512],
-    heads1: &mut [u16; 512],
-    links2: &mut [u16; 512],
-    heads2: &mut [u16; 512],
-    links3: &mut [u16; 512],
-    heads3: &mut [u16; 512],
-    firsts: &mut [u16; 1536],
-    seconds: &mut [u16; 1536],
+    links1: &mut [u16; STATE_LIMIT],
+    heads1: &mut [u16; STATE_LIMIT],
+    links2: &mut [u16; STATE_LIMIT],
+    heads2: &mut [u16; STATE_LIMIT],
+    links3: &mut [u16; STATE_LIMIT],
+    heads3: &mut [u16; STATE_LIMIT],
+    firsts: &mut [u16; PAIR_LIMIT],
+    seconds: &mut [u16; PAIR_LIMIT],
 )
     requires ready { ⌜ RoundReady (length (now groups)) (now parents) (now names) (now numbers) (now keys) (now more)
         (now groups) ⌝ }
@@ -355,14 +357,14 @@ pub fn close(
         (now (keys .entry)) (now (more .entry)))
         (length (now (groups .entry))) (now (groups .entry)) (now (groups .exit)) ⌝ }
 {
-    let mut links1 = [0u16; 512];
-    let mut heads1 = [0u16; 512];
-    let mut links2 = [0u16; 512];
-    let mut heads2 = [0u16; 512];
-    let mut links3 = [0u16; 512];
-    let mut heads3 = [0u16; 512];
-    let mut firsts = [0u16; 1536];
-    let mut seconds = [0u16; 1536];
+    let mut links1 = [0u16; STATE_LIMIT];
+    let mut heads1 = [0u16; STATE_LIMIT];
+    let mut links2 = [0u16; STATE_LIMIT];
+    let mut heads2 = [0u16; STATE_LIMIT];
+    let mut links3 = [0u16; STATE_LIMIT];
+    let mut heads3 = [0u16; STATE_LIMIT];
+    let mut firsts = [0u16; PAIR_LIMIT];
+    let mut seconds = [0u16; PAIR_LIMIT];
     close_in(
         both,
         parents,

@@ -1,5 +1,6 @@
 // A search on the lists of arcs that are kept for closing forks: for each group one arc of each name, by ascending name.
-use cells::numbers::wide16;
+use base::limits::STATE_LIMIT;
+use base::numbers::wide16;
 use partition::forest;
 ghost use mathlib.Core.Path.{_≡_};
 ghost use mathlib.Core.Bool.{true};
@@ -7,15 +8,15 @@ ghost use mathlib.Core.Logic.{_↔_};
 ghost use mathlib.Core.List.{List};
 ghost use Prim.Native.Nat.{ℕ, _-_, _<_, _≤_};
 ghost use lib.ListN.{length, getD};
-ghost use Rattle.model.specs.Limits.{state-limit};
+ghost use Rattle.base.specs.Limits.{state-limit};
 ghost use Rattle.indexed.specs.Trees.{Arrays};
 ghost use Rattle.indexed.specs.Partitions.{Share};
 ghost use Rattle.partition.specs.Forests.{Forest, rootsOf};
 ghost use Rattle.worklist.specs.Forks.{ForkLists};
 ghost use Rattle.worklist.specs.Searches.{Past, ShareAfter};
 
-// Where a list leads on from arc u, plus one: after it where its name is no higher than another, else at it.
-fn past(u: usize, name: u8, names: &[u8], links: &[u16; 512]) -> usize
+// Where a list goes on from arc u, plus one: after it where its name is no higher than another, else at it.
+fn past(u: usize, name: u8, names: &[u8], links: &[u16; STATE_LIMIT]) -> usize
     requires inside { ⌜ u < length (now names) ⌝ }
     requires few { ⌜ length (now names) ≤ state-limit ⌝ }
     ensures { λ r. ⌜ Past (now (names .entry)) (now (links .entry)) u name r ⌝ }
@@ -26,15 +27,15 @@ fn past(u: usize, name: u8, names: &[u8], links: &[u16; 512]) -> usize
     u + 1
 }
 
-// Whether two arcs have one name and after both j - 1 more names lead on in succession.
+// Whether two arcs have one name and after both j - 1 more names can be walked in succession.
 fn lead_after(
     j: usize,
     u: usize,
     w: usize,
     names: &[u8],
     groups: &[u16],
-    links: &[u16; 512],
-    heads: &[u16; 512],
+    links: &[u16; STATE_LIMIT],
+    heads: &[u16; STATE_LIMIT],
 ) -> bool
     requires forest { ⌜ Forest (length (now groups)) (now groups) ⌝ }
     requires lists { ⌜ ((parents : List ℕ) × Arrays (length (now groups)) parents (now names)
@@ -66,8 +67,8 @@ pub fn lead_on(
     y: usize,
     names: &[u8],
     groups: &[u16],
-    links: &[u16; 512],
-    heads: &[u16; 512],
+    links: &[u16; STATE_LIMIT],
+    heads: &[u16; STATE_LIMIT],
 ) -> bool
     requires forest { ⌜ Forest (length (now groups)) (now groups) ⌝ }
     requires lists { ⌜ ((parents : List ℕ) × Arrays (length (now groups)) parents (now names)

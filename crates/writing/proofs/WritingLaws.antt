@@ -1,14 +1,14 @@
 -- Laws of writings: nothing written, bytes stored one by one, what stands before and after, two writings one after the other, a writing
--- from 0, the length kept, a byte in front, a copy's next byte; then of what the functions give back. Assumes nothing.
+-- from 0, the length kept, a writing or a byte in front, a copy's next byte; then of what the functions give back. Assumes nothing.
 use mathlib.Core.Path.{_≡_, refl, sym, ap, _∙_}
 use mathlib.Core.List.{List, [], _∷_, _++_, append-assoc}
 use Prim.Native.Nat.{ℕ, suc, _+_, _≤_, _<_}
-use native.Mathlib.Nat.{add-zero, zero-add, add-suc}
+use native.Mathlib.Nat.{add-zero, zero-add}
 use native.Mathlib.Numerals.{add-one}
 use native.Mathlib.Omega.{arith}
 use lib.ListN.{length, getD, set, take, drop, length-append, length-drop, take-append-drop}
-use lib.Seq.{sets, sets-eq, take-at, drop-at, set-at, drop-drop, length-take-le, take-suc}
-use Rattle.writing.specs.Writing.{Written, Put}
+use lib.Seq.{sets, sets-eq, take-at, drop-at, take-append-le, take-take, drop-drop, length-take-le, take-suc}
+use Rattle.writing.specs.Writing.{Written, Fits, Put}
 
 -- nothing written: the output as it was
 pub none-written : (out : List ℕ) (at : ℕ) → Written out out at []
@@ -95,15 +95,25 @@ written-length {out} {out′} {at} {bytes} w fits =
       length-drop (at + length bytes) out,
     )
 
--- the output in front of a writing, apart at the byte before it
-before-apart :
-    {out mid : List ℕ} {at : ℕ} {bytes : List ℕ} → Written out mid (suc at) bytes → at < length out →
-    mid ≡ take at out ++ (getD out at 0 ∷ (bytes ++ drop (suc at + length bytes) out))
-before-apart {out} {mid} {at} {bytes} w fits =
-    let rest = bytes ++ drop (suc at + length bytes) out in
-    w .becomes
-    ∙ ap (λ (l : List ℕ). l ++ rest) (take-suc out at 0 fits)
-    ∙ append-assoc (take at out) (getD out at 0 ∷ []) rest
+-- a writing in front of one that is there already makes one writing of both
+pub written-before :
+    {out mid out′ : List ℕ} {at next : ℕ} {xs ys : List ℕ} →
+    Written out mid next ys → Written mid out′ at xs → next ≡ at + length xs → next ≤ length out → Written out out′ at (xs ++ ys)
+written-before {out} {mid} {out′} {at} {next} {xs} {ys} v w e fits =
+    let rest = drop (next + length ys) out in
+    let size : length (take next out) ≡ next = length-take-le next out fits in
+    let far : next + length ys ≡ at + length (xs ++ ys) = omega (arith, length-append xs ys) in
+    record {
+      becomes =
+          w .becomes
+          ∙ ap (λ (n : ℕ). take at mid ++ (xs ++ drop n mid)) (sym e)
+          ∙ ap (λ (l : List ℕ). take at l ++ (xs ++ drop next l)) (v .becomes)
+          ∙ ap (λ (l : List ℕ). take at (take next out ++ (ys ++ rest)) ++ (xs ++ l)) (drop-at (take next out) (ys ++ rest) next size)
+          ∙ ap (λ (l : List ℕ). l ++ (xs ++ (ys ++ rest)))
+          (take-append-le at (take next out) (ys ++ rest) (omega arith) ∙ take-take at next out (omega arith))
+          ∙ ap (λ (l : List ℕ). take at out ++ l) (sym (append-assoc xs ys rest))
+          ∙ ap (λ (n : ℕ). take at out ++ ((xs ++ ys) ++ drop n out)) far;
+    }
 
 -- a byte in front of what was written
 pub byte-before :
@@ -111,13 +121,9 @@ pub byte-before :
     Written out (set mid at b) at (b ∷ bytes)
 byte-before {out} {mid} {at} {bytes} b w fits =
     let rest = bytes ++ drop (suc at + length bytes) out in
-    let far : suc at + length bytes ≡ at + suc (length bytes) = omega arith in
-    record {
-      becomes =
-          ap (λ (l : List ℕ). set l at b) (before-apart w fits)
-          ∙ set-at (take at out) (getD out at 0) rest b at (length-take-le at out (omega arith))
-          ∙ ap (λ (n : ℕ). take at out ++ (b ∷ (bytes ++ drop n out))) far;
-    }
+    let low : at < length mid =
+    omega (arith, ap length (w .becomes), length-append (take (suc at) out) rest, length-take-le (suc at) out (omega arith)) in
+    written-before w (byte-written mid at b low) (omega arith) (omega arith)
 
 -- one byte more of a list that is copied in
 pub copy-more :
@@ -131,49 +137,49 @@ copy-more {out} {mid} {at} src i w same more fits =
 -- ---- of what the functions give back
 
 -- nothing put
-pub put-none : (out : List ℕ) (at : ℕ) → Put out out at [] 0 at
-put-none out at = record { written = none-written out at; counted = refl; ends = sym (add-zero at) }
+pub put-none : (out : List ℕ) (at : ℕ) → Put out out at [] at
+put-none out at = record { written = none-written out at; ends = sym (add-zero at) }
+
+-- one byte, and two
+pub byte-put : (out : List ℕ) (at b : ℕ) → Fits out at (b ∷ []) → Put out (set out at b) at (b ∷ []) (at + 1)
+byte-put out at b fits = record { written = byte-written out at b (omega arith); ends = refl }
+
+pub two-put :
+    (out : List ℕ) (at a b : ℕ) → Fits out at (a ∷ (b ∷ [])) → Put out (set (set out at a) (at + 1) b) at (a ∷ (b ∷ [])) (at + 2)
+two-put out at a b fits =
+    record { written = rw add-one (stores-written (a ∷ (b ∷ [])) out at fits); ends = refl }
 
 -- two functions one after the other give what one would give for the appended bytes
 pub put-append :
-    {out mid out′ : List ℕ} {at next after : ℕ} {xs ys : List ℕ} {m n : ℕ} →
-    Put out mid at xs m next → Put mid out′ next ys n after → at ≤ length out → Put out out′ at (xs ++ ys) (m + n) after
-put-append {out} {mid} {out′} {at} {next} {after} {xs} {ys} {m} {n} p q fits =
-    let k : length xs ≡ m = p .counted in
-    let l : length ys ≡ n = q .counted in
-    let e : next ≡ at + m = p .ends in
-    let f : after ≡ next + n = q .ends in
+    {out mid out′ : List ℕ} {at next after : ℕ} {xs ys : List ℕ} →
+    Put out mid at xs next → Put mid out′ next ys after → at ≤ length out → Put out out′ at (xs ++ ys) after
+put-append {out} {mid} {out′} {at} {next} {after} {xs} {ys} p q fits =
+    let e : next ≡ at + length xs = p .ends in
+    let f : after ≡ next + length ys = q .ends in
     record {
-      written = written-append (p .written) (q .written) (omega arith) fits;
-      counted = omega (arith, length-append xs ys);
-      ends = omega arith;
+      written = written-append (p .written) (q .written) e fits;
+      ends = omega (arith, length-append xs ys);
+    }
+
+-- and so do two functions of which the second writes in front of the first
+pub put-before :
+    {out mid out′ : List ℕ} {at next after end : ℕ} {xs ys : List ℕ} →
+    Put out mid next ys end → Put mid out′ at xs after → next ≡ at + length xs → next ≤ length out → Put out out′ at (xs ++ ys) end
+put-before {out} {mid} {out′} {at} {next} {after} {end} {xs} {ys} p q e fits =
+    record {
+      written = written-before (p .written) (q .written) e fits;
+      ends = omega (arith, p .ends, length-append xs ys);
     }
 
 -- what fits keeps the length
 pub put-length :
-    {out out′ : List ℕ} {at : ℕ} {bytes : List ℕ} {count after : ℕ} →
-    Put out out′ at bytes count after → at + count ≤ length out → length out′ ≡ length out
-put-length p fits = let k = p .counted in written-length (p .written) (omega arith)
+    {out out′ : List ℕ} {at : ℕ} {bytes : List ℕ} {after : ℕ} → Put out out′ at bytes after → Fits out at bytes →
+    length out′ ≡ length out
+put-length p fits = written-length (p .written) fits
 
--- bytes stored one by one at `at + k` and on, as straight-line code does
-abbrev pub storesFrom : List ℕ → ℕ → ℕ → List ℕ → List ℕ
-storesFrom out at k [] = out
-storesFrom out at k (b ∷ bytes) = storesFrom (set out (at + k) b) at (suc k) bytes
-
-stores-from : (out : List ℕ) (at k : ℕ) (bytes : List ℕ) → storesFrom out at k bytes ≡ sets out (at + k) bytes
-stores-from out at k [] = refl
-stores-from out at k (b ∷ bytes) =
-    stores-from (set out (at + k) b) at (suc k) bytes ∙ ap (λ (n : ℕ). sets (set out (at + k) b) n bytes) (add-suc at k)
-
--- a first byte at `at`, and more at `at + 1` and on
-pub stores-put :
-    (b : ℕ) (bytes out : List ℕ) (at : ℕ) → at + length (b ∷ bytes) ≤ length out →
-    Put out (storesFrom (set out at b) at 1 bytes) at (b ∷ bytes) (length (b ∷ bytes)) (at + length (b ∷ bytes))
-stores-put b bytes out at fits =
-    record {
-      written =
-          rw (stores-from (set out at b) at 1 bytes, add-one)
-          (stores-written (b ∷ bytes) out at fits);
-      counted = refl;
-      ends = refl;
-    }
+-- the second of two pieces fits after the first
+pub fits-after :
+    {out mid : List ℕ} {at next : ℕ} {xs : List ℕ} (ys : List ℕ) → Put out mid at xs next → Fits out at (xs ++ ys) → Fits mid next ys
+fits-after {out} {mid} {at} {next} {xs} ys p fits =
+    let both = length-append xs ys in
+    omega (arith, p .ends, put-length p (omega arith))

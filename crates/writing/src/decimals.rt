@@ -1,13 +1,14 @@
 // Numbers below 65,536 in decimal, as listings print them.
 ghost use mathlib.Core.Path.{_≡_};
-ghost use Prim.Native.Nat.{_+_, _≤_, _<_};
+ghost use Prim.Native.Nat.{_<_};
 ghost use lib.ListN.{length};
+ghost use Rattle.base.specs.Limits.{number-limit};
 ghost use Rattle.model.specs.Listing.{decimal};
-ghost use Rattle.writing.specs.Writing.{Put};
+ghost use Rattle.writing.specs.Writing.{Fits, Put};
 
 // How many digits a number has.
 pub fn decimal_len(value: usize) -> usize
-    requires { ⌜ value < 65536 ⌝ }
+    requires { ⌜ value < number-limit ⌝ }
     ensures { λ r. ⌜ r ≡ length (decimal value) ⌝ }
 {
     if value < 10 {
@@ -27,9 +28,9 @@ pub fn decimal_len(value: usize) -> usize
 
 // A number's digits.
 pub fn put_decimal(out: &mut [u8], at: usize, value: usize) -> usize
-    requires { ⌜ value < 65536 ⌝ }
-    requires { ⌜ at + length (decimal value) ≤ length (now out) ⌝ }
-    ensures { λ r. ⌜ Put (now (out .entry)) (now (out .exit)) at (decimal value) (length (decimal value)) r ⌝ }
+    requires { ⌜ value < number-limit ⌝ }
+    requires { ⌜ Fits (now out) at (decimal value) ⌝ }
+    ensures { λ r. ⌜ Put (now (out .entry)) (now (out .exit)) at (decimal value) r ⌝ }
 {
     let end = at + decimal_len(value);
     // The digits from i on are written; those of `left` are still to be written before them.

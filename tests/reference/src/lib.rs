@@ -1,4 +1,4 @@
-//! A second reading of the scope document: books read, joined one step at a time in random order, numbered and written; tables
+//! A second reading of docs/SCOPE.md: books read, joined one step at a time in random order, numbered and written; tables
 //! read, rewritten and walked; listings. It shares no code with the proved library, and is written to be read, not to be fast.
 
 pub mod contexts;

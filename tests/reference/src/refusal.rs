@@ -1,4 +1,4 @@
-//! The refusals, with the scope document's numbers.
+//! The refusals, with the numbers of docs/SCOPE.md.
 
 #[derive(Clone, Copy, Debug, PartialEq, Eq)]
 pub enum Refusal {

@@ -6,7 +6,7 @@ use Prim.Native.Nat.{ℕ}
 use lib.ListN.{length}
 use borrow.Author.Needs.{needs}
 use Rattle.indexed.specs.Partitions.{Refines, Labelled}
-use Rattle.indexed.proofs.Fills.{front-length, front-again, front-fits}
+use Rattle.base.proofs.Fills.{front-length, front-again, front-fits}
 use Rattle.partition.specs.Forests.{rootsOf}
 use Rattle.partition.proofs.ForestLaws.{forest-again, flat-forest, flat-roots}
 use Rattle.contexts.specs.Climbs.{ClimbedBelow}

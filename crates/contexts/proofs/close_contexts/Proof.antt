@@ -7,7 +7,7 @@ use Prim.Native.Nat.{ℕ, _+_, _<_}
 use native.Mathlib.Omega.{arith}
 use lib.ListN.{length, take, replicate}
 use Rattle.indexed.specs.Passes.{SuffixClasses}
-use Rattle.indexed.proofs.Fills.{front-length, front-again, front-fits}
+use Rattle.base.proofs.Fills.{front-length, front-again, front-fits}
 use Rattle.indexed.proofs.Rounds.{due}
 use Rattle.worklist.specs.Forks.{Kept}
 use Rattle.worklist.proofs.ForkRounds.{kept-from-start}

@@ -3,9 +3,9 @@ use mathlib.Core.Path.{_≡_, sym, ap, _∙_}
 use native.Mathlib.Omega.{arith}
 use lib.ListN.{length, replicate}
 use borrow.Author.Needs.{needs}
-use Rattle.model.specs.Lists.{numbersFrom}
-use Rattle.indexed.proofs.Keys.{numbers-length}
-use Rattle.indexed.proofs.Fills.{front-length, front-again, front-fits}
+use Rattle.base.specs.Lists.{numbersFrom}
+use Rattle.base.proofs.Places.{length-numbersFrom}
+use Rattle.base.proofs.Fills.{front-length, front-again, front-fits}
 use Rattle.worklist.proofs.QueueLaws.{no-lists, no-pairs}
 use Rattle.contexts.proofs.RoundLaws.{own-front}
 use Rattle.contexts.proofs.run_rounds.Statement.{statement}
@@ -62,26 +62,26 @@ array-share-prefix-numbers : tie.Need-array-share-prefix-numbers
 array-share-prefix-numbers c =
     let own = first (c .before) in
     let n = length (entry own .args .groups .now) in
-    front-fits n (numbersFrom n 0) (own .own .last .0) _ (own-here own) (numbers-length n 0)
+    front-fits n (numbersFrom n 0) (own .own .last .0) _ (own-here own) (length-numbersFrom n 0)
 
 slice-aggregate-close-contexts : tie.Need-slice-aggregate-close-contexts
 slice-aggregate-close-contexts c =
     let own = first (c .before .before) in
     let n = length (entry own .args .groups .now) in
-    let size = numbers-length n 0 in
+    let size = length-numbersFrom n 0 in
     sym (ap length (front-again n (numbersFrom n 0) (own .own .last .0) _ (own-here own) size) ∙ size)
 
 array-borrow-prefix-before-2 : tie.Need-array-borrow-prefix-before-2
 array-borrow-prefix-before-2 c =
     let own = c .before .before in
     let n = length (entry (first own) .args .groups .now) in
-    front-fits n (numbersFrom n 0) (own .own2 .last .0) _ (before-here own) (numbers-length n 0)
+    front-fits n (numbersFrom n 0) (own .own2 .last .0) _ (before-here own) (length-numbersFrom n 0)
 
 slice-aggregate-close-contexts-2 : tie.Need-slice-aggregate-close-contexts-2
 slice-aggregate-close-contexts-2 c =
     let own = c .before .before .before in
     let n = length (entry (first own) .args .groups .now) in
-    let size = numbers-length n 0 in
+    let size = length-numbersFrom n 0 in
     sym (ap length (front-again n (numbersFrom n 0) (own .own2 .last .0) _ (before-here own) size) ∙ size)
 
 close-contexts-requires : tie.Need-close-contexts-requires
@@ -90,7 +90,7 @@ close-contexts-requires c κs =
     let own = first own-before in
     let start = entry own in
     let n = length (start .args .groups .now) in
-    let size = numbers-length n 0 in (
+    let size = length-numbersFrom n 0 in (
       start .pre,
       (
         front-again n (numbersFrom n 0) (own .own .last .0) _ (own-here own) size,

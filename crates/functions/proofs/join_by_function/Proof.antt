@@ -2,7 +2,7 @@
 use mathlib.Core.Path.{_≡_, sym}
 use Prim.Native.Nat.{ℕ}
 use lib.ListN.{length, take, replicate}
-use Rattle.indexed.proofs.Fills.{cut, cut-at}
+use Rattle.base.proofs.Fills.{cut, cut-at}
 use borrow.Author.Needs.{needs}
 use Rattle.functions.proofs.join_by_function.Statement.{statement}
 use Rattle.functions.proofs.join_by_function.Tie as tie

@@ -6,11 +6,11 @@ use native.Mathlib.Omega.{arith}
 use lib.ListN.{length}
 use lib.Seq.{length-take-le}
 use borrow.Author.Needs.{needs}
-use Rattle.model.specs.Limits.{state-limit, work-bytes}
+use Rattle.base.specs.Limits.{state-limit, work-bytes}
 use Rattle.model.specs.Classes.{Word}
-use Rattle.model.specs.Joinings.{treeOf}
+use Rattle.model.specs.Calls.{treeFault}
 use Rattle.fields.specs.Places.{fileOf}
-use Rattle.prefix_tree.specs.Growth.{Store, store, treeFault, numberOf, countOf, TreeBuilt}
+use Rattle.prefix_tree.specs.Growth.{Store, store, numberOf, countOf, TreeBuilt}
 use Rattle.prefix_tree.specs.declared.Tree.{Tree}
 use Rattle.inference.specs.Books.{rowsAt}
 use Rattle.inference.specs.Results.{Infers}
@@ -125,7 +125,7 @@ returns c =
     let book = fileOf (at .args .book .now) (at .args .place) in
     let out = at .args .out .now in
     let large =
-    subst (λ (r : Tree). numberOf r ≡ treeFault (treeOf (rows at))) (c .before .enum-told .given .1) (after .add-rows .ensures .number) in
+    subst (λ (r : Tree). numberOf r ≡ treeFault (rows at)) (c .before .enum-told .given .1) (after .add-rows .ensures .number) in
     subst (λ (r : Inferred). Infers book out out r) (sym (c .refused .ensures)) (gives-too-large book out large)
 
 same-length-2 : tie.Need-same-length-2

@@ -6,7 +6,7 @@ use native.Mathlib.Omega.{arith}
 use lib.ListN.{length}
 use lib.Seq.{length-take-le}
 use borrow.Author.Needs.{needs}
-use Rattle.model.specs.Limits.{state-limit}
+use Rattle.base.specs.Limits.{state-limit}
 use Rattle.inference.specs.Books.{rowsAt, classAt, JoinedBy}
 use Rattle.inference.proofs.BookLaws.{class-allowed}
 use Rattle.inference.proofs.TableLaws.{prefix-fits, prefix-again, tree-ready}

@@ -8,7 +8,7 @@ use borrow.Author.Tests.{leb-true, not-true, not-false}
 use lib.Dec.{leb}
 use lib.ListN.{length, getD}
 use borrow.Author.Needs.{needs}
-use Rattle.model.specs.Limits.{state-limit, input-limit}
+use Rattle.base.specs.Limits.{state-limit, input-limit, class-bytes}
 use Rattle.model.specs.Fields.{File}
 use Rattle.model.specs.Classes.{Word}
 use Rattle.fields.specs.Places.{fileOf}
@@ -17,6 +17,8 @@ use Rattle.quotient.specs.Ready.{Prepared}
 use Rattle.inference.specs.Books.{rowsAt, classAt, namesEnd}
 use Rattle.inference.specs.Results.{Infers}
 use Rattle.inference.specs.declared.Inferred.{Inferred}
+use Rattle.writing.specs.Writing.{frontOf}
+use Rattle.writing.proofs.Pieces.{front-length}
 use Rattle.inference.proofs.BookLaws.{names-fit}
 use Rattle.inference.proofs.TableLaws.{joined-tree, states-few, table-too-short, table-written}
 use Rattle.inference.proofs.write_joined.Statement.{statement}
@@ -58,12 +60,20 @@ bytes :
     (c : tie.After-shared-slice-known) (i : ℕ) → i < length (c .before .args .book .now) → getD (c .before .args .book .now) i 0 < 256
 bytes c i h = omega (arith, c .shared-slice-known .given i)
 
+named : (c : tie.Start) → namesEnd (c .args .place) ≤ length (c .args .book .now)
+named c = names-fit (c .args .book .now) (c .args .place) (c .pre .0 .0)
+
 names-low : (c : tie.Start) → namesEnd (c .args .place) ≤ input-limit
-names-low c = omega (arith, names-fit (c .args .book .now) (c .args .place) (c .pre .0 .0), c .pre .0 .1)
+names-low c = omega (arith, named c, c .pre .0 .1)
+
+front-size :
+    (c : tie.Start) →
+    length (frontOf (c .args .book .now) (namesEnd (c .args .place)) (classAt (c .args .place))) ≡ namesEnd (c .args .place) + class-bytes
+front-size c = front-length (c .args .book .now) (namesEnd (c .args .place)) (classAt (c .args .place)) (named c)
 
 -- how long the table is, and what the test says of it
 abbrev size : tie.After-fits2 → ℕ
-size c = namesEnd (start (made c) .args .place) + 6 + made c .prepare .result .bytes
+size c = namesEnd (start (made c) .args .place) + class-bytes + made c .prepare .result .bytes
 
 abbrev room : tie.After-fits2 → ℕ
 room c = length (start (made c) .args .out .now)
@@ -92,11 +102,11 @@ prepare-requires c κs =
     let few : length (at .args .groups .now) ≤ state-limit = omega (arith, at .pre .1 .1 .labels .size, at .pre .1 .0 .few) in
     ((rows at, joined at, at .pre .1 .0 .accepting), (at .pre .0 .2, ((few, few), (few, few))))
 
-add-front : tie.Need-add-front
-add-front c = omega (arith, names-low (start (c .before .before .before .before .before .before .before)))
+add-named : tie.Need-add-named
+add-named c = omega (arith, names-low (start (c .before .before .before .before .before .before .before)))
 
-add-front-2 : tie.Need-add-front-2
-add-front-2 c = omega (arith, names-low (start (c .before .before .before .before .before .before .before)))
+add-fits : tie.Need-add-fits
+add-fits c = omega (arith, names-low (start (c .before .before .before .before .before .before .before)))
 
 fits-requires : tie.Need-fits-requires
 fits-requires c κs = tt
@@ -117,10 +127,11 @@ returns c =
     (at .pre .0 .0) (bytes (known ready)) (at .pre .1 .0) (at .pre .1 .1) (args .out .now) (ready .prepare .result .bytes)
     (prepared ready .sized) (too-long (c .before .before) (c .before .if1 .taken)))
 
-write-front-requires : tie.Need-write-front-requires
-write-front-requires c κs =
+put-front-requires : tie.Need-put-front-requires
+put-front-requires c κs =
     let tested = c .before .before in
-    (start (made tested) .pre .0 .0, omega (arith, leb-true (size tested) (room tested) (within tested (c .before .if1 .left))))
+    let at = start (made tested) in
+    (named at, omega (arith, front-size at, leb-true (size tested) (room tested) (within tested (c .before .if1 .left))))
 
 slice-aggregate-write-states : tie.Need-slice-aggregate-write-states
 slice-aggregate-write-states c = sym (made (c .before .before .before .before .before .before .before) .prepare .kept .1 .1 .1 .1 .1 .0)
@@ -147,10 +158,10 @@ write-states-requires c κs =
     let ready = prepared (made tested) in
     let at = start (made tested) in
     let enough = leb-true (size tested) (room tested) (within tested (front .before .before .if1 .left)) in
-    let kept = front .write-front .kept .1 .1 .0 in
-    let next = front .write-front .ensures .ends in
+    let kept = front .put-front .kept .0 in
+    let next = front .put-front .ensures .ends in
     let total = ready .sized in
-    (rows at, at .args .groups .now, ready .ready, omega (arith, enough, kept, next, total))
+    (rows at, at .args .groups .now, ready .ready, omega (arith, enough, kept, next, total, front-size at))
 
 sub-joins : tie.Need-sub-joins
 sub-joins c =
@@ -171,7 +182,7 @@ same-length-2 c =
 same-length-3 : tie.Need-same-length-3
 same-length-3 c =
     let front = c .before .before .before .before .before .before .before .before .before .before .before in
-    c .before .before .write-states .kept .1 .1 .1 .1 .1 .1 .0 ∙ front .write-front .kept .1 .1 .0
+    c .before .before .write-states .kept .1 .1 .1 .1 .1 .1 .0 ∙ front .put-front .kept .0
 
 returns-2 : tie.Need-returns-2
 returns-2 c =
@@ -183,7 +194,7 @@ returns-2 c =
     let result = ready .prepare .result in
     table-written (args .book .now) (args .place) (args .parents .now) (args .names .now) (args .accepts .now) (args .groups .now)
     (at .pre .0 .0) (bytes (known ready)) (at .pre .1 .0) (at .pre .1 .1) (args .out .now) _ _ _ _ (result .states) (result .bytes)
-    (within tested (front .before .before .if1 .left)) (prepared ready .counted) (prepared ready .sized) (front .write-front .ensures)
+    (within tested (front .before .before .if1 .left)) (prepared ready .counted) (prepared ready .sized) (front .put-front .ensures)
     (c .before .before .write-states .ensures (rows at) (args .groups .now) (prepared ready .ready))
 
 pub write-joined-spec : {M : Type 1} → statement M
@@ -195,13 +206,13 @@ write-joined-spec =
     slice-aggregate-prepare-3
     slice-aggregate-prepare-4
     prepare-requires
-    add-front
-    add-front-2
+    add-named
+    add-fits
     fits-requires
     refused-requires
     same-length
     returns
-    write-front-requires
+    put-front-requires
     slice-aggregate-write-states
     slice-aggregate-write-states-2
     slice-aggregate-write-states-3

@@ -5,7 +5,8 @@ use mathlib.Core.Bool.{Bool, cond}
 use mathlib.Core.List.{List, [], _∷_, _++_, flatMap}
 use Prim.Native.Nat.{ℕ}
 use Rattle.model.specs.Listing.{decimal, space, newline, arcText, stateLine}
-use Rattle.listings.specs.Texts.{Puts, namesAt, stateAt}
+use Rattle.writing.specs.Writing.{Put}
+use Rattle.listings.specs.Texts.{namesAt, stateAt}
 use Rattle.listings.proofs.TextLaws.{Writing, begins, room, room-left, goes, ends-with}
 use Rattle.listings.proofs.put_state_line.Statement.{statement}
 use Rattle.listings.proofs.put_state_line.Tie as tie
@@ -72,7 +73,7 @@ after-3 c =
     let start = start-1 (back-2 earlier) in
     goes (sign-of start ∷ []) (arcs-of start ++ newline) (after-2 earlier)
     (subst
-    (λ (b : ℕ). Puts (earlier .put-byte .last .0) (c .put-byte2 .last .0) (earlier .put-byte .result) (b ∷ []) (c .put-byte2 .result))
+    (λ (b : ℕ). Put (earlier .put-byte .last .0) (c .put-byte2 .last .0) (earlier .put-byte .result) (b ∷ []) (c .put-byte2 .result))
     (sign-is (c .before)) (c .put-byte2 .ensures))
 
 after-4 : (c : tie.After-put-arcs)

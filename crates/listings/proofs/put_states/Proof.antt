@@ -8,8 +8,8 @@ use native.Mathlib.Omega.{arith}
 use lib.ListN.{length, drop}
 use Rattle.model.specs.Listing.{stateLine, stateLines}
 use Rattle.model.specs.Calls.{tableStates}
-use Rattle.fields.specs.Offsets.{nextAt, offsetAt}
-use Rattle.fields.proofs.OffsetLaws.{offset-suc}
+use Rattle.judging.specs.Offsets.{nextAt, offsetAt}
+use Rattle.judging.proofs.OffsetLaws.{offset-suc}
 use Rattle.tables.specs.Accepting.{StateField}
 use Rattle.tables.proofs.TableLaws.{states-count, field-is, field-means}
 use Rattle.listings.specs.Texts.{namesAt, stateAt}

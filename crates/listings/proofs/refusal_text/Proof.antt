@@ -5,7 +5,7 @@ use mathlib.Core.List.{List, _++_}
 use Prim.Native.Nat.{ℕ}
 use native.Mathlib.Omega.{arith}
 use Rattle.model.specs.Listing.{refusalText, refused-word, decimal, newline}
-use Rattle.listings.specs.Texts.{Fits, Puts}
+use Rattle.writing.specs.Writing.{Fits, Put}
 use Rattle.listings.proofs.TextLaws.{Writing, begins, room, room-left, goes, ends-with}
 use Rattle.listings.proofs.refusal_text.Statement.{statement}
 use Rattle.listings.proofs.refusal_text.Tie as tie
@@ -36,7 +36,7 @@ after-2 c =
     let copied = back-2 (c .before) in
     goes (decimal (start-1 copied .args .number)) newline (after-1 copied)
     (subst
-    (λ (n : ℕ). Puts (copied .copy-in .last .0) (c .put-decimal .last .0) (copied .copy-in .result) (decimal n) (c .put-decimal .result))
+    (λ (n : ℕ). Put (copied .copy-in .last .0) (c .put-decimal .last .0) (copied .copy-in .result) (decimal n) (c .put-decimal .result))
     (c .before .wide8 .ensures) (c .put-decimal .ensures))
 
 slice-aggregate-copy-in : tie.Need-slice-aggregate-copy-in

@@ -2,7 +2,7 @@
 use Prim.Native.Nat.{_-_, _≤_}
 use native.Mathlib.Omega.{arith}
 use lib.ListN.{length}
-use Rattle.indexed.proofs.Fills.{Filled, filled-none, filled-more}
+use Rattle.base.proofs.Fills.{Filled, filled-none, filled-more}
 use Rattle.partition.proofs.FillLaws.{IsOwn, own-all}
 use Rattle.partition.proofs.own.Statement.{statement}
 use Rattle.partition.proofs.own.Tie as tie

@@ -3,8 +3,8 @@ use mathlib.Core.Path.{_≡_, sym, subst}
 use Prim.Native.Nat.{ℕ}
 use lib.ListN.{length, take}
 use lib.Seq.{length-take-le}
-use Rattle.plans.specs.Says.{walked-as, WalkedSays}
-use Rattle.plans.proofs.CallLaws.{walked-within, beginning-told}
+use Rattle.results.specs.Says.{walked-as, WalkedSays}
+use Rattle.table_calls.proofs.CallLaws.{walked-within, beginning-told}
 use borrow.Author.Needs.{needs}
 use Rattle.plans.proofs.walk_row.Statement.{statement}
 use Rattle.plans.proofs.walk_row.Tie as tie

@@ -6,7 +6,7 @@ use Prim.Native.Nat.{ℕ, _-_, _<_, _≤_}
 use native.Mathlib.Omega.{arith}
 use borrow.Author.Needs.{needs}
 use lib.ListN.{length}
-use Rattle.fields.specs.Offsets.{bodyAt, nextAt, fieldsAt}
+use Rattle.judging.specs.Offsets.{bodyAt, nextAt, fieldsAt}
 use Rattle.prefix_tree.specs.Growth.{Store, store, Sized, RowBelow, RowOf}
 use Rattle.prefix_tree.specs.declared.Added.{Added}
 use Rattle.prefix_tree.proofs.StepLaws.{Adding, sized-kept, adding-begins, adding-fits, adding-below, adding-goes, adding-full}

@@ -1,7 +1,7 @@
 -- `child` meets its contract. Assumes nothing.
 use mathlib.Core.Path.{_≡_, _∙_}
 use native.Mathlib.Omega.{arith}
-use Rattle.cells.specs.Cells.{cellAt}
+use Rattle.base.specs.Cells.{cellAt}
 use Rattle.prefix_tree.proofs.GrowthLaws.{no-child}
 use borrow.Author.Needs.{needs}
 use Rattle.prefix_tree.proofs.child.Statement.{statement}

@@ -4,7 +4,7 @@ use Prim.Native.Nat.{ℕ, _-_, _<_, _≤_}
 use native.Mathlib.Omega.{arith}
 use lib.ListN.{length, getD, length-set}
 use Rattle.suffixes.specs.Classes.{Judged}
-use Rattle.indexed.proofs.Fills.{fill-more, rest-kept}
+use Rattle.base.proofs.Fills.{fill-more, rest-kept}
 use Rattle.suffixes.proofs.drop_short.Statement.{statement}
 use Rattle.suffixes.proofs.drop_short.Tie as tie
 

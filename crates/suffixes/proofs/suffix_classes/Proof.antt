@@ -1,6 +1,6 @@
 -- `suffixes::suffix_classes` meets its contract: a front of the local array is as long as there are states. Assumes nothing.
 use mathlib.Core.Path.{sym}
-use Rattle.indexed.proofs.Fills.{front-length}
+use Rattle.base.proofs.Fills.{front-length}
 use borrow.Author.Needs.{needs}
 use Rattle.suffixes.proofs.suffix_classes.Statement.{statement}
 use Rattle.suffixes.proofs.suffix_classes.Tie as tie

@@ -1,15 +1,14 @@
 -- `accept_table` meets its contract: what the reader accepts is a table read, and what it refuses is refused. Assumes nothing.
 use borrow.Author.Needs.{needs}
 use mathlib.Core.Path.{subst}
-use Rattle.model.specs.Fields.{default-class, table}
-use Rattle.fields.specs.Places.{ReadAs}
+use Rattle.fields.specs.Places.{TableReadAs}
 use Rattle.fields.specs.declared.Fields.{Fields}
 use Rattle.tables.proofs.TableLaws.{table-read, table-refused}
 use Rattle.tables.proofs.accept_table.Statement.{statement}
 use Rattle.tables.proofs.accept_table.Tie as tie
 
-read-fields-requires : tie.Need-read-fields-requires
-read-fields-requires c κs = search needs
+read-table-requires : tie.Need-read-table-requires
+read-table-requires c κs = search needs
 
 enum-known-read : tie.Need-enum-known-read
 enum-known-read c = search needs
@@ -20,7 +19,7 @@ number-states-requires c κs =
     let s = start .args .s .now in
     let given = c .before .before .read .given in
     let was =
-    subst (λ (r : Fields). ReadAs default-class table s r) (given .1) (c .before .before .before .before .read-fields .ensures) in
+    subst (λ (r : Fields). TableReadAs s r) (given .1) (c .before .before .before .before .read-table .ensures) in
     (table-read s (given .0 .0) was, start .pre)
 
 enum-known-read-2 : tie.Need-enum-known-read-2
@@ -37,14 +36,14 @@ returns-2 c =
     let start = c .before .before .before .before .before .before in
     let s = start .args .s .now in
     let given = c .before .read2 .given in
-    table-refused s (start .args .work .now) (given .0 .0)
-    (subst (λ (r : Fields). ReadAs default-class table s r) (given .1) (c .before .before .before .read-fields .ensures))
+    table-refused s (start .args .work .now) (given .0 .0) (start .pre)
+    (subst (λ (r : Fields). TableReadAs s r) (given .1) (c .before .before .before .read-table .ensures))
 
 pub accept-table-spec : {M : Type 1} → statement M
 accept-table-spec =
     tie.close
     (tie.spec
-    read-fields-requires
+    read-table-requires
     enum-known-read
     number-states-requires
     enum-known-read-2

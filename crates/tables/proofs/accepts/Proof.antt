@@ -6,7 +6,7 @@ use Prim.Native.Nat.{ℕ}
 use native.Mathlib.Omega.{arith}
 use lib.Dec.{eqb}
 use lib.ListN.{length, getD}
-use Rattle.fields.specs.Offsets.{bodyAt}
+use Rattle.judging.specs.Offsets.{bodyAt}
 use Rattle.tables.proofs.ArcLaws.{state-some, state-accepts}
 use Rattle.tables.proofs.accepts.Statement.{statement}
 use Rattle.tables.proofs.accepts.Tie as tie

@@ -5,7 +5,8 @@ use mathlib.Core.List.{List}
 use Prim.Native.Nat.{ℕ, _+_, _-_}
 use native.Mathlib.Omega.{arith}
 use Rattle.model.specs.Tables.{stateIn, metByArcs}
-use Rattle.cells.specs.Cells.{withCell}
+use Rattle.model.proofs.CallLaws.{sizes-fit}
+use Rattle.base.specs.Cells.{withCell}
 use Rattle.tables.specs.Arcs.{StateOk}
 use Rattle.tables.specs.Accepting.{StateField}
 use Rattle.tables.proofs.TableLaws.{Passing, passing-begins, field-here, passing-goes, passing-stops, passing-refused}
@@ -30,8 +31,8 @@ here c =
 
 loop-holds : tie.Need-loop-holds Inv-loop μ-loop
 loop-holds c =
-    let args = c .before .before .args in
-    passing-begins (args .s .now) (args .p) (args .work .now)
+    let start = c .before .before in
+    passing-begins (start .args .s .now) (start .args .p) (start .args .work .now) (start .pre .1)
 
 same-length : tie.Need-same-length Inv-loop μ-loop
 same-length c = c .before .before .loop .inv .same-length
@@ -47,7 +48,11 @@ returns c =
 set-cell-requires : tie.Need-set-cell-requires Inv-loop μ-loop
 set-cell-requires c κs =
     let fits = here (c .before .before) .fits in
-    let few = c .before .before .before .before .before .before .pre .0 .sound .few-items in
+    let start = c .before .before .before .before .before .before in
+    let few = start .pre .0 .sound .few-items in
+    let sizes = sizes-fit (start .args .s .now) (start .args .work .now) (start .pre .1) in
+    let short = sizes .input-fits in
+    let room = sizes .work-fits in
     let length-is = c .before .before .before .loop .inv .same-length in
     (omega arith, (omega arith, (omega arith, omega arith)))
 
@@ -76,7 +81,7 @@ loop-again c =
     let next = met .ensures ∙ ap (λ (l : List ℕ). metByArcs (loop .met) (stateIn l .arcs)) (c .before .before .body .ensures) in
     let gone =
     passing-goes (args .s .now) (args .p) (start .pre .0) (args .work .now) (loop .work) (loop .at) (loop .met) (loop .i)
-    (loop .inv) (met .result) (start .pre .1 .1) (omega arith) (omega arith) next in
+    (loop .inv) (met .result) (omega arith) (omega arith) next in
     subst (λ (w : List ℕ). Passing (args .s .now) (args .p) (args .work .now) w (c .next-field .result) (met .result) (loop .i + 1))
     (sym (c .before .before .before .before .before .set-cell .ensures))
     (subst
@@ -93,7 +98,7 @@ returns-2 c =
     let start = c .before .before .before .before .before in
     let args = start .args in
     passing-accepted (args .s .now) (args .p) (start .pre .0) (args .work .now) (loop .work) (loop .at) (loop .met) (loop .i)
-    (loop .inv) (start .pre .1 .1) (omega arith) (omega arith)
+    (loop .inv) (omega arith) (omega arith)
 
 same-length-3 : tie.Need-same-length-3 Inv-loop μ-loop
 same-length-3 c = c .before .before .loop .inv .same-length

@@ -5,7 +5,7 @@ use mathlib.Core.Bool.{false}
 use Prim.Native.Nat.{_-_, _≤_}
 use native.Mathlib.Omega.{arith}
 use lib.ListN.{length}
-use Rattle.indexed.proofs.Fills.{Filled, filled-none, filled-more}
+use Rattle.base.proofs.Fills.{Filled, filled-none, filled-more}
 use Rattle.indexed.specs.Partitions.{Alone}
 use Rattle.values.specs.Buckets.{Buckets, EndLabel}
 use Rattle.values.proofs.BucketLaws.{buckets-none}

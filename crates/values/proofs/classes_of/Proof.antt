@@ -1,7 +1,7 @@
 -- `values::classes_of` meets its contract: where all states accept, the groups are the classes. Assumes nothing.
 use mathlib.Core.Path.{sym}
 use lib.ListN.{length}
-use Rattle.indexed.proofs.Fills.{cut, cut-at}
+use Rattle.base.proofs.Fills.{cut, cut-at}
 use Rattle.values.proofs.EndLaws.{ends-classes}
 use borrow.Author.Needs.{needs}
 use Rattle.values.proofs.classes_of.Statement.{statement}

@@ -55,7 +55,7 @@ returns c =
     let at = c .before .before .args in
     let l = c .before .loop in
     let all : take (l .i) (at .src .now) ≡ at .src .now = take-all (l .i) (at .src .now) (omega arith) in
-    record { written = rw all at (l .inv .2); counted = refl; ends = omega arith }
+    record { written = rw all at (l .inv .2); ends = omega arith }
 
 pub copy-in-spec : {M : Type 1} → statement M
 copy-in-spec =

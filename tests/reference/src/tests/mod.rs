@@ -1,4 +1,4 @@
-//! The scope document's worked days, its example, its edges and the refusals it numbers.
+//! The worked days of docs/SCOPE.md, its example, its edges and the refusals it numbers.
 
 mod edges;
 mod examples;

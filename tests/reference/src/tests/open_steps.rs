@@ -1,4 +1,4 @@
-//! The open steps found by pairs of groups are those that the scope document's words give, read one by one.
+//! The open steps found by pairs of groups are those that the words of docs/SCOPE.md give, read one by one.
 
 use crate::fields::Class;
 use crate::functions::values;

@@ -1,14 +1,12 @@
 -- `chains::link_arc` meets its contract. Assumes nothing.
 use mathlib.Core.Path.{_≡_, refl, sym, ap, _∙_, subst}
-use Prim.Native.Nat.{ℕ, suc, _+_, _*_, _%_, _^_, _<_, _≤_}
-use native.Mathlib.Nat.{one-mul}
+use Prim.Native.Nat.{ℕ, suc, _^_, _<_}
 use native.Mathlib.Omega.{arith}
 use lib.Bits.{bitOr}
-use lib.Dec.{lit<}
 use lib.ListN.{length, getD, set}
-use lib.Pow.{shl-exact}
 use borrow.Author.Needs.{needs}
-use Rattle.indexed.proofs.Bits.{bit}
+use Rattle.base.specs.Limits.{name-limit}
+use Rattle.base.specs.Bits.{bit}
 use Rattle.indexed.proofs.Suffixes.{parent-below}
 use Rattle.contexts.specs.Sweeps.{Linked}
 use Rattle.contexts.proofs.LinkLaws.{name-known, name-new, first-arc, linked-more}
@@ -32,30 +30,22 @@ from-low c =
     let parent = getD (start .args .parents .now) (start .args .v) 0 in
     omega (arith, c .class-above .ensures, parent-low start, start .pre .1 .0 .low parent (parent-low start))
 
-name-low : (start : tie.Start) → getD (start .args .names .now) (start .args .v) 0 < 64
+name-low : (start : tie.Start) → getD (start .args .names .now) (start .args .v) 0 < name-limit
 name-low start = start .pre .0 .name-below (start .args .v) (start .pre .1 .1 .0) (start .pre .1 .1 .1 .0)
-
-mask-is :
-    (start : tie.Start) → let name = getD (start .args .names .now) (start .args .v) 0 in
-    (1 * 2 ^ name) % 2 ^ 64 ≡ 2 ^ name
-mask-is start =
-    let name = getD (start .args .names .now) (start .args .v) 0 in
-    let fits : 1 + name ≤ 64 = omega (arith, name-low start) in
-    shl-exact 1 name 64 (lit< tt) fits ∙ one-mul (2 ^ name)
 
 -- no arc of this name leaves the group yet
 new-name :
-    (c : tie.Else1) → let start = entry (c .before .before .before) in
+    (c : tie.Else1) → let start = entry (c .before .before .before .before) in
     bit (getD (start .args .names .now) (start .args .v) 0)
     (getD (start .args .next .now) (getD (start .args .old .now) (getD (start .args .parents .now) (start .args .v) 0) 0) 0) ≡ 1 → ⊥
 new-name c known =
-    let above = c .before .before .before in
+    let above = c .before .before .before .before in
     let start = entry above in
     let next = start .args .next .now in
     let name = getD (start .args .names .now) (start .args .v) 0 in
     let from = above .class-above .result in
     name-new (getD next from 0) name
-    (λ same. c .if1 .left (subst (λ (k : ℕ). bitOr (getD next from 0) k ≡ getD next from 0) (sym (mask-is start)) same))
+    (λ same. c .if1 .left (c .before .with-name .ensures ∙ same))
     (subst (λ (x : ℕ). bit name (getD next x 0) ≡ 1) (sym (above .class-above .ensures)) known)
 
 class-above-requires : tie.Need-class-above-requires
@@ -74,54 +64,50 @@ slice-read-known c =
     let start = entry (c .before .before) in
     omega (arith, from-low (c .before .before), start .pre .0 .few-states, start .pre .1 .1 .1 .1 .0 .next-size)
 
-cast-all : tie.Need-cast-all
-cast-all c = omega (arith, name-low (entry (c .before .before)))
-
-shl-all : tie.Need-shl-all
-shl-all c = name-low (entry (c .before .before))
+with-name-requires : tie.Need-with-name-requires
+with-name-requires c κs = name-low (entry (c .before .before))
 
 returns : tie.Need-returns
 returns c =
-    let above = c .before .before .before in
+    let above = c .before .before .before .before in
     let start = entry above in
     let next = start .args .next .now in
     let name = getD (start .args .names .now) (start .args .v) 0 in
     let from = above .class-above .result in
-    let same : bitOr (getD next from 0) (2 ^ name) ≡ getD next from 0 =
-    subst (λ (k : ℕ). bitOr (getD next from 0) k ≡ getD next from 0) (mask-is start) (c .if1 .taken) in
+    let same : bitOr (getD next from 0) (2 ^ name) ≡ getD next from 0 = sym (c .before .with-name .ensures) ∙ c .if1 .taken in
     arcs-known (start .pre .1 .1 .1 .1 .1)
     (subst (λ (x : ℕ). bit name (getD next x 0) ≡ 1) (above .class-above .ensures) (name-known (getD next from 0) name same))
 
 mul-next : tie.Need-mul-next
-mul-next c = omega (arith, from-low (c .before .before .before), entry (c .before .before .before) .pre .0 .few-states)
+mul-next c = omega (arith, from-low (c .before .before .before .before), entry (c .before .before .before .before) .pre .0 .few-states)
 
 slice-write-next : tie.Need-slice-write-next
 slice-write-next c =
-    let start = entry (c .before .before .before) in
-    omega (arith, from-low (c .before .before .before), start .pre .0 .few-states, start .pre .1 .1 .1 .1 .0 .next-size)
+    let start = entry (c .before .before .before .before) in
+    omega (arith, from-low (c .before .before .before .before), start .pre .0 .few-states, start .pre .1 .1 .1 .1 .0 .next-size)
 
 -- the sets with the arc
 linked-here :
-    (c : tie.Else1) → let above = c .before .before .before in
+    (c : tie.Else1) → let above = c .before .before .before .before in
     let start = entry above in
     let next = start .args .next .now in
     let name = getD (start .args .names .now) (start .args .v) 0 in
     let from = above .class-above .result in
     Linked (suc (start .args .v)) (start .args .parents .now) (start .args .names .now) (start .args .old .now)
-    (set next from (bitOr (getD next from 0) ((1 * 2 ^ name) % 2 ^ 64)))
+    (set next from (c .before .with-name .result))
 linked-here c =
-    let above = c .before .before .before in
+    let above = c .before .before .before .before in
     let start = entry above in
     let next = start .args .next .now in
     let name = getD (start .args .names .now) (start .args .v) 0 in
     let from = above .class-above .result in
     linked-more (start .pre .1 .1 .0) (start .pre .1 .1 .1 .1 .1 .linked) from name (above .class-above .ensures) refl
     (omega (arith, from-low above, start .pre .0 .few-states, start .pre .1 .1 .1 .1 .0 .next-size))
-    (ap (λ (k : ℕ). set next from (bitOr (getD next from 0) k)) (mask-is start)) (new-name c)
+    (ap (set next from) (c .before .with-name .ensures)) (new-name c)
 
 place-arc-requires : tie.Need-place-arc-requires
 place-arc-requires c κs =
-    let start = entry (c .before .before .before .before .before) in
+    let start = entry (c .before .before .before .before .before .before) in
     let few = start .pre .0 .few-states in
     let inside = start .pre .1 .1 .1 .0 in
     let sizes = start .pre .1 .1 .1 .1 .0 in
@@ -141,7 +127,7 @@ returns-2 : tie.Need-returns-2
 returns-2 c =
     let placed = c .before .before .before .before in
     let new = placed .before .before .before in
-    let start = entry (new .before .before .before) in
+    let start = entry (new .before .before .before .before) in
     let sizes = start .pre .1 .1 .1 .1 .0 in
     let so-far = start .pre .1 .1 .1 .1 .1 in
     arcs-placed so-far (linked-here new) (omega (arith, start .pre .1 .1 .1 .0, start .pre .0 .few-states)) (sizes .links-size)
@@ -155,8 +141,7 @@ link-arc-spec =
     shared-slice-read-name
     mul-known
     slice-read-known
-    cast-all
-    shl-all
+    with-name-requires
     returns
     mul-next
     slice-write-next

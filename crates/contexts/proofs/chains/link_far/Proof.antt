@@ -4,7 +4,7 @@ use mathlib.Core.Path.{_≡_, refl, sym, _∙_, subst}
 use Prim.Native.Nat.{ℕ, _-_, _<_, _≤_}
 use native.Mathlib.Omega.{arith}
 use lib.ListN.{length, getD}
-use Rattle.indexed.proofs.Fills.{Filled, filled-none, filled-more, rest-kept}
+use Rattle.base.proofs.Fills.{Filled, filled-none, filled-more, rest-kept}
 use Rattle.contexts.specs.Sweeps.{Settled}
 use Rattle.contexts.proofs.chains.link_far.Statement.{statement}
 use Rattle.contexts.proofs.chains.link_far.Tie as tie

@@ -97,7 +97,7 @@ found c leads =
     (same-group at (at .args .w) (roots .root4 .result) (at .pre .1 .1 .1 .1) (roots .root4 .ensures .0))
     (c .lead-on .ensures (at .args .parents .now) (at .pre .0 .arrays) (lists at) .0 leads)
 
--- and what it finds: names that led on at first lead on now
+-- and what it finds: names that could be walked at first can be walked now
 finds :
     (c : tie.After-lead-on) → let at = entry (compared (sources (arcs c))) in
     Share (length (at .args .groups .now)) (at .args .parents .now) (at .args .names .now) (at .args .old .now) (at .args .j)
@@ -131,7 +131,7 @@ apart-requires c κs =
       ),
     )
 
--- the sets tell that no names led on
+-- the sets tell that no names could be walked
 returns : tie.Need-returns
 returns c =
     let at = entry (c .before) in
@@ -221,7 +221,7 @@ lead-on-requires c κs =
 same-length-2 : tie.Need-same-length-2
 same-length-2 c = search needs
 
--- no names lead on
+-- no names can be walked
 returns-3 : tie.Need-returns-3
 returns-3 c =
     let search-done = c .before in

@@ -6,7 +6,7 @@ use native.Mathlib.Omega.{arith}
 use lib.ListN.{length, set, length-set}
 use Rattle.indexed.specs.Trees.{Arrays}
 use Rattle.indexed.specs.Passes.{SeenSets}
-use Rattle.indexed.proofs.Fills.{Filled, filled-more}
+use Rattle.base.proofs.Fills.{Filled, filled-more}
 use Rattle.functions.specs.Parts.{KeyAt}
 use Rattle.functions.proofs.FillLaws.{keys-root, keys-all}
 use Rattle.functions.proofs.keys.seen_keys.Statement.{statement}

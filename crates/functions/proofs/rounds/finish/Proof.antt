@@ -3,7 +3,7 @@
 use mathlib.Core.Path.{_≡_, sym, ap, _∙_, subst}
 use Prim.Native.Nat.{ℕ}
 use lib.ListN.{length}
-use Rattle.model.specs.Lists.{numbersFrom}
+use Rattle.base.specs.Lists.{numbersFrom}
 use Rattle.worklist.specs.Settling.{NoKeys}
 use Rattle.functions.proofs.RoundLaws.{finish-ready, finished, finished-alone}
 use borrow.Author.Needs.{needs}

@@ -5,7 +5,7 @@ use native.Mathlib.Omega.{arith}
 use borrow.Author.Needs.{needs}
 use borrow.Author.Tests.{not-true, not-false}
 use lib.ListN.{length, drop}
-use Rattle.model.specs.Lists.{all}
+use Rattle.base.specs.Lists.{all}
 use Rattle.model.specs.Fields.{nameOk, continuesName}
 use Rattle.judging.proofs.NameLaws.{all-stop, all-go, all-end, name-empty, name-long, name-start, name-rest}
 use Rattle.judging.proofs.names.name_ok.Statement.{statement}

@@ -3,7 +3,7 @@ use mathlib.Core.Path.{_≡_, refl}
 use Prim.Native.Nat.{_≤_, _-_}
 use native.Mathlib.Omega.{arith}
 use lib.ListN.{length, drop}
-use Rattle.model.specs.Lists.{before}
+use Rattle.base.specs.Lists.{before}
 use Rattle.judging.proofs.NameLaws.{before-short, before-less, before-more, before-go, before-end}
 use Rattle.judging.proofs.names.sorts_before.Statement.{statement}
 use Rattle.judging.proofs.names.sorts_before.Tie as tie

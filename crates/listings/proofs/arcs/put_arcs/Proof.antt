@@ -9,7 +9,8 @@ use Rattle.model.specs.Tables.{arc, stateIn}
 use Rattle.model.specs.Listing.{arcText}
 use Rattle.tables.specs.Arcs.{StateOk}
 use Rattle.tables.proofs.ArcLaws.{Left, ArcHere, arcsFrom, left-begins, arc-here, state-some}
-use Rattle.listings.specs.Texts.{Fits, Puts, namesAt}
+use Rattle.writing.specs.Writing.{Fits, Put}
+use Rattle.listings.specs.Texts.{namesAt}
 use Rattle.listings.proofs.TextLaws.{Writing, keeps-length, room, goes}
 use Rattle.listings.proofs.LineLaws.{ArcsWriting, arcs-begin, arcs-next, arcs-finish}
 use Rattle.listings.proofs.arcs.put_arcs.Statement.{statement}
@@ -111,7 +112,7 @@ returns c =
     let args = body .before .before .before .args in
     subst
     (λ (l : List ℕ).
-    Puts (args .text .now) (loop .text) (args .at) (flatMap (arcText (names body)) (stateIn l .arcs)) (loop .next))
+    Put (args .text .now) (loop .text) (args .at) (flatMap (arcText (names body)) (stateIn l .arcs)) (loop .next))
     (body .body .ensures)
     (arcs-finish (names body) (body .body .result .now) (loop .i) (omega arith) (loop .inv .2))
 

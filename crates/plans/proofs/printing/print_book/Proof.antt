@@ -1,5 +1,7 @@
 -- `print_book` meets its contract: one law of PrintLaws for each answer. Assumes nothing.
+use mathlib.Core.Path.{refl}
 use native.Mathlib.Omega.{arith}
+use Rattle.model.specs.Fields.{standard}
 use Rattle.listings.proofs.Lengths.{refusal-text-length}
 use Rattle.plans.proofs.PrintLaws.{prints-refusal, prints-listing}
 use borrow.Author.Needs.{needs}
@@ -16,7 +18,7 @@ returns : tie.Need-returns
 returns c =
     let listed = c .before .before .before .before .list-book in
     let at = c .before .before .before .before .before .before .before .before .args in
-    prints-refusal (at .book .now) (at .work .now) (listed .last .1 .0) (at .text .now) (omega arith) (omega arith)
+    prints-refusal standard refl (at .book .now) (at .work .now) (listed .last .1 .0) (at .text .now) (omega arith) (omega arith)
     (listed .last .1 .1 .0) (listed .result) (listed .ensures) (c .refusal-text .last .1 .0) (c .refusal-text .result)
     (omega (arith, c .before .before .if1 .taken)) (c .refusal-text .ensures)
 
@@ -27,7 +29,7 @@ returns-2 : tie.Need-returns-2
 returns-2 c =
     let listed = c .before .before .before .list-book in
     let at = c .before .before .before .before .before .before .before .args in
-    prints-listing (at .book .now) (at .work .now) (listed .last .1 .0) (at .text .now) (omega arith) (omega arith)
+    prints-listing standard refl (at .book .now) (at .work .now) (listed .last .1 .0) (at .text .now) (omega arith) (omega arith)
     (listed .last .1 .1 .0) (listed .result) (listed .ensures) (c .before .if1 .left)
 
 pub print-book-spec : {M : Type 1} → statement M

@@ -1,11 +1,10 @@
 -- `gathering::gather` meets its contract: before v all tree arcs are gathered. Assumes nothing.
 use borrow.Author.Needs.{needs}
-use Rattle.quotient.proofs.TreeArcs.{label-low}
 use mathlib.Core.Path.{_≡_, refl, ap, _∙_}
 use Prim.Native.Nat.{ℕ, _-_, _<_}
 use native.Mathlib.Omega.{arith}
 use lib.ListN.{length, getD}
-use Rattle.quotient.proofs.ArcPass.{GatheredUpTo, gather-start, from-low, name-low, gathered-more, gather-end}
+use Rattle.quotient.proofs.ArcPass.{GatheredUpTo, ArcHere, gather-start, arc-here, gathered-more, gather-end}
 use Rattle.quotient.proofs.gathering.gather.Statement.{statement}
 use Rattle.quotient.proofs.gathering.gather.Tie as tie
 
@@ -39,228 +38,108 @@ loop-holds c =
       ),
     )
 
+-- what is known of the arc to v
+here :
+    (c : tie.In-loop Inv-loop μ-loop) → let args = entry (c .before) .args in
+    ArcHere (args .parents .now) (args .names .now) (args .groups .now) (c .before .loop .v)
+here c =
+    let at = entry (c .before) in
+    arc-here (at .pre .0 .0) (at .args .parents .now) (at .args .names .now) (at .args .groups .now) (at .pre .0 .1)
+    (c .before .loop .v) (c .before .loop .inv .0) (c .loop-test .taken)
+
+-- the loop's turn, from where the group that the arc leaves is known
+abbrev turn : tie.After-wide162 Inv-loop μ-loop → tie.In-loop Inv-loop μ-loop
+turn c = c .before .before .before .before
+
+-- that group is the parent's
+from-is :
+    (c : tie.After-wide162 Inv-loop μ-loop) → let args = entry (turn c .before) .args in
+    c .wide162 .result ≡ getD (args .groups .now) (getD (args .parents .now) (turn c .before .loop .v) 0) 0
+from-is c =
+    c .wide162 .ensures ∙ ap (λ (k : ℕ). getD (entry (turn c .before) .args .groups .now) k 0) (c .before .before .wide16 .ensures)
+
 mul-wide16 : tie.Need-mul-wide16 Inv-loop μ-loop
-mul-wide16 c =
-    let head = c .before in
-    let at = entry head in
-    let joined = at .pre .0 .1 in
-    let size = joined .labels .size in
-    let few = joined .few in
-    let v = head .loop .v in
-    let pos : 0 < v = head .loop .inv .0 in
-    let inside : v < length (at .args .groups .now) = c .loop-test .taken in
-    omega arith
+mul-wide16 c = omega (arith, here c .few, here c .inside)
 
 shared-slice-read-wide16 : tie.Need-shared-slice-read-wide16 Inv-loop μ-loop
-shared-slice-read-wide16 c =
-    let turn = c .before in
-    let head = turn .before in
-    let at = entry head in
-    let joined = at .pre .0 .1 in
-    let size = joined .labels .size in
-    let few = joined .few in
-    let v = head .loop .v in
-    let pos : 0 < v = head .loop .inv .0 in
-    let inside : v < length (at .args .groups .now) = turn .loop-test .taken in
-    omega (arith, joined .tree .parents-size)
+shared-slice-read-wide16 c = here (c .before) .in-parents
 
 wide16-requires : tie.Need-wide16-requires Inv-loop μ-loop
-wide16-requires c κs =
-    search needs
+wide16-requires c κs = search needs
 
 mul-wide16-2 : tie.Need-mul-wide16-2 Inv-loop μ-loop
-mul-wide16-2 c =
-    let turn = c .before .before in
-    let head = turn .before in
-    let at = entry head in
-    let joined = at .pre .0 .1 in
-    let size = joined .labels .size in
-    let few = joined .few in
-    let v = head .loop .v in
-    let pos : 0 < v = head .loop .inv .0 in
-    let inside : v < length (at .args .groups .now) = turn .loop-test .taken in
-    let below : getD (at .args .parents .now) v 0 < v = joined .tree .parent-before v pos (omega arith) in
-    let parent-is = c .wide16 .ensures in
-    omega arith
+mul-wide16-2 c = omega (arith, c .wide16 .ensures, here (c .before .before) .few, here (c .before .before) .parent-below)
 
 shared-slice-read-wide16-2 : tie.Need-shared-slice-read-wide16-2 Inv-loop μ-loop
-shared-slice-read-wide16-2 c =
-    let after-wide16 = c .before in
-    let turn = after-wide16 .before .before in
-    let head = turn .before in
-    let at = entry head in
-    let joined = at .pre .0 .1 in
-    let size = joined .labels .size in
-    let few = joined .few in
-    let v = head .loop .v in
-    let pos : 0 < v = head .loop .inv .0 in
-    let inside : v < length (at .args .groups .now) = turn .loop-test .taken in
-    let below : getD (at .args .parents .now) v 0 < v = joined .tree .parent-before v pos (omega arith) in
-    let parent-is = after-wide16 .wide16 .ensures in
-    omega arith
+shared-slice-read-wide16-2 c = omega (arith, c .before .wide16 .ensures, here (c .before .before .before) .parent-below)
 
 wide16-requires-2 : tie.Need-wide16-requires-2 Inv-loop μ-loop
-wide16-requires-2 c κs =
-    search needs
+wide16-requires-2 c κs = search needs
 
-shared-slice-read-wide8 : tie.Need-shared-slice-read-wide8 Inv-loop μ-loop
-shared-slice-read-wide8 c =
-    let turn = c .before .before .before .before .before in
-    let head = turn .before in
-    let at = entry head in
-    let joined = at .pre .0 .1 in
-    let size = joined .labels .size in
-    let few = joined .few in
-    let v = head .loop .v in
-    let pos : 0 < v = head .loop .inv .0 in
-    let inside : v < length (at .args .groups .now) = turn .loop-test .taken in
-    omega (arith, joined .tree .names-size)
+shared-slice-read-name : tie.Need-shared-slice-read-name Inv-loop μ-loop
+shared-slice-read-name c = here (turn (c .before)) .in-names
 
 wide8-requires : tie.Need-wide8-requires Inv-loop μ-loop
-wide8-requires c κs =
-    search needs
+wide8-requires c κs = search needs
 
 mul-wide16-3 : tie.Need-mul-wide16-3 Inv-loop μ-loop
-mul-wide16-3 c =
-    let turn = c .before .before .before .before .before .before .before in
-    let head = turn .before in
-    let at = entry head in
-    let joined = at .pre .0 .1 in
-    let size = joined .labels .size in
-    let few = joined .few in
-    let v = head .loop .v in
-    let pos : 0 < v = head .loop .inv .0 in
-    let inside : v < length (at .args .groups .now) = turn .loop-test .taken in
-    omega arith
+mul-wide16-3 c = omega (arith, here (turn (c .before .before .before)) .few, here (turn (c .before .before .before)) .inside)
 
 shared-slice-read-wide16-3 : tie.Need-shared-slice-read-wide16-3 Inv-loop μ-loop
-shared-slice-read-wide16-3 c =
-    let turn = c .before .before .before .before .before .before .before .before in
-    let head = turn .before in
-    let at = entry head in
-    let joined = at .pre .0 .1 in
-    let size = joined .labels .size in
-    let few = joined .few in
-    let v = head .loop .v in
-    let pos : 0 < v = head .loop .inv .0 in
-    let inside : v < length (at .args .groups .now) = turn .loop-test .taken in
-    omega arith
+shared-slice-read-wide16-3 c = here (turn (c .before .before .before .before)) .inside
 
 wide16-requires-3 : tie.Need-wide16-requires-3 Inv-loop μ-loop
-wide16-requires-3 c κs =
-    search needs
+wide16-requires-3 c κs = search needs
 
 set-cell-requires : tie.Need-set-cell-requires Inv-loop μ-loop
 set-cell-requires c κs =
-    let after-wide8 = c .before .before .before in
-    let after-wide162 = after-wide8 .before .before in
-    let after-wide16 = after-wide162 .before .before in
-    let turn = after-wide16 .before .before in
-    let head = turn .before in
-    let at = entry head in
-    let joined = at .pre .0 .1 in
-    let size = joined .labels .size in
-    let few = joined .few in
-    let v = head .loop .v in
-    let pos : 0 < v = head .loop .inv .0 in
-    let inside : v < length (at .args .groups .now) = turn .loop-test .taken in
-    let groups = at .args .groups .now in
-    let parents = at .args .parents .now in
-    let names = at .args .names .now in
-    let row-is : after-wide162 .wide162 .result ≡ getD groups (getD parents v 0) 0 =
-    after-wide162 .wide162 .ensures ∙ ap (λ (k : ℕ). getD groups k 0) (after-wide16 .wide16 .ensures) in
-    let row-low = from-low (at .pre .0 .0) parents names groups joined v pos inside in
-    let column-low = name-low (at .pre .0 .0) parents names groups joined v pos inside in
-    let value-low = label-low (joined .labels) v (omega arith) in
-    let room = head .loop .inv .1 .1 .1 .work-size in (
-      omega arith,
-      (omega (arith, after-wide8 .wide8 .ensures), (omega (arith, c .wide163 .ensures), omega arith)),
+    let after-wide8 = c .before .before in
+    let from = after-wide8 .before .before .before in
+    let at = here (turn from) in
+    let room = turn from .before .loop .inv .1 .1 .1 .work-size in (
+      omega (arith, from-is from, at .from-below, at .few),
+      (
+        omega (arith, after-wide8 .wide8 .ensures, at .name-below),
+        (omega (arith, c .wide163 .ensures, at .into-below, at .few), omega arith),
+      ),
     )
 
 put-requires : tie.Need-put-requires Inv-loop μ-loop
 put-requires c κs =
-    let after-wide8 = c .before .before .before .before .before .before .before in
-    let after-wide162 = after-wide8 .before .before in
-    let after-wide16 = after-wide162 .before .before in
-    let turn = after-wide16 .before .before in
-    let head = turn .before in
-    let at = entry head in
-    let joined = at .pre .0 .1 in
-    let size = joined .labels .size in
-    let few = joined .few in
-    let v = head .loop .v in
-    let pos : 0 < v = head .loop .inv .0 in
-    let inside : v < length (at .args .groups .now) = turn .loop-test .taken in
-    let groups = at .args .groups .now in
-    let parents = at .args .parents .now in
-    let names = at .args .names .now in
-    let row-is : after-wide162 .wide162 .result ≡ getD groups (getD parents v 0) 0 =
-    after-wide162 .wide162 .ensures ∙ ap (λ (k : ℕ). getD groups k 0) (after-wide16 .wide16 .ensures) in
-    let row-low = from-low (at .pre .0 .0) parents names groups joined v pos inside in
-    let column-low = name-low (at .pre .0 .0) parents names groups joined v pos inside in
-    let room = head .loop .inv .1 .1 .1 .next-size in
-    (omega arith, omega (arith, after-wide8 .wide8 .ensures))
+    let from = c .before .before .before .before .before .before .before .before .before in
+    let at = here (turn from) in
+    (omega (arith, from-is from, at .from-below, turn from .before .loop .inv .1 .1 .1 .next-size), at .name-below)
+
+-- the loop's turn, from its end
+abbrev ended : tie.After-put Inv-loop μ-loop → tie.In-loop Inv-loop μ-loop
+ended c = turn (c .before .before .before .before .before .before .before .before .before .before)
 
 add-v : tie.Need-add-v Inv-loop μ-loop
-add-v c =
-    let after-put = c .before .before in
-    let turn = after-put .before .before .before .before .before .before .before .before .before .before .before .before .before .before in
-    let head = turn .before in
-    let at = entry head in
-    let joined = at .pre .0 .1 in
-    let size = joined .labels .size in
-    let few = joined .few in
-    let v = head .loop .v in
-    let pos : 0 < v = head .loop .inv .0 in
-    let inside : v < length (at .args .groups .now) = turn .loop-test .taken in
-    omega arith
+add-v c = omega (arith, here (ended (c .before .before)) .few, here (ended (c .before .before)) .inside)
 
 loop-less : tie.Need-loop-less Inv-loop μ-loop
-loop-less c =
-    let after-put = c .before .before in
-    let turn = after-put .before .before .before .before .before .before .before .before .before .before .before .before .before .before in
-    let head = turn .before in
-    let at = entry head in
-    let joined = at .pre .0 .1 in
-    let size = joined .labels .size in
-    let few = joined .few in
-    let v = head .loop .v in
-    let pos : 0 < v = head .loop .inv .0 in
-    let inside : v < length (at .args .groups .now) = turn .loop-test .taken in
-    omega arith
+loop-less c = omega (arith, here (ended (c .before .before)) .inside)
 
 loop-again : tie.Need-loop-again Inv-loop μ-loop
 loop-again c =
     let after-put = c .before .before in
     let after-set-cell = after-put .before .before .before .before in
     let after-wide163 = after-set-cell .before in
-    let after-wide8 = after-wide163 .before .before .before in
-    let after-wide162 = after-wide8 .before .before in
-    let after-wide16 = after-wide162 .before .before in
-    let turn = after-wide16 .before .before in
-    let head = turn .before in
+    let after-wide8 = after-wide163 .before .before in
+    let from = after-wide8 .before .before .before in
+    let head = turn from .before in
     let at = entry head in
-    let joined = at .pre .0 .1 in
-    let size = joined .labels .size in
-    let few = joined .few in
-    let v = head .loop .v in
-    let pos : 0 < v = head .loop .inv .0 in
-    let inside : v < length (at .args .groups .now) = turn .loop-test .taken in
-    let groups = at .args .groups .now in
-    let parents = at .args .parents .now in
-    let names = at .args .names .now in
-    let row-is : after-wide162 .wide162 .result ≡ getD groups (getD parents v 0) 0 =
-    after-wide162 .wide162 .ensures ∙ ap (λ (k : ℕ). getD groups k 0) (after-wide16 .wide16 .ensures) in
     let cells = after-set-cell .set-cell in
     let sets = after-put .put in (
-      omega arith,
+      omega (arith, head .loop .inv .0),
       (
         sets .kept .0 ∙ head .loop .inv .1 .0,
         (
           cells .kept .0 ∙ head .loop .inv .1 .1 .0,
-          gathered-more (at .pre .0 .0) parents names groups joined v (head .loop .work) (head .loop .next) pos inside
-              (head .loop .inv .1 .1 .1) (after-wide162 .wide162 .result) (after-wide8 .wide8 .result) (after-wide163 .wide163 .result)
-              (cells .last .0) (sets .last .0) row-is (after-wide8 .wide8 .ensures) (after-wide163 .wide163 .ensures)
+          gathered-more (at .pre .0 .0) (at .args .parents .now) (at .args .names .now) (at .args .groups .now) (at .pre .0 .1)
+              (head .loop .v) (head .loop .work) (head .loop .next) (head .loop .inv .0) (turn from .loop-test .taken)
+              (head .loop .inv .1 .1 .1) (from .wide162 .result) (after-wide8 .wide8 .result) (after-wide163 .wide163 .result)
+              (cells .last .0) (sets .last .0) (from-is from) (after-wide8 .wide8 .ensures) (after-wide163 .wide163 .ensures)
               (cells .ensures) (sets .ensures),
         ),
       ),
@@ -299,7 +178,7 @@ gather-spec =
     mul-wide16-2
     shared-slice-read-wide16-2
     wide16-requires-2
-    shared-slice-read-wide8
+    shared-slice-read-name
     wide8-requires
     mul-wide16-3
     shared-slice-read-wide16-3

@@ -5,7 +5,7 @@ use Prim.Native.Nat.{ℕ, _-_, _≤_}
 use native.Mathlib.Omega.{arith}
 use borrow.Author.Fill.{fill-more}
 use lib.ListN.{length, drop, set, replicate, length-set}
-use Rattle.quotient.proofs.Fills.{filled}
+use Rattle.base.proofs.Fills.{filled}
 use Rattle.quotient.proofs.sets.clear.Statement.{statement}
 use Rattle.quotient.proofs.sets.clear.Tie as tie
 

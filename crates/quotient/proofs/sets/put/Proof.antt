@@ -1,23 +1,21 @@
 -- `sets::put` meets its contract. Assumes nothing.
 use mathlib.Core.Path.{ap}
-use Prim.Native.Nat.{ℕ}
-use lib.Bits.{bitOr}
-use lib.ListN.{getD, set}
+use lib.ListN.{set}
 use borrow.Author.Needs.{needs}
 use Rattle.quotient.proofs.sets.put.Statement.{statement}
 use Rattle.quotient.proofs.sets.put.Tie as tie
 
+mul-with-name : tie.Need-mul-with-name
+mul-with-name c = search needs
+
+slice-read-with-name : tie.Need-slice-read-with-name
+slice-read-with-name c = search needs
+
+with-name-requires : tie.Need-with-name-requires
+with-name-requires c κs = search needs
+
 mul-sets : tie.Need-mul-sets
 mul-sets c = search needs
-
-slice-read-sets : tie.Need-slice-read-sets
-slice-read-sets c = search needs
-
-only-requires : tie.Need-only-requires
-only-requires c κs = search needs
-
-mul-sets-2 : tie.Need-mul-sets-2
-mul-sets-2 c = search needs
 
 slice-write-sets : tie.Need-slice-write-sets
 slice-write-sets c = search needs
@@ -28,16 +26,16 @@ same-length c = search needs
 returns : tie.Need-returns
 returns c =
     let args = c .before .before .before .args in
-    ap (λ (names : ℕ). set (args .sets .now) (args .at) (bitOr (getD (args .sets .now) (args .at) 0) names)) (c .only .ensures)
+    ap (set (args .sets .now) (args .at)) (c .with-name .ensures)
 
 pub put-spec : {M : Type 1} → statement M
 put-spec =
     tie.close
     (tie.spec
+    mul-with-name
+    slice-read-with-name
+    with-name-requires
     mul-sets
-    slice-read-sets
-    only-requires
-    mul-sets-2
     slice-write-sets
     same-length
     returns)

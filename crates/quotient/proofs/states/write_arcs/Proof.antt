@@ -147,7 +147,7 @@ loop-again c =
     (after-lowest .lowest .ensures) (after-cell .cell .ensures .value) in (
       t .rest,
       t .after (c .only .result) (c .only .ensures),
-      left-more (m .2) (arcPart (name .result) (number .result)) (t .rest) (arc .last .0) 3 (arc .result)
+      left-more (m .2) (arcPart (name .result) (number .result)) (t .rest) (arc .last .0) (arc .result)
           (t .bytes-are ∙ ap₂ (λ (a b : ℕ). arcPart a b ++ t .rest) (sym (name .ensures)) (sym (number .ensures)))
           (arc .ensures) start-low,
     )

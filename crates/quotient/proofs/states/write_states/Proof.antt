@@ -221,7 +221,7 @@ loop-again c =
     fields-more rows groups i g (omega (arith, ready .numbered .counted))
     (g-is ∙ met-nth (metGroups (treeOf rows) groups) (ready .numbered) i early) in
     left-more (head .loop .inv rows groups ready) (fieldOf rows groups g) (fieldsFrom rows groups (i + 1))
-    (written .last .1 .1 .1 .1 .1 .0) (length (fieldOf rows groups g)) (written .result) next-field
+    (written .last .1 .1 .1 .1 .1 .0) (written .result) next-field
     (written .ensures (fieldOf rows groups g) state-left) start-low
 
 same-length : tie.Need-same-length Inv-loop μ-loop

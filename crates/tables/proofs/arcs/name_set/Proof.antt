@@ -23,10 +23,11 @@ abbrev μ-loop : tie.MeasureT-loop
 
 -- what is known of the arc at i
 here : (c : tie.In-loop Inv-loop μ-loop)
-    → ArcHere (c .before .before .args .state .now) (c .before .loop .inv .1 .0) (c .before .loop .i)
+    → ArcHere (c .before .before .before .args .state .now) (c .before .loop .inv .1 .0) (c .before .loop .i)
 here c =
     let loop = c .before .loop in
-    arc-here (c .before .before .args .state .now) (loop .inv .1 .0) (loop .i) (c .before .before .pre) (omega arith)
+    let start = c .before .before .before in
+    arc-here (start .args .state .now) (loop .inv .1 .0) (loop .i) (start .pre) (omega arith)
     (loop .inv .1 .1)
 
 -- no arcs, no names
@@ -36,35 +37,32 @@ none s i h = ap nameSet (arcs-end s i h)
 
 loop-holds : tie.Need-loop-holds Inv-loop μ-loop
 loop-holds c =
-    let s = c .args .state .now in
-    let ok = c .pre in
+    let s = c .before .args .state .now in
+    let ok = c .before .pre in
     (omega (arith, state-some s ok), (0, left-begins s ok, omega arith), rw (arcs-all s) (omega arith))
 
 shared-slice-read-name : tie.Need-shared-slice-read-name Inv-loop μ-loop
 shared-slice-read-name c = omega arith
 
-cast-names : tie.Need-cast-names Inv-loop μ-loop
-cast-names c = omega (arith, here (c .before) .named)
-
-shl-names : tie.Need-shl-names Inv-loop μ-loop
-shl-names c = here (c .before) .named
+with-name-requires : tie.Need-with-name-requires Inv-loop μ-loop
+with-name-requires c κs = here (c .before) .named
 
 add-i : tie.Need-add-i Inv-loop μ-loop
-add-i c = omega (arith, here (c .before) .whole)
+add-i c = omega (arith, here (c .before .before) .whole)
 
 loop-less : tie.Need-loop-less Inv-loop μ-loop
 loop-less c = omega arith
 
 loop-again : tie.Need-loop-again Inv-loop μ-loop
 loop-again c =
-    let at = here (c .before) in
-    let loop = c .before .before .loop in
-    let s = c .before .before .before .args .state .now in
+    let at = here (c .before .before) in
+    let loop = c .before .before .before .loop in
+    let s = c .before .before .before .before .before .args .state .now in
     let a = getD s (loop .i) 0 in
     let low : loop .names < 2 ^ a = omega (arith, loop .inv .1 .2, pow-mono {i = loop .inv .1 .0} {j = a} (at .up)) in (
       at .whole,
-      (a + 1, at .after, with-name-small (loop .names) a low (at .named)),
-      nameSet-goes (loop .names) a (targetAt s (loop .i)) (arcsFrom s (loop .i + 3)) low (at .named)
+      (a + 1, at .after, with-name-small (loop .names) a low (c .with-name .ensures)),
+      nameSet-goes (loop .names) a (targetAt s (loop .i)) (arcsFrom s (loop .i + 3)) low (c .with-name .ensures)
           ∙ ap (λ (arcs : List Arc). loop .names + nameSet arcs) (sym (arcs-turn s (loop .i) (omega arith)))
           ∙ loop .inv .2,
     )
@@ -72,10 +70,10 @@ loop-again c =
 returns : tie.Need-returns Inv-loop μ-loop
 returns c =
     let loop = c .before .loop in
-    let s = c .before .before .args .state .now in
+    let s = c .before .before .before .args .state .now in
     omega (arith, none s (loop .i) (omega arith), loop .inv .2)
 
 pub name-set-spec : {M : Type 1} → statement M
 name-set-spec =
     tie.close
-    (tie.spec Inv-loop μ-loop loop-holds shared-slice-read-name cast-names shl-names add-i loop-less loop-again returns)
+    (tie.spec Inv-loop μ-loop loop-holds shared-slice-read-name with-name-requires add-i loop-less loop-again returns)

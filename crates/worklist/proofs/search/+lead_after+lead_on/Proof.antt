@@ -10,7 +10,7 @@ use lib.ListN.{length, getD}
 use borrow.Author.Needs.{needs}
 use borrow.Fn.Kinds.{In}
 use borrow.Fn.PlainCycle.{Measures, is, falls, and}
-use Rattle.model.proofs.Tests.{Tells, not-told, tells-and, tells-ltb}
+use Rattle.base.proofs.Tests.{Tells, not-told, tells-and, tells-ltb}
 use Rattle.indexed.specs.Trees.{Arrays}
 use Rattle.indexed.specs.Partitions.{Share}
 use Rattle.partition.specs.Forests.{Forest, rootsOf}
@@ -25,7 +25,7 @@ use Rattle.worklist.proofs.search.+lead_after+lead_on.Lts-lead_after as
 use Rattle.worklist.proofs.search.lead_on.Reads as lead-on
 use Rattle.worklist.proofs.search.lead_on.Kinds as lead-on-kinds
 use Rattle.worklist.proofs.search.+lead_after+lead_on.Lts-lead_on as lead-on-lts
-use Rattle.cells.proofs.numbers.wide16.Reads as wide16-reads
+use Rattle.base.proofs.numbers.wide16.Reads as wide16-reads
 use Rattle.partition.proofs.forest.root.Reads as root-reads
 use Rattle.worklist.proofs.search.past.Reads as past-reads
 use Rattle.worklist.proofs.search.+lead_after+lead_on.{statement}

@@ -68,7 +68,7 @@ same-length c = simp length-set (c .before .loop .inv .0)
 returns : tie.Need-returns Inv-loop μ-loop
 returns c =
     let l = c .before .loop in
-    record { written = digits-last (l .inv .3) (omega arith) (omega arith); counted = refl; ends = omega arith }
+    record { written = digits-last (l .inv .3) (omega arith) (omega arith); ends = omega arith }
 
 pub put-decimal-spec : {M : Type 1} → statement M
 put-decimal-spec =

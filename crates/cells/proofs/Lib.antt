@@ -1,2 +1,0 @@
--- The laws of cells, for the proofs of callers. Assumes nothing.
-pub mod CellLaws

@@ -1,0 +1,126 @@
+-- What the public entries say (docs/SCOPE.md, sections 4, 5 and 8): each entry is one
+-- call in the shape of model's Calls, so that its result and every lent byte are equal to what a definition of `model` gives.
+-- Assumes nothing.
+use mathlib.Core.Path.{_≡_}
+use mathlib.Core.List.{List, [], _∷_}
+use Prim.Native.Nat.{ℕ}
+use lib.ListN.{length}
+use Rattle.model.specs.Fields.{Settings}
+use Rattle.model.specs.Tables.{State, outcome, longestBeginning, nextNames, nextCount}
+use Rattle.model.specs.Quotients.{bookStates, bookTable}
+use Rattle.model.specs.Calls.{Call, Says, over, unless}
+use Rattle.model.specs.Calls.{bookOf, buildFault, joinsOf, tableFault, rewritten, walkFault, tableStates}
+use Rattle.model.specs.Listing.{bookListing, listingOf}
+use Rattle.results.specs.declared.Built.{Built}
+use Rattle.results.specs.declared.Walked.{Walked}
+use Rattle.results.specs.declared.Written.{Written}
+
+-- ---- calls that write a table
+
+-- a result by its parts
+abbrev pub built : ℕ → ℕ → ℕ → ℕ → Built
+built refusal length states joins = record { refusal = refusal; length = length; states = states; joins = joins }
+
+-- a refused call gives its number, and no table
+abbrev pub not-built : ℕ → Built
+not-built refusal = built refusal 0 0 0
+
+-- the table of a book built with these settings: its length, its states, and the joins
+unfoldable pub building : Settings → List ℕ → List ℕ → Call Built
+building settings book work =
+    let f = bookOf settings book in
+    record {
+      refusal = buildFault settings book work;
+      none = not-built;
+      answer = built 0 (length (bookTable f)) (length (bookStates f)) (joinsOf f);
+      writes = bookTable f ∷ [];
+    }
+
+-- a table read and written again: no joins
+unfoldable pub rewriting : List ℕ → List ℕ → Call Built
+rewriting table work =
+    record {
+      refusal = tableFault table work;
+      none = not-built;
+      answer = built 0 (length (rewritten table)) (length (tableStates table)) 0;
+      writes = rewritten table ∷ [];
+    }
+
+-- what an entry that builds with these settings promises, build_table with the standard ones: the lent slices before and after, and
+-- the result
+abbrev pub BuildSays : Settings → List ℕ → List ℕ → List ℕ → List ℕ → List ℕ → Built → Type 0
+BuildSays settings book work work′ out out′ r = Says (building settings book work) work work′ (out ∷ []) (out′ ∷ []) r
+
+-- what rewrite_table promises
+abbrev pub RewriteSays : List ℕ → List ℕ → List ℕ → List ℕ → List ℕ → Built → Type 0
+RewriteSays table work work′ out out′ r = Says (rewriting table work) work work′ (out ∷ []) (out′ ∷ []) r
+
+-- ---- a row walked
+
+-- a result by its parts
+abbrev pub walked-as : ℕ → ℕ → ℕ → ℕ → ℕ → Walked
+walked-as refusal result walked names count =
+    record { refusal = refusal; outcome = result; «next_count» = count; walked = walked; «next_names» = names }
+
+-- the walk of a row: how it ends, how long the longest beginning is that can be walked, the next names and how many they are
+abbrev pub walked-over : List State → List ℕ → Walked
+walked-over states row =
+    walked-as 0 (outcome states row) (length (longestBeginning states row)) (nextNames states row) (nextCount states row)
+
+-- a refused walk gives its number, an empty beginning, no names and a count of 0
+abbrev pub not-walked : ℕ → Walked
+not-walked refusal = walked-as refusal 0 0 0 0
+
+-- a row walked over a table
+unfoldable pub walking : List ℕ → List ℕ → List ℕ → Call Walked
+walking table row work =
+    record {
+      refusal = walkFault table row work;
+      none = not-walked;
+      answer = walked-over (tableStates table) row;
+      writes = [];
+    }
+
+-- what plans_walk promises
+abbrev pub WalkedSays : List ℕ → List ℕ → List ℕ → List ℕ → Walked → Type 0
+WalkedSays table row work work′ r = Says (walking table row work) work work′ [] [] r
+
+-- what walk_row promises: the same of the numbers that it sets, and the beginning itself, which is a part of the row
+pub record WalkSays (table row work work′ beginning : List ℕ) (refusal result names count : ℕ) : Type 0 where
+  pub says : WalkedSays table row work work′ (walked-as refusal result (length beginning) names count)
+  pub beginning-is : beginning ≡ unless (walkFault table row work) [] (longestBeginning (tableStates table) row)
+
+-- ---- a book listed
+
+-- a result by its parts
+abbrev pub written : ℕ → ℕ → Written
+written refusal length = record { refusal = refusal; length = length }
+
+-- a refused call gives its number, and nothing is written
+abbrev pub not-written : ℕ → Written
+not-written refusal = written refusal 0
+
+-- bytes written to the front of an output: refused where that is too short, and for nothing else
+unfoldable pub copying : List ℕ → Call Written
+copying bytes = record { refusal = 0; none = not-written; answer = written 0 (length bytes); writes = bytes ∷ [] }
+
+-- the listing of a book read with these settings
+unfoldable pub listingBook : Settings → List ℕ → List ℕ → Call Written
+listingBook settings book work =
+    let text = bookListing (bookOf settings book) in
+    record { refusal = buildFault settings book work; none = not-written; answer = written 0 (length text); writes = text ∷ [] }
+
+-- what an entry that lists books with these settings promises, list_book with the standard ones
+abbrev pub ListSays : Settings → List ℕ → List ℕ → List ℕ → List ℕ → List ℕ → Written → Type 0
+ListSays settings book work work′ text text′ r = Says (listingBook settings book work) work work′ (text ∷ []) (text′ ∷ []) r
+
+-- ---- what the listing program prints
+
+-- the listing or the text of the refusal, told by its length; nothing is refused
+unfoldable pub printing : Settings → List ℕ → Call ℕ
+printing settings book = record { refusal = 0; none = λ k. 0; answer = length (listingOf settings book); writes = [] }
+
+-- what print_book promises: that length; and the text at the front of the lent one, which takes every listing and is untouched beyond
+pub record PrintSays (settings : Settings) (book work work′ text text′ : List ℕ) (r : ℕ) : Type 0 where
+  pub says : Says (printing settings book) work work′ [] [] r
+  pub text-is : text′ ≡ over (listingOf settings book) text

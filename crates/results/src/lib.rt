@@ -1,0 +1,66 @@
+// What the public entries give back, in Rattle and C alike.
+ghost use mathlib.Core.Path.{_≡_};
+ghost use Rattle.results.specs.Says.{not-built, not-walked, not-written};
+
+// What a call that writes a table gives back: its refusal or 0, then the table's length in bytes, its states, and the joins: tree
+// states less table states.
+#[repr(C)]
+pub struct Built {
+    pub refusal: u8,
+    pub length: u32,
+    pub states: u32,
+    pub joins: u32,
+}
+
+// What a walk gives back: its refusal or 0; 1 admitted, 2 on the way, 3 stops; how many names may come next; how many names of the row
+// can be walked; the names that may come next, bit n for name n.
+#[repr(C)]
+pub struct Walked {
+    pub refusal: u8,
+    pub outcome: u8,
+    pub next_count: u8,
+    pub walked: u32,
+    pub next_names: u64,
+}
+
+// What a call that writes bytes gives back: a refusal's number or 0, and how many bytes were written.
+#[repr(C)]
+pub struct Written {
+    pub refusal: u8,
+    pub length: u32,
+}
+
+// A refused call that writes a table: no table, no states, no joins.
+pub fn not_built(refusal: u8) -> Built
+    ensures { λ r. ⌜ r ≡ not-built refusal ⌝ }
+{
+    Built {
+        refusal: refusal,
+        length: 0,
+        states: 0,
+        joins: 0,
+    }
+}
+
+// A refused walk: no outcome, no names.
+pub fn not_walked(refusal: u8) -> Walked
+    ensures { λ r. ⌜ r ≡ not-walked refusal ⌝ }
+{
+    Walked {
+        refusal: refusal,
+        outcome: 0,
+        next_count: 0,
+        walked: 0,
+        next_names: 0,
+    }
+}
+
+// A refused call that writes bytes: none.
+pub fn not_written(refusal: u8) -> Written
+    ensures { λ r. ⌜ r ≡ not-written refusal ⌝ }
+{
+    Written {
+        refusal: refusal,
+        length: 0,
+    }
+}

@@ -1,0 +1,3 @@
+// The calls over a table, before the working area is cleared: a table rewritten, a row walked.
+pub mod rewriting;
+pub mod walking;

@@ -1,0 +1,72 @@
+// A row walked over a table: the table is judged wholly, then the row.
+use base::cells::cell;
+use base::limits::ADMITTED;
+use base::limits::BAD_ROW;
+use base::limits::ON_THE_WAY;
+use base::limits::STOPS;
+use judging::rows::row_ok;
+use results::Walked;
+use results::not_walked;
+use tables::Accepted;
+use tables::accepts;
+use tables::next_names;
+use tables::open_table;
+use tables::walk_all;
+ghost use mathlib.Core.Path.{_≡_};
+ghost use mathlib.Core.Bool.{cond};
+ghost use mathlib.Core.List.{[]};
+ghost use Prim.Native.Nat.{_≤_};
+ghost use lib.ListN.{length};
+ghost use Rattle.base.specs.Limits.{row-limit, admitted, on-the-way, stops};
+ghost use Rattle.model.specs.Calls.{Gives, tableStates};
+ghost use Rattle.tables.specs.Accepting.{Ready};
+ghost use Rattle.results.specs.Says.{walked-over, walking};
+
+// How a walk ends that stopped before the row's end or not, in a state that accepts or not.
+fn outcome_of(stopped: bool, accepting: bool) -> u8
+    ensures { λ r. ⌜ r ≡ cond stopped stops (cond accepting admitted on-the-way) ⌝ }
+{
+    if stopped {
+        return STOPS;
+    }
+    if accepting {
+        return ADMITTED;
+    }
+    ON_THE_WAY
+}
+
+// The walk of a row over an accepted table, whose states' fields stand where the working area says.
+fn walk_over(table: &[u8], row: &[u8], work: &[u8]) -> Walked
+    requires { ⌜ Ready (now table) (now work) ⌝ }
+    requires { ⌜ length (now row) ≤ row-limit ⌝ }
+    ensures { λ r. ⌜ r ≡ walked-over (tableStates (now (table .entry))) (now (row .entry)) ⌝ }
+{
+    let walk = walk_all(table, row, work);
+    let taken = walk.taken;
+    let at = cell(work, walk.state, 0);
+    let names = next_names(table, at);
+    let outcome = outcome_of(taken < row.len(), accepts(table, at));
+    Walked {
+        refusal: 0,
+        outcome: outcome,
+        next_count: u64::count_ones(names) as u8,
+        walked: taken as u32,
+        next_names: names,
+    }
+}
+
+// Refusals 1, the table's, 9; otherwise the walk. The working area is not cleared yet.
+pub fn walk(table: &[u8], row: &[u8], work: &mut [u8]) -> Walked
+    ensures { λ r. ⌜ Gives (walking (now (table .entry)) (now (row .entry)) (now (work .entry))) [] [] r ⌝ }
+{
+    let opened = open_table(table, work);
+    match opened {
+        Accepted::Table(p) => {
+            if !row_ok(p.names, row) {
+                return not_walked(BAD_ROW);
+            }
+            walk_over(table, row, work)
+        }
+        Accepted::Refused(k) => not_walked(k),
+    }
+}

@@ -1,0 +1,30 @@
+"""Models of meal plans: books of days, the tables inferred from them, and days walked over tables.
+
+    book = plans.read_text("breakfast lunch dinner\\nbreakfast snack lunch dinner\\n").book()
+    table = plans.build(book).table
+    plans.walk(table, ["breakfast", "lunch"])
+
+The inferring and judging is done by the proved library (libplans.so, include/plans.h). Nothing is kept between calls. What the
+library refuses is raised as Refused. The formats are in docs/FORMATS.md.
+"""
+from pathlib import Path
+
+from .differences import Difference, compare
+from .fields import (DEFAULT_CLASS, REFUSALS, Book, Class, Refused, State, Table, read_book, read_table, write_book, write_table)
+from .library import LibraryMissing
+from .models import Built, Outcome, Walked, build, judged_book, judged_table, list_book, list_table, rewrite, walk
+from .texts import BadClass, BadText, Problem, Text, read_class, read_text, write_class, write_text
+
+
+def _version() -> str:
+    """VERSION lies beside the module where it is installed, and at the top of the repository."""
+    here = Path(__file__).resolve().parent
+    beside = here / "VERSION"
+    return (beside if beside.is_file() else here.parent.parent / "VERSION").read_text("ascii").strip()
+
+
+__version__ = _version()
+__all__ = ["DEFAULT_CLASS", "REFUSALS", "BadClass", "BadText", "Book", "Built", "Class", "Difference", "LibraryMissing",
+           "Outcome", "Problem", "Refused", "State", "Table", "Text", "Walked", "build", "compare", "judged_book",
+           "judged_table", "list_book", "list_table", "read_book", "read_class", "read_table", "read_text", "rewrite", "walk",
+           "write_book", "write_class", "write_table", "write_text"]

@@ -1,0 +1,336 @@
+"""The command `plans`: its sub-commands over the module. Each gives its exit status; an error is a Failure."""
+import getopt
+import textwrap
+from dataclasses import dataclass
+from typing import Callable, Dict, Iterable, List, NamedTuple, Optional, Sequence, Tuple
+
+from . import drawings, helps
+from .differences import Difference, compare
+from .fields import ENTRY_LIMIT, ROW_LIMIT, Book, Class, Refused, Row, Table, read_table, write_book
+from .files import Failure, Input, Kind, label_of, put, read_input, say, write_output
+from .models import Built, Outcome, Walked, build, judged_book, judged_table, list_book, list_table, rewrite, walk
+from .showing import counted, cut, nearest, plain, shown
+from .texts import BadClass, BadText, Text, name_problem, read_class, read_text, write_text
+
+YES, NO, ERROR = 0, 1, 2
+
+
+@dataclass(frozen=True)
+class Asked:
+    """What stands on the command line after the sub-command."""
+    words: Tuple[str, ...]
+    out: Optional[str]
+    named_class: Optional[Class]
+    quiet: bool
+    tree: bool
+
+
+@dataclass(frozen=True)
+class Model:
+    """A table, and the book that it was built from, if it was."""
+    source: Input
+    book: Optional[Book]
+    built: Built
+    table: Table
+
+
+def told(source: Input, problem: BadText) -> List[str]:
+    return [f"{source.label}:{one.line}: {one.reason}" for one in problem.problems]
+
+
+def notes(source: Input, text: Text, copies: bool) -> List[str]:
+    """What was read of a text, so that slips of the pen are seen."""
+    names = text.names()
+    different = counted(len(set(text.days)), "different day")
+    lines = [f"{source.label}: {counted(len(text.days), 'day')}, {different}; {counted(len(names), 'name')}:"]
+    # a hard space keeps a name and its count in one line
+    words = ", ".join(f"{name}\xa0{names[name]:,}" for name in sorted(names, key=lambda name: (name.lower(), name)))
+    wrapped = textwrap.wrap(words, 80, initial_indent="  ", subsequent_indent="  ", break_long_words=False, break_on_hyphens=False)
+    lines += [line.replace("\xa0", " ") for line in wrapped]
+    if text.blank_lines:
+        passed = counted(text.blank_lines, "blank line")
+        lines.append(f"{source.label}: {passed} passed over (a single - is the empty day)")
+    if not copies and len(text.days) > ROW_LIMIT:
+        lines.append(f"{source.label}: over {ROW_LIMIT} days: each different one is taken once, which gives the same model")
+    return lines
+
+
+def put_lines(lines: Iterable[str]) -> None:
+    put("".join(line + "\n" for line in lines).encode("utf-8", "backslashreplace"))
+
+
+def text_book(source: Input, asked: Asked, copies: bool) -> Book:
+    """The text's book, with notes on it; BadText if it has none."""
+    text = read_text(source.data)
+    book = text.book(copies)
+    if not asked.quiet:
+        for line in notes(source, text, copies):
+            say(line)
+    return book
+
+
+def wrong_kind(source: Input, wanted: str) -> Failure:
+    """Fields that no row or state follows get their refusal, which says more."""
+    if source.kind is Kind.FIELDS:
+        try:
+            judged_table(source.data)
+        except Refused as problem:
+            return source.refused(problem)
+    return Failure(f"{source.label}: this is {source.kind.value}; {wanted} is wanted")
+
+
+def book_of(source: Input, asked: Asked, copies: bool = False, wanted: str = "a text or a book") -> Book:
+    if source.kind not in (Kind.TEXT, Kind.BOOK):
+        raise wrong_kind(source, wanted)
+    try:
+        book = text_book(source, asked, copies) if source.kind is Kind.TEXT else judged_book(source.data)
+    except BadText as problem:
+        raise Failure(*told(source, problem)) from None
+    except Refused as problem:
+        raise source.refused(problem) from None
+    return book if asked.named_class is None else Book(book.names, asked.named_class, book.rows)
+
+
+def model_of(path: str, asked: Asked) -> Model:
+    """The model of a text, a book or a table."""
+    source = read_input(path)
+    try:
+        if source.kind is Kind.TABLE:
+            if asked.named_class is not None:
+                raise Failure(f"{source.label}: this is a table, which has its class; --class is for texts and books")
+            table = judged_table(source.data)
+            return Model(source, None, rewrite(source.data), table)
+        book = book_of(source, asked, wanted="a text, a book or a table")
+        built = build(book)
+        return Model(source, book, built, read_table(built.table))
+    except Refused as problem:
+        raise source.refused(problem) from None
+
+
+def listing(asked: Asked) -> int:
+    model = model_of(asked.words[0], asked)
+    text = list_table(model.built.table) if model.book is None else list_book(model.book)
+    write_output(asked.out, text.encode("ascii"), [model.source], binary=False)
+    return YES
+
+
+def written(asked: Asked, source: Input, data: bytes, what: str) -> int:
+    write_output(asked.out, data, [source])
+    if asked.out not in (None, "-") and not asked.quiet:
+        say(f"{label_of(asked.out, '')}: {what}")
+    return YES
+
+
+def building(asked: Asked) -> int:
+    source = read_input(asked.words[0])
+    try:
+        built = build(book_of(source, asked))
+    except Refused as problem:
+        raise source.refused(problem) from None
+    counts = f"{counted(built.states, 'state')}, {counted(built.joins, 'join')}, {counted(len(built.table), 'byte')}"
+    return written(asked, source, built.table, counts)
+
+
+def day_of(words: Sequence[str]) -> Row:
+    """The names on a command line; a single '-' is the empty day."""
+    day = () if list(words) == ["-"] else tuple(words)
+    for word in day:
+        if any(letter.isspace() for letter in word):
+            raise Failure(f"plans: {name_problem(word)}, or give each name by itself")
+        parting = next((letter for letter in word if letter in ",;"), None)
+        if parting:
+            raise Failure(f"plans: {shown(word)} holds {shown(parting)}, and no name may: give each name by itself")
+    if len(day) > ENTRY_LIMIT:
+        raise Failure(f"plans: a day of {len(day)} names: at most {ENTRY_LIMIT} are allowed")
+    return day
+
+
+def answer(day: Row, result: Walked, names: Sequence[str]) -> str:
+    if result.outcome is Outcome.ADMITTED:
+        return "allowed"
+    if result.outcome is Outcome.ON_THE_WAY:
+        return "on the way: a day may not end here" if day else "on the way: a day may not be empty"
+    stop = day[len(result.walked)]
+    word = stop if stop in names else shown(stop)
+    if result.walked:
+        said = f"not allowed: it goes as far as {' '.join(result.walked)}; then {word} may not come"
+    else:
+        said = f"not allowed: a day may not begin with {word}"
+    if stop in names:
+        return said
+    near = nearest(stop, names)
+    return f"{said} (the model has no such name{f'; did you mean {near}?' if near else ''})"
+
+
+def walking(asked: Asked) -> int:
+    day = day_of(asked.words[1:])
+    model = model_of(asked.words[0], asked)
+    result = walk(model.built.table, day)
+    following = ", ".join(result.next_names) or "nothing"
+    put_lines([answer(day, result, model.table.names), f"next: {following}"])
+    return YES if result.outcome is Outcome.ADMITTED else NO
+
+
+def accepted_fields(source: Input) -> str:
+    """What accepted fields are; Refused if they are not."""
+    if source.kind is Kind.BOOK:
+        book = judged_book(source.data)
+        return f"a book of {counted(len(book.names), 'name')}, {counted(len(book.rows), 'row')}"
+    table = judged_table(source.data)
+    return f"a table of {counted(len(table.names), 'name')}, {table.named_class}, {counted(len(table.states), 'state')}"
+
+
+def judged(source: Input, asked: Asked) -> Tuple[bool, List[str]]:
+    """Whether a file is accepted, and the lines that say so."""
+    try:
+        if source.kind is Kind.TEXT:
+            book = text_book(source, asked, copies=False)
+            counts = f"{counted(len(set(book.rows)), 'different day')}, {counted(len(book.names), 'name')}"
+            return True, [f"{source.label}: accepted: a text of {counts}"]
+        return True, [f"{source.label}: accepted: {accepted_fields(source)}"]
+    except BadText as problem:
+        return False, told(source, problem)
+    except Refused as problem:
+        what = f" (this is {source.kind.value})" if source.kind in (Kind.EMPTY, Kind.NEITHER, Kind.ARCHIVE) else ""
+        return False, [f"{source.label}: refused: {problem}{what}"]
+
+
+def checking(asked: Asked) -> int:
+    """A file that cannot be read is told of, and the others are judged all the same."""
+    status = YES
+    for path in asked.words:
+        try:
+            accepted, lines = judged(read_input(path), asked)
+        except Failure as problem:
+            problem.say()
+            status = ERROR
+            continue
+        put_lines(lines)
+        status = max(status, YES if accepted else NO)
+    return status
+
+
+def difference_lines(ours: Model, theirs: Model, found: Difference) -> List[str]:
+    one, two = ours.source.label, theirs.source.label
+    lines = [f"names: only in {label}: {', '.join(names)}"
+             for label, names in ((one, found.only_first), (two, found.only_second)) if names]
+    if ours.table.named_class != theirs.table.named_class:
+        lines.append(f"class: {ours.table.named_class} in {one}, {theirs.table.named_class} in {two}")
+    if ours.built.states != theirs.built.states:
+        lines.append(f"states: {ours.built.states} in {one}, {theirs.built.states} in {two}")
+    elif ours.table.states != theirs.table.states:
+        lines.append(f"states: {ours.built.states} in both, but they are not the same")
+    if found.day is None:
+        return lines + ["days: both allow the same"]
+    day = " ".join(found.day) or "the empty day"
+    if len(found.day) > ENTRY_LIMIT:
+        lines.append(f"days: of up to {ENTRY_LIMIT} names both allow the same; one of {len(found.day)} names parts them")
+    allows, refuses = (one, two) if found.first_allows else (two, one)
+    return lines + [f"days: {day} is allowed by {allows}, not by {refuses}"]
+
+
+def differing(asked: Asked) -> int:
+    ours, theirs = (model_of(path, asked) for path in asked.words)
+    if ours.built.table == theirs.built.table:
+        put(b"same\n")
+        return YES
+    lines = difference_lines(ours, theirs, compare(ours.table, theirs.table))
+    put_lines(lines)
+    return NO
+
+
+def to_text(asked: Asked) -> int:
+    source = read_input(asked.words[0])
+    if source.kind is Kind.TEXT:
+        raise wrong_kind(source, "a book")
+    data = write_text(book_of(source, asked, wanted="a book")).encode("ascii")
+    write_output(asked.out, data, [source], binary=False)
+    return YES
+
+
+def to_book(asked: Asked) -> int:
+    source = read_input(asked.words[0])
+    if source.kind is Kind.BOOK:
+        raise wrong_kind(source, "a text")
+    data = write_book(book_of(source, asked, copies=True, wanted="a text"))
+    return written(asked, source, data, counted(len(data), "byte"))
+
+
+def picturing(asked: Asked) -> int:
+    try:
+        form = drawings.form_of(asked.out)
+        model = model_of(asked.words[0], asked)
+        if asked.tree and model.book is None:
+            raise Failure(f"{model.source.label}: this is a table, which has no days; --tree is for texts and books")
+        joins = None if model.book is None else model.built.joins
+        text = drawings.drawing(model.table, joins, model.book if asked.tree else None)
+        write_output(asked.out, drawings.rendered(text, form), [model.source])
+    except drawings.NotDrawn as problem:
+        raise Failure(f"plans picture: {problem}") from None
+    return YES
+
+
+class Subcommand(NamedTuple):
+    """What does it, which options it has besides -q, and how many files it takes; walk takes one, and names."""
+    run: Callable[[Asked], int]
+    options: Tuple[str, ...]
+    files: str
+
+
+SUBCOMMANDS: Dict[str, Subcommand] = {
+    "list": Subcommand(listing, ("--class", "-o"), "one file"),
+    "build": Subcommand(building, ("--class", "-o"), "one file"),
+    "walk": Subcommand(walking, ("--class",), "a file and names"),
+    "check": Subcommand(checking, (), "one file or more"),
+    "diff": Subcommand(differing, (), "two files"),
+    "text": Subcommand(to_text, ("-o",), "one file"),
+    "book": Subcommand(to_book, ("--class", "-o"), "one file"),
+    "picture": Subcommand(picturing, ("--tree", "--class", "-o"), "one file"),
+}
+
+
+def usage(name: str, reason: str) -> Failure:
+    return Failure(f"plans {name}: {plain(cut(reason, 120))} ('plans {name} --help' shows how)")
+
+
+def judge_words(name: str, words: Sequence[str]) -> None:
+    files = SUBCOMMANDS[name].files
+    enough = {"one file": len(words) == 1, "two files": len(words) == 2}.get(files, len(words) > 0)
+    if not enough:
+        raise usage(name, f"{files} must be given, not {len(words)}")
+    if files in ("two files", "one file or more") and words.count("-") > 1:
+        raise usage(name, "standard input can be read once")
+
+
+def parsed(name: str, words: Sequence[str]) -> Optional[Asked]:
+    """What is asked; None where help is."""
+    try:
+        given, rest = getopt.gnu_getopt(list(words), "o:qh", ["class=", "tree", "help"])
+        options = dict(given)
+        if "-h" in options or "--help" in options:
+            return None
+        strange = [option for option in options if option not in ("-q", *SUBCOMMANDS[name].options)]
+        if strange:
+            raise usage(name, f"there is no option {strange[0]} here")
+        judge_words(name, rest)
+        named_class = read_class(options["--class"]) if "--class" in options else None
+    except (getopt.GetoptError, BadClass) as problem:
+        raise usage(name, str(problem)) from None
+    return Asked(tuple(rest), options.get("-o"), named_class, "-q" in options, "--tree" in options)
+
+
+def run(words: Sequence[str]) -> int:
+    """The sub-command that the words name."""
+    names = ", ".join(SUBCOMMANDS)
+    if not words:
+        raise Failure(f"plans: say what to do: {names} ('plans --help' shows how)")
+    name, *rest = words
+    if name not in SUBCOMMANDS:
+        near = nearest(name, SUBCOMMANDS)
+        meant = f"; did you mean {near}?" if near else ";"
+        raise Failure(f"plans: there is no sub-command {shown(name)}{meant} there are {names}")
+    asked = parsed(name, rest)
+    if asked is None:
+        put(helps.SUBCOMMANDS[name].encode("ascii"))
+        return YES
+    return SUBCOMMANDS[name].run(asked)

@@ -1,0 +1,135 @@
+"""What `plans --help` and each sub-command's --help print. tests/command runs the examples as they stand."""
+
+MAIN = """\
+plans: models of meal plans. A day is a line of names; a model is inferred from
+days, and other days are held against it.
+
+  plans list FILE             the model, as text
+  plans build FILE -o TABLE   the model, as a table of bytes
+  plans walk FILE NAME...     whether a day is allowed, and what may come next
+  plans check FILE...         whether a file is accepted; if not, why and where
+  plans diff FILE FILE        whether two models are the same; if not, how not
+  plans text BOOK             a book as text
+  plans book TEXT -o BOOK     a text as a book
+  plans picture FILE -o SVG   a drawing (svg, png or pdf)
+
+A FILE is a text, a book or a table; - is standard input.
+  -o FILE        where to write; without it, to standard output
+  --class CLASS  the class of a text or a book: "2 1", seen or "last 1"
+  -q             no word but the answer and errors
+  --version      which version this is
+'plans walk --help' says more of walk, with an example; so does each.
+Exit status: 0 yes or done, 1 no, 2 an error. More: man plans
+"""
+
+LIST = """\
+plans list FILE [--class CLASS] [-o FILE] [-q]
+
+Prints the model of a text, a book or a table. The first line has the number of
+states and, but for a table, of joins. Then each state has a line: its number,
++ if a day may end there or - if not, and each name that may come next with the
+state that it leads to.
+
+  $ printf 'tea\\ntea cake\\n' | plans list -q -
+  states 3 joins 0
+  0 - tea>1
+  1 + cake>2
+  2 +
+"""
+
+BUILD = """\
+plans build FILE [--class CLASS] [-o TABLE] [-q]
+
+Writes the table of a text or a book. CLASS says how generous the model is:
+"k h" (context; k from 1 to 8, h from 1 to k), seen, or "last j" (j 0 to 8).
+Without it the class is the file's own or, if it names none, "2 1".
+
+  $ printf 'tea\\ntea cake cake\\n' | plans build -q - --class seen -o tea.table
+  $ plans list tea.table
+  states 4
+  0 - tea>1
+  1 + cake>2
+  2 - cake>3
+  3 +
+"""
+
+WALK = """\
+plans walk FILE [NAME...] [--class CLASS] [-q]
+
+Says whether the day of these names is allowed by the model of FILE, a text, a
+book or a table; if not, how far it goes; and what may come next. Without a name
+it is the empty day. The exit status is 0 if the day is allowed, else 1.
+
+  $ printf 'tea\\ntea cake tea\\n' | plans walk -q - tea cake
+  on the way: a day may not end here
+  next: tea
+"""
+
+CHECK = """\
+plans check FILE... [-q]
+
+Says of each file whether it is accepted; if not, which refusal it gets, and at
+which offset the field begins that it is about. Of a text each faulty line is
+told. The exit status is 0 if all are accepted, 1 if one is not, and 2 if one
+cannot be read.
+
+  $ printf '\\001\\000\\0019' > bad.table
+  $ plans check bad.table
+  bad.table: refused: offset 0: refusal 5: a name's length or bytes are wrong
+"""
+
+DIFF = """\
+plans diff FILE FILE [-q]
+
+Says whether two tables, or the tables of texts or books, are the same to the
+byte; if not, what differs, and a shortest day that one allows and the other
+does not. The exit status is 0 if they are the same, else 1.
+
+  $ printf 'tea\\ntea cake\\n' | plans build -q - -o ours.table
+  $ printf 'tea\\ntea cake cake\\n' | plans build -q - -o theirs.table
+  $ plans diff ours.table theirs.table
+  states: 3 in ours.table, 4 in theirs.table
+  days: tea cake is allowed by ours.table, not by theirs.table
+"""
+
+TEXT = """\
+plans text BOOK [-o TEXT]
+
+Writes a book as text, a day a line; - is the empty day. 'plans book' makes the
+same book of it.
+
+  $ printf 'tea\\n-\\n' | plans book -q - -o tea.book
+  $ plans text tea.book
+  tea
+  -
+"""
+
+BOOK = """\
+plans book TEXT [--class CLASS] [-o BOOK] [-q]
+
+Writes a text as a book: names sorted and numbered, days in their order with
+their copies. A line is a day: names parted by spaces, or by commas, semicolons
+or tabs. A line with a single - is the empty day; # begins a comment.
+
+  $ printf 'class = seen\\ntea cake\\n\\n-\\n' | plans book - -o tea.book
+  standard input: 2 days, 2 different days; 2 names:
+    cake 1, tea 1
+  standard input: 1 blank line passed over (a single - is the empty day)
+  tea.book: 27 bytes
+"""
+
+PICTURE = """\
+plans picture FILE [--tree] [--class CLASS] [-o FILE] [-q]
+
+Draws the model with Graphviz (the command dot, Debian's package graphviz). The
+output's name ends in .svg, .png, .pdf or .dot; standard output gets svg. With
+--tree the prefix tree is drawn beside it, and states that were joined have one
+colour.
+
+  $ printf 'tea\\n' | plans picture -q - -o tea.dot
+  $ grep label tea.dot | head -n 1
+  label="context (2,1): 2 states, 0 joins"
+"""
+
+SUBCOMMANDS = {"list": LIST, "build": BUILD, "walk": WALK, "check": CHECK, "diff": DIFF, "text": TEXT, "book": BOOK,
+               "picture": PICTURE}

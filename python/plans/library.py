@@ -1,0 +1,84 @@
+"""The library's four calls through ctypes, as include/plans.h declares them. Every buffer lives for one call."""
+import ctypes
+import functools
+import os
+from pathlib import Path
+from typing import Callable, List, Tuple
+
+HERE = Path(__file__).resolve().parent
+FILES = ("libplans.so.1", "libplans.so")
+
+WORK_BYTES = 65536
+LISTING_BYTES = 32768
+
+
+class LibraryMissing(Exception):
+    """libplans.so cannot be loaded: where it was looked for, and what to do."""
+
+
+class BuiltLayout(ctypes.Structure):
+    _fields_ = [("refusal", ctypes.c_uint8), ("length", ctypes.c_uint32), ("states", ctypes.c_uint32), ("joins", ctypes.c_uint32)]
+
+
+class WrittenLayout(ctypes.Structure):
+    _fields_ = [("refusal", ctypes.c_uint8), ("length", ctypes.c_uint32)]
+
+
+class WalkedLayout(ctypes.Structure):
+    _fields_ = [("refusal", ctypes.c_uint8), ("outcome", ctypes.c_uint8), ("next_count", ctypes.c_uint8),
+                ("walked", ctypes.c_uint32), ("next_names", ctypes.c_uint64)]
+
+
+# each call's result; each takes three slices, a slice being (pointer, length)
+RESULTS = {"plans_build": BuiltLayout, "plans_rewrite": BuiltLayout, "plans_walk": WalkedLayout, "plans_list": WrittenLayout}
+READ = [ctypes.c_char_p, ctypes.c_size_t]
+LENT = [ctypes.c_void_p, ctypes.c_size_t]
+
+
+def _folders() -> List[Path]:
+    """Where the library may lie: beside the module; in the repository's target/lib, or in lib of the prefix it is installed in."""
+    above = list(HERE.parents)
+    if (above[0].parent / "crates.txt").is_file():
+        return [HERE, above[1] / "target" / "lib"]
+    return [HERE] + [prefix / "lib" for prefix in above[3:4]]
+
+
+def _path() -> str:
+    given = os.environ.get("PLANS_LIBRARY")
+    if given:
+        return given
+    found = [folder / name for folder in _folders() for name in FILES if (folder / name).is_file()]
+    if not found:
+        places = " and ".join(str(folder) for folder in _folders())
+        raise LibraryMissing(f"libplans.so is not in {places}: 'make lib' builds it; or PLANS_LIBRARY names it")
+    return str(found[0])
+
+
+@functools.lru_cache(maxsize=None)
+def _calls(path: str) -> ctypes.CDLL:
+    try:
+        library = ctypes.CDLL(path)
+        for name, result in RESULTS.items():
+            call = getattr(library, name)
+            call.restype = result
+            call.argtypes = READ + (READ + LENT if name == "plans_walk" else LENT + LENT)
+    except (OSError, AttributeError) as problem:
+        raise LibraryMissing(f"{path} is not this library: {problem}") from None
+    return library
+
+
+def _call(name: str) -> Callable:
+    return getattr(_calls(_path()), name)
+
+
+def written_by(name: str, data: bytes, room: int) -> Tuple[ctypes.Structure, bytes]:
+    """What a call that writes gives back, and the bytes that it wrote."""
+    work = ctypes.create_string_buffer(WORK_BYTES)
+    out = ctypes.create_string_buffer(room)
+    result = _call(name)(data, len(data), work, WORK_BYTES, out, room)
+    return result, out.raw[:result.length]
+
+
+def walked(table: bytes, row: bytes) -> WalkedLayout:
+    work = ctypes.create_string_buffer(WORK_BYTES)
+    return _call("plans_walk")(table, len(table), row, len(row), work, WORK_BYTES)

@@ -1,0 +1,137 @@
+"""The library's calls with names in place of numbers and bits. A refusal is raised as Refused."""
+import enum
+from dataclasses import dataclass
+from typing import Callable, Iterable, Sequence, Tuple, TypeVar, Union
+
+from . import library
+from .fields import (ENTRY_LIMIT, INPUT_LIMIT, NAME, Book, Bytes, Refused, Row, Table, as_bytes, fields_of, read_book, read_table,
+                     write_book, write_table)
+
+File = TypeVar("File", Book, Table)
+
+
+class Outcome(enum.Enum):
+    """What a walk comes to, by the numbers of include/plans.h."""
+    ADMITTED = 1
+    ON_THE_WAY = 2
+    STOPS = 3
+
+
+@dataclass(frozen=True)
+class Built:
+    """A table's bytes, how many states it has, and how many joins made it (0 for a rewritten table)."""
+    table: bytes
+    states: int
+    joins: int
+
+
+@dataclass(frozen=True)
+class Walked:
+    """How a walk ended, the longest beginning that can be walked, and the names that may come next."""
+    outcome: Outcome
+    walked: Row
+    next_names: Tuple[str, ...]
+
+
+def _book_bytes(book: Union[Book, Bytes]) -> bytes:
+    return write_book(book) if isinstance(book, Book) else as_bytes(book, "a Book or its bytes")
+
+
+def _table_bytes(table: Union[Table, Bytes]) -> bytes:
+    return write_table(table) if isinstance(table, Table) else as_bytes(table, "a Table or its bytes")
+
+
+def _day(day: Iterable[str]) -> Row:
+    names = tuple(day)
+    if isinstance(day, str) or not all(isinstance(name, str) for name in names):
+        raise TypeError("a day must be given as its names, each a str, such as ['breakfast', 'lunch']")
+    return names
+
+
+def _written(call: str, data: bytes, room: int) -> Tuple:
+    result, out = library.written_by(call, data, room)
+    if result.refusal:
+        raise Refused(result.refusal)
+    return result, out
+
+
+def build(book: Union[Book, Bytes]) -> Built:
+    """The table of a book. A book that cannot be written is a ValueError (see write_book)."""
+    result, table = _written("plans_build", _book_bytes(book), INPUT_LIMIT)
+    return Built(table, result.states, result.joins)
+
+
+def rewrite(table: Union[Table, Bytes]) -> Built:
+    """The table judged and written again, to the same bytes. A table that cannot be written is a ValueError (see write_book)."""
+    result, again = _written("plans_rewrite", _table_bytes(table), INPUT_LIMIT)
+    return Built(again, result.states, result.joins)
+
+
+def _judged(call: Callable[[bytes], Built], read: Callable[[bytes], File], data: bytes) -> File:
+    try:
+        call(data)
+    except Refused as problem:
+        try:
+            read(data)
+        except Refused as placed:
+            if placed.number == problem.number:
+                raise placed from None
+        raise problem from None
+    return read(data)
+
+
+def judged_book(data: bytes) -> Book:
+    """The book that the library accepts; a refusal is the library's, with the offset as this module reads the fields."""
+    return _judged(build, read_book, data)
+
+
+def judged_table(data: bytes) -> Table:
+    """The table that the library accepts; a refusal is the library's, with the offset as this module reads the fields."""
+    return _judged(rewrite, read_table, data)
+
+
+def list_book(book: Union[Book, Bytes]) -> str:
+    """The listing of a book's table."""
+    return _written("plans_list", _book_bytes(book), library.LISTING_BYTES)[1].decode("ascii")
+
+
+def list_table(table: Union[Table, Bytes]) -> str:
+    """The listing of a table. Its first line has no joins: a table does not say how many there were."""
+    states = read_table(rewrite(table).table).states
+    lines = [f"states {len(states)}"]
+    for number, state in enumerate(states):
+        arcs = [f"{name}>{target}" for name, target in state.arcs]
+        lines.append(" ".join([str(number), "+" if state.accepting else "-", *arcs]))
+    return "".join(line + "\n" for line in lines)
+
+
+def _front_names(table: bytes) -> Sequence[str]:
+    """The names at the front, unjudged: the call judges the table."""
+    names = []
+    try:
+        for _, mark, body in fields_of(table):
+            if mark != NAME:
+                break
+            names.append(body.decode("latin-1"))
+    except Refused:
+        pass
+    return names
+
+
+def walk(table: Union[Table, Bytes], day: Iterable[str]) -> Walked:
+    """Walks a day's names over a table from its start. A name that the table does not have stops the walk."""
+    data = _table_bytes(table)
+    day = _day(day)
+    names = _front_names(data)
+    numbers = {name: number for number, name in enumerate(names[:256])}
+    known = next((place for place, name in enumerate(day) if name not in numbers), len(day))
+    if len(day) > ENTRY_LIMIT:
+        row = bytes(len(day))  # refused by its length
+    else:
+        row = bytes(numbers[name] for name in day[:known])
+    result = library.walked(data, row)
+    if result.refusal:
+        raise Refused(result.refusal)
+    outcome = Outcome(result.outcome) if known == len(day) else Outcome.STOPS
+    following = tuple(name for number, name in enumerate(names) if result.next_names >> number & 1)
+    return Walked(outcome, day[:result.walked], following)

@@ -1,0 +1,91 @@
+/* Eight threads call the library at the same time, each with areas of its own, on one book that all read: each must get what one
+ * thread alone got. scripts/test-install builds it with the thread sanitizer. The last line is 'N passed, M failed'. */
+#include <pthread.h>
+#include <stdio.h>
+#include <string.h>
+
+#include "plans_fields.h"
+
+enum { THREADS = 8, ROUNDS = 200 };
+
+/* What one thread lends, and what it gets. */
+typedef struct {
+    uint8_t work[PLANS_WORK_BYTES];
+    uint8_t table[PLANS_TABLE_BYTES];
+    uint8_t again[PLANS_TABLE_BYTES];
+    uint8_t text[PLANS_LISTING_BYTES];
+    size_t table_len;
+    size_t text_len;
+    plans_walked walked;
+    unsigned wrong;
+} areas;
+
+static const uint8_t day[] = {1, 3, 0};
+static uint8_t book_bytes[256];
+static plans_writer book;
+static areas alone;
+static areas lent[THREADS];
+
+/* Worked day P6 of docs/SCOPE.md. */
+static void write_book(void)
+{
+    static const char *const names[] = {"breakfast", "dinner", "lunch", "snack"};
+    static const uint8_t days[3][3] = {{0, 3, 2}, {1, 3, 2}, {0, 3, 0}};
+
+    book = plans_write_to(book_bytes, sizeof book_bytes);
+    for (size_t i = 0; i < 4; i++)
+        plans_write_name(&book, names[i]);
+    plans_write_class(&book, PLANS_CONTEXT, 2, 1);
+    for (size_t i = 0; i < 3; i++)
+        plans_write_row(&book, days[i], sizeof days[i]);
+}
+
+/* Every call once. Returns whether none was refused, and the rewritten table is the table. */
+static int call_all(areas *to)
+{
+    plans_built built = plans_build(book.bytes, book.length, to->work, sizeof to->work, to->table, sizeof to->table);
+    plans_built again = plans_rewrite(to->table, built.length, to->work, sizeof to->work, to->again, sizeof to->again);
+    plans_written written = plans_list(book.bytes, book.length, to->work, sizeof to->work, to->text, sizeof to->text);
+
+    to->walked = plans_walk(to->table, built.length, day, sizeof day, to->work, sizeof to->work);
+    to->table_len = built.length;
+    to->text_len = written.length;
+    return built.refusal == PLANS_OK && again.refusal == PLANS_OK && written.refusal == PLANS_OK && to->walked.refusal == PLANS_OK &&
+           again.length == built.length && memcmp(to->again, to->table, built.length) == 0;
+}
+
+static int as_alone(const areas *to)
+{
+    return to->table_len == alone.table_len && memcmp(to->table, alone.table, alone.table_len) == 0 &&
+           to->text_len == alone.text_len && memcmp(to->text, alone.text, alone.text_len) == 0 &&
+           to->walked.outcome == alone.walked.outcome && to->walked.walked == alone.walked.walked &&
+           to->walked.next_names == alone.walked.next_names && to->walked.next_count == alone.walked.next_count;
+}
+
+static void *call_often(void *own)
+{
+    areas *to = (areas *)own;
+
+    for (unsigned i = 0; i < ROUNDS; i++)
+        to->wrong += !(call_all(to) && as_alone(to));
+    return NULL;
+}
+
+int main(void)
+{
+    pthread_t threads[THREADS];
+    unsigned failed = 0;
+
+    write_book();
+    if (!call_all(&alone) || alone.walked.outcome != PLANS_ADMITTED) {
+        printf("FAILED: one thread alone\n0 passed, 1 failed\n");
+        return 1;
+    }
+    for (size_t i = 0; i < THREADS; i++)
+        if (pthread_create(&threads[i], NULL, call_often, &lent[i]) != 0)
+            return 2;
+    for (size_t i = 0; i < THREADS; i++)
+        failed += pthread_join(threads[i], NULL) != 0 || lent[i].wrong > 0;
+    printf("%u passed, %u failed\n", THREADS - failed, failed);
+    return failed != 0;
+}

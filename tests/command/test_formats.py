@@ -1,0 +1,71 @@
+"""docs/FORMATS.md and docs/SOURCES.md: the bytes, listings, refusals and counts that they show are those of the programs."""
+import re
+import unittest
+from pathlib import Path
+
+import plans
+from plans.fields import prefix_tree
+
+ROOT = Path(__file__).resolve().parents[2]
+FORMATS = (ROOT / "docs" / "FORMATS.md").read_text()
+SOURCES = (ROOT / "docs" / "SOURCES.md").read_text()
+EXAMPLES = ROOT / "examples"
+
+
+def block_under(heading: str) -> str:
+    """The first fenced block under the heading."""
+    return FORMATS.split(f"\n## {heading}\n")[1].split("```\n")[1]
+
+
+def bytes_shown(heading: str) -> bytes:
+    """The bytes at the front of the block's lines; two blanks or more end them."""
+    return b"".join(bytes.fromhex(line.split("  ")[0]) for line in block_under(heading).splitlines())
+
+
+def book_at(path: Path) -> plans.Book:
+    return plans.read_text(path.read_bytes()).book()
+
+
+def counts(path: Path) -> tuple:
+    """States of the prefix tree, states, joins."""
+    states, joins = re.match(r"states (\d+) joins (\d+)\n", path.with_suffix(".listing").read_text()).groups()
+    return len(prefix_tree(book_at(path).rows)), int(states), int(joins)
+
+
+class Formats(unittest.TestCase):
+    def test_book_table_listing_and_text(self):
+        data = bytes_shown("A book")
+        self.assertEqual(plans.list_book(data), block_under("Its listing"))
+        self.assertEqual(plans.write_book(plans.read_text(block_under("A book as text")).book()), data)
+        self.assertEqual(bytes_shown("Its table"), plans.build(data).table)
+
+    def test_refusals(self):
+        shown = re.findall(r"^\| (\d+) \| [^|]* \| `([0-9A-F ]+)`", FORMATS, re.MULTILINE)
+        self.assertEqual([number for number, _ in shown], ["2", "3", "4", "5", "6", "8", "9", "11", "12"])
+        for number, data in shown:
+            with self.assertRaises(plans.Refused) as caught:
+                (plans.build if int(number) < 10 else plans.rewrite)(bytes.fromhex(data))
+            self.assertEqual(caught.exception.number, int(number))
+
+    def test_shipped_books(self):
+        shown = re.findall(r"^\| `(\w+)` \| [^|]* \| [^|]* \| (\d+), (\d+), (\d+) \| (\d+), (\d+), (\d+) \|$", FORMATS, re.MULTILINE)
+        self.assertEqual(sorted(row[0] for row in shown), sorted(path.stem for path in (EXAMPLES / "books").glob("*.txt")))
+        for name, *numbers in shown:
+            path = EXAMPLES / "books" / (name + ".txt")
+            book = book_at(path)
+            found = (len(book.rows), len(set(book.rows)), len(book.names)) + counts(path)
+            self.assertEqual(tuple(map(int, numbers)), found, name)
+
+
+class Sources(unittest.TestCase):
+    def test_counts(self):
+        shown = re.findall(r"^\| `(\w+)` \| [^|]* \| [^|]* \| (\d+)[^|]* \| (\d+), (\d+), (\d+) \|", SOURCES, re.MULTILINE)
+        texts = {path.stem: path for path in (EXAMPLES / "sources").glob("*.txt")}
+        self.assertEqual({row[0] for row in shown}, set(texts))
+        for name, rows, *numbers in shown:
+            self.assertEqual(int(rows), len(book_at(texts[name]).rows), name)
+            self.assertEqual(tuple(map(int, numbers)), counts(texts[name]), name)
+
+    def test_listings_shown(self):
+        for path in (EXAMPLES / "sources").glob("*.listing"):
+            self.assertIn("```\n" + path.read_text() + "```\n", SOURCES, path)

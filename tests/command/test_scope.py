@@ -1,0 +1,60 @@
+"""docs/SCOPE.md: its worked days, its example and its limits are those of the examples, the library and the definitions."""
+import re
+import unittest
+from pathlib import Path
+
+import plans
+from plans.fields import prefix_tree
+
+ROOT = Path(__file__).resolve().parents[2]
+SCOPE = (ROOT / "docs" / "SCOPE.md").read_text()
+DAYS = ROOT / "examples" / "worked_days"
+NAMES = ("breakfast", "dinner", "lunch", "snack")
+
+
+def section(heading: str) -> str:
+    return SCOPE.split(f"\n## {heading}\n")[1].split("\n## ")[0]
+
+
+def row_of(shown: str) -> tuple:
+    """A row by the first letters of its names."""
+    return () if shown == "the empty row" else tuple(NAMES["bdls".index(letter)] for letter in shown)
+
+
+class Scope(unittest.TestCase):
+    def test_worked_days(self):
+        shown = re.findall(r"^\| ([PQ]\d+) \| ([^|]*) \| ([^|]*) \| (\d+), (\d+), (\d+) \|", section("10. Worked days"), re.MULTILINE)
+        self.assertEqual({row[0] for row in shown}, {path.stem for path in DAYS.glob("[PQ]*.txt")})
+        for day, class_shown, rows, *numbers in shown:
+            named_class = None if class_shown == "none" else plans.read_class(class_shown)
+            book = plans.Book(NAMES, named_class, tuple(map(row_of, rows.split(", "))))
+            self.assertEqual(plans.read_text((DAYS / (day + ".txt")).read_bytes()).book(), book, day)
+            built = plans.build(book)
+            self.assertEqual(tuple(map(int, numbers)), (len(prefix_tree(book.rows)), built.states, built.joins), day)
+
+    def test_joining_step_by_step(self):
+        shown = section("7. From rows to a table").split("```\n")[1]
+        self.assertEqual(shown, (DAYS / "Q2.listing").read_text())
+
+    def test_example(self):
+        text = section("8. The listing")
+        book, table = map(bytes.fromhex, re.findall(r"^    ([0-9A-F ]+)$", text, re.MULTILINE))
+        self.assertEqual(table, plans.build(book).table)
+        self.assertEqual(text.split("```\n")[1], plans.list_book(book))
+
+    def test_fields_shown(self):
+        shown = re.findall(r"^\| (0\d) \| .* \| `([0-9A-F ]+)`: ", section("3. Fields"), re.MULTILINE)
+        self.assertEqual([mark for mark, _ in shown], ["01", "02", "03", "04"])
+        for mark, field in shown:
+            data = bytes.fromhex(field)
+            self.assertEqual((data[0], int.from_bytes(data[1:3], "big")), (int(mark), len(data) - 3))
+
+    def test_limits(self):
+        limits = "".join(path.read_text() for path in ROOT.glob("crates/*/specs/Limits.antt"))
+        shown = re.findall(r"^\| [^|]* \| ([\d,]+) \| `([a-z-]+)` \|$", section("9. Limits"), re.MULTILINE)
+        self.assertEqual([name for number, name in shown if f"\n{name} = {number.replace(',', '')}\n" not in limits], [])
+        self.assertEqual(len(shown), 8)
+
+    def test_refusals(self):
+        numbers = re.findall(r"^\| (\d+) \|", section("4. What a call gives back"), re.MULTILINE)
+        self.assertEqual(list(map(int, numbers)), [number for number in plans.REFUSALS if number])
