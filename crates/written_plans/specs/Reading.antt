@@ -4,10 +4,11 @@
 use mathlib.Core.Bool.{Bool, true, false, _&&_, not, cond}
 use mathlib.Core.List.{List, [], _∷_, _++_, map}
 use Prim.Native.Nat.{ℕ, zero, suc}
-use lib.Dec.{eqb, leb}
+use lib.Dec.{eqb, ltb, leb}
 use lib.ListN.{length}
-use Rattle.base.specs.Lists.{same, hasRow}
-use Rattle.base.specs.Limits.{plan-depth, bad-plan, too-deep, unknown-child, when, firstOf}
+use Rattle.base.specs.Lists.{all, same, hasRow}
+use Rattle.base.specs.Limits.{book-rows, row-limit, plan-depth, when, firstOf}
+use Rattle.base.specs.Limits.{too-many, bad-row, bad-plan, too-deep, unknown-child}
 use Rattle.model.specs.Fields.{nameOk, numberOf}
 use Rattle.written_plans.specs.Written.{less, greater, slash, isWhite, isText, Tag, tag}
 
@@ -170,3 +171,9 @@ unfoldable pub rowsIn : ℕ → List Entry → List (List ℕ)
 rowsIn chosen [] = []
 rowsIn chosen (e ∷ entries) =
     cond (eqb (e .number) chosen) (rowAfter (e .depth) entries ∷ rowsIn chosen entries) (rowsIn chosen entries)
+
+-- 7 for a 257th row, then 9 for a row too long
+unfoldable pub rowsFault : List (List ℕ) → ℕ
+rowsFault rows =
+    firstOf (when (ltb book-rows (length rows)) too-many)
+    (when (not (all (λ (row : List ℕ). leb (length row) row-limit) rows)) bad-row)
