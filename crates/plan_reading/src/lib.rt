@@ -1,0 +1,2 @@
+// A plan read in one pass over its bytes.
+pub mod scanning;
