@@ -142,8 +142,8 @@ module _ (names : List (List ℕ)) (ascending : Ascends names) where
   one-place i j h k e =
       ⊎-elim (λ (l : i ≤ j). l)
       (λ (l : j < i).
-          absurd (before-self (getD names j [])
-          (subst (λ (z : List ℕ). before (getD names j []) z ≡ true) e (ascending .in-order j i l h))))
+      absurd (before-self (getD names j [])
+      (subst (λ (z : List ℕ). before (getD names j []) z ≡ true) e (ascending .in-order j i l h))))
       (le-or-lt i j)
 
   -- the name at a place has that number
@@ -160,16 +160,16 @@ module _ (names : List (List ℕ)) (ascending : Ascends names) where
   places-below n j low i h e =
       ⊎-elim
       (λ (l : j ≤ i).
-          absurd (⊎-elim
-          (λ (q : i ≤ j).
-              let same-place : j ≡ i = omega arith in
-              before-self n
-              (subst (λ (z : List ℕ). before n z ≡ true) (ap (λ (k : ℕ). getD names k []) same-place ∙ e) low))
-          (λ (q : j < i).
-              before-self n
-              (before-trans n (getD names j []) n low
-              (subst (λ (z : List ℕ). before (getD names j []) z ≡ true) e (ascending .in-order j i q h))))
-          (le-or-lt i j)))
+      absurd (⊎-elim
+      (λ (q : i ≤ j).
+      let same-place : j ≡ i = omega arith in
+      before-self n
+      (subst (λ (z : List ℕ). before n z ≡ true) (ap (λ (k : ℕ). getD names k []) same-place ∙ e) low))
+      (λ (q : j < i).
+      before-self n
+      (before-trans n (getD names j []) n low
+      (subst (λ (z : List ℕ). before (getD names j []) z ≡ true) e (ascending .in-order j i q h))))
+      (le-or-lt i j)))
       (λ (l : i < j). l) (le-or-lt j i)
 
   -- and a name after that one stands at no place up to j
@@ -178,16 +178,16 @@ module _ (names : List (List ℕ)) (ascending : Ascends names) where
   places-above n j k high i e =
       ⊎-elim
       (λ (l : i ≤ j).
-          absurd (⊎-elim
-          (λ (q : j ≤ i).
-              let same-place : j ≡ i = omega arith in
-              before-self n
-              (subst (λ (z : List ℕ). before z n ≡ true) (ap (λ (p : ℕ). getD names p []) same-place ∙ e) high))
-          (λ (q : i < j).
-              before-self n
-              (before-trans n (getD names j []) n
-              (subst (λ (z : List ℕ). before z (getD names j []) ≡ true) e (ascending .in-order i j q k)) high))
-          (le-or-lt j i)))
+      absurd (⊎-elim
+      (λ (q : j ≤ i).
+      let same-place : j ≡ i = omega arith in
+      before-self n
+      (subst (λ (z : List ℕ). before z n ≡ true) (ap (λ (p : ℕ). getD names p []) same-place ∙ e) high))
+      (λ (q : i < j).
+      before-self n
+      (before-trans n (getD names j []) n
+      (subst (λ (z : List ℕ). before z (getD names j []) ≡ true) e (ascending .in-order i j q k)) high))
+      (le-or-lt j i)))
       (λ (l : j < i). l) (le-or-lt i j)
 
 -- a name above the last one stands above all
@@ -204,10 +204,10 @@ above-all [] n ascending e i h = let z : ⊥ = omega arith in absurd z
 above-all (m ∷ names) n ascending e i h =
     ⊎-elim
     (λ (l : length names ≤ i).
-        let is : length names ≡ i = omega arith in subst (λ (k : ℕ). before (getD (m ∷ names) k []) n ≡ true) is last)
+    let is : length names ≡ i = omega arith in subst (λ (k : ℕ). before (getD (m ∷ names) k []) n ≡ true) is last)
     (λ (l : i < length names).
-        before-trans (getD (m ∷ names) i []) (getD (m ∷ names) (length names) []) n
-        (ascending .in-order i (length names) l (omega arith)) last)
+    before-trans (getD (m ∷ names) i []) (getD (m ∷ names) (length names) []) n
+    (ascending .in-order i (length names) l (omega arith)) last)
     (le-or-lt (length names) i)
   where
     last : before (getD (m ∷ names) (length names) []) n ≡ true
@@ -227,8 +227,8 @@ ascends-more names n ascending e = record { in-order = pair }
     pair i j h k =
         ⊎-elim
         (λ (l : length names ≤ j).
-            let is : length names ≡ j = omega (arith, length-append names (n ∷ [])) in
-            rw (left i (omega arith), getD-at names n [] [] j is) (above-all names n ascending e i (omega arith)))
+        let is : length names ≡ j = omega (arith, length-append names (n ∷ [])) in
+        rw (left i (omega arith), getD-at names n [] [] j is) (above-all names n ascending e i (omega arith)))
         (λ (l : j < length names). rw (left i (omega arith), left j l) (ascending .in-order i j h l))
         (le-or-lt (length names) j)
 
