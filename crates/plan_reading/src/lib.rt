@@ -1,2 +1,3 @@
-// A plan read in one pass over its bytes.
+// A plan read in one pass.
+pub mod pieces;
 pub mod scanning;
