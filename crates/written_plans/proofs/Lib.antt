@@ -4,3 +4,5 @@ pub mod Runs
 pub mod NameRule
 pub mod MetLaws
 pub mod Outcomes
+pub mod TagFaults
+pub mod FirstFault
