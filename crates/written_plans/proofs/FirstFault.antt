@@ -15,7 +15,7 @@ use Rattle.written_plans.specs.Claims.{Faultless, ReadingTells}
 use Rattle.written_plans.proofs.Runs.{run, tagsFrom, metAt}
 use Rattle.written_plans.proofs.MetLaws.{run-front, tag-met, met-tag, met-is-here, met-onward, met-single, met-moves}
 use Rattle.written_plans.proofs.Outcomes.{Blocked, Judged, Clear, Outcome, accepted, blocked, judged-at, outcome}
-use Rattle.written_plans.proofs.TagFaults.{TooDeep, UnknownChild, Verdict, fine, deep, unknown, verdict, same-fault}
+use Rattle.written_plans.proofs.TagFaults.{TooDeep, UnknownChild, Verdict, fine, deep, unknown, verdict}
 
 -- a place inside a list is told by what is left there
 place-eq : (s : List ℕ) (p q : ℕ) → drop p s ≡ drop q s → q < length s → p ≡ q
@@ -78,3 +78,104 @@ module _
       let same : p ≡ m .0 =
       place-eq u p (m .0) (h .here ∙ met-onward before (m .0) u (m .1)) (met-is-here before (m .0) u (m .1) .within) in
       met-moves before p u (subst (λ z. In t (metAt before z u)) (sym same) (m .1)) s (sym (h .alike))
+
+  -- ---- faults and the tags met
+
+  module _ (names : List (List ℕ)) (chosen : List ℕ) where
+    -- a tag that is refused, by a number that is not above this one
+    abbrev Refused : ℕ → ℕ → Type 0
+    Refused number p =
+        (t : Tag) × In t (metAt before p s) × ((0 < tagFault names chosen t) × (tagFault names chosen t ≤ number))
+
+    -- a tag of a plan that is too deep or unknown is met and refused
+    deep-refused : (p : ℕ) → Deep s p → Refused too-deep p
+    deep-refused p (t, at, far) = let u = tag (t .around) (t .name) (drop p s) in (u, tag-is-met p t at, look u far (verdict names chosen u))
+      where
+        look : (u : Tag) → TooDeep u → Verdict names chosen u → (0 < tagFault names chosen u) × (tagFault names chosen u ≤ too-deep)
+        look u d (fine e near o) = absurd (near d)
+        look u d (deep e h) = (omega arith, omega arith)
+        look u d (unknown e near o) = absurd (near d)
+
+    unknown-refused : (p : ℕ) → Unknown names chosen s p → Refused unknown-child p
+    unknown-refused p (t, at, child, other) =
+        let u = tag (t .around) (t .name) (drop p s) in (u, tag-is-met p t at, look u (child, other) (verdict names chosen u))
+      where
+        look : (u : Tag) → UnknownChild names chosen u → Verdict names chosen u →
+            (0 < tagFault names chosen u) × (tagFault names chosen u ≤ unknown-child)
+        look u o (fine e d known) = absurd (known o)
+        look u o (deep e d) = (omega arith, omega arith)
+        look u o (unknown e d h) = (omega arith, omega arith)
+
+    -- a tag met that is refused is a fault of that number
+    refused-fault : (p number : ℕ) → Judged (tagFault names chosen) before s p number → Fault names chosen s number p
+    refused-fault p number h = look (verdict names chosen (h .met-tag))
+      where
+        look : Verdict names chosen (h .met-tag) → Fault names chosen s number p
+        look (fine e d o) = let z : ⊥ = omega (arith, e, h .judged, h .refused) in absurd z
+        look (deep e d) =
+            let at = has-tag p (h .is-met) in inr (inl (sym (h .judged) ∙ e, (tag (h .met-tag .around) (h .met-tag .name) (at .0), at .1, d)))
+        look (unknown e d o) =
+            let at = has-tag p (h .is-met) in
+            inr (inr (sym (h .judged) ∙ e, (tag (h .met-tag .around) (h .met-tag .name) (at .0), at .1, o .0, o .1)))
+
+    -- ---- the first fault
+
+    -- the first fault told and another: what is told stands earlier, or at the same place with a number that is not above
+    abbrev Earlier : ℕ → ℕ → ℕ → ℕ → Type 0
+    Earlier number p n q = (p < q) ⊎ ((p ≡ q) × (number ≤ n))
+
+    -- no tag is refused before the place told
+    clear-before : (n p q : ℕ) → Clear (tagFault names chosen) before s p → Refused n q → q < p → ⊥
+    clear-before n p q clear (t, m, r) less =
+        let none : tagFault names chosen t ≡ 0 = clear q t less m in
+        let some : 0 < tagFault names chosen t = r .0 in
+        omega arith
+
+    -- reading that is blocked tells the first fault
+    blocked-first : (p : ℕ) → Clear (tagFault names chosen) before s p → Blocked before s p →
+        (n q : ℕ) → Fault names chosen s n q → Earlier bad-plan p n q
+    blocked-first p clear h n q (inl (e, f)) =
+        ⊎-elim inl (λ (d : p ≡ q). inr (d, omega arith))
+        (no-less (impossible-after p q f (begins-plan p (h .within) (h .leads))))
+    blocked-first p clear h n q (inr (inl (e, f))) =
+        ⊎-elim inl (λ (d : p ≡ q). inr (d, omega arith)) (no-less (clear-before too-deep p q clear (deep-refused q f)))
+    blocked-first p clear h n q (inr (inr (e, f))) =
+        ⊎-elim inl (λ (d : p ≡ q). inr (d, omega arith)) (no-less (clear-before unknown-child p q clear (unknown-refused q f)))
+
+    module _ (number p : ℕ) (clear : Clear (tagFault names chosen) before s p) (h : Judged (tagFault names chosen) before s p number) where
+      -- a tag told and another that is refused
+      tag-first : (n q : ℕ) → Refused n q → Earlier number p n q
+      tag-first n q r = ⊎-elim inl (λ (d : p ≡ q). inr (d, least d)) (no-less (clear-before n p q clear r))
+        where
+          least : p ≡ q → number ≤ n
+          least d =
+              let same : r .0 ≡ h .met-tag = met-single before p s (h .is-met) (subst (λ z. In (r .0) (metAt before z s)) (sym d) (r .1)) in
+              let told : tagFault names chosen (r .0) ≡ number = ap (tagFault names chosen) same ∙ h .judged in
+              let most : tagFault names chosen (r .0) ≤ n = r .2 .1 in
+              omega arith
+
+      -- reading that stops at a tag tells the first fault
+      judged-first : (n q : ℕ) → Fault names chosen s n q → Earlier number p n q
+      judged-first n q (inl (e, f)) =
+          let here = met-is-here before p s (h .is-met) in
+          let later : q < suc p → ⊥ = impossible-after (suc p) q f (begins-plan (suc p) (here .within) (here .leads)) in
+          inl (omega arith)
+      judged-first n q (inr (inl (e, f))) = tag-first n q (subst (λ z. Refused z q) (sym e) (deep-refused q f))
+      judged-first n q (inr (inr (e, f))) = tag-first n q (subst (λ z. Refused z q) (sym e) (unknown-refused q f))
+
+    -- ---- what is claimed
+
+    -- what a refusal tells
+    outcome-first : Outcome (tagFault names chosen) before 0 s (readPlan names chosen s) → 0 < readPlan names chosen s .number →
+        First names chosen s (readPlan names chosen s .number) (readPlan names chosen s .place)
+    outcome-first (accepted n l ts c) some = let z : ⊥ = omega (arith, n, some) in absurd z
+    outcome-first (blocked i at c n h) some =
+        let place : i ≡ readPlan names chosen s .place = omega (arith, at) in
+        subst (λ z. First names chosen s z (readPlan names chosen s .place)) (sym n)
+        (subst (λ z. First names chosen s bad-plan z) place
+        (record { fault = inl (refl, is-impossible i h); first = blocked-first i c h }))
+    outcome-first (judged-at i at c h) some =
+        let number = readPlan names chosen s .number in
+        let place : i ≡ readPlan names chosen s .place = omega (arith, at) in
+        subst (λ z. First names chosen s number z) place
+        (record { fault = refused-fault i number h; first = judged-first number i c h })

@@ -8,7 +8,7 @@ use lib.ListN.{length}
 use Rattle.base.specs.Lists.{same, hasRow}
 use Rattle.base.specs.Limits.{plan-depth, too-deep, unknown-child, when, firstOf}
 use Rattle.base.proofs.Tests.{Tells, not-told, tells-and, tells-by, tells-hasRow, tells-leb, tells-not, tells-same}
-use Rattle.written_plans.specs.Written.{Tag, tag, ChildOf}
+use Rattle.written_plans.specs.Written.{Tag, ChildOf}
 use Rattle.written_plans.specs.Reading.{isChild, tagFault}
 
 -- the tag of an element inside too many others
@@ -49,9 +49,3 @@ verdict names chosen t = look (leb plan-depth (length (t .around))) (isChild cho
     look true y d e = deep (ap₂ numberFor d e) (tells-deep .fact d)
     look false true d e = unknown (ap₂ numberFor d e) (not-told tells-deep d) (tells-unknown .fact e)
     look false false d e = fine (ap₂ numberFor d e) (not-told tells-deep d) (not-told tells-unknown e)
-
--- the bytes that follow a tag do not matter
-pub same-fault : (names : List (List ℕ)) (chosen : List ℕ) (t : Tag) (s : List ℕ) →
-    tagFault names chosen (tag (t .around) (t .name) s) ≡ tagFault names chosen t
-unfolding tagFault
-same-fault names chosen t s = refl
