@@ -179,3 +179,38 @@ module _
         let place : i ≡ readPlan names chosen s .place = omega (arith, at) in
         subst (λ z. First names chosen s number z) place
         (record { fault = refused-fault i number h; first = judged-first number i c h })
+
+    -- what no refusal tells: the bytes lead to the end, the tags met are all, and none is refused
+    outcome-none : Outcome (tagFault names chosen) before 0 s (readPlan names chosen s) → readPlan names chosen s .number ≡ 0 →
+        (run before s ≡ go after)
+        × (readPlan names chosen s .met-tags ≡ tagsFrom before s)
+        × ((p : ℕ) (t : Tag) → In t (metAt before p s) → tagFault names chosen t ≡ 0)
+    outcome-none (accepted n l ts c) none = (l, ts, c)
+    outcome-none (blocked i at c n h) none = let z : ⊥ = omega (arith, n, none) in absurd z
+    outcome-none (judged-at i at c h) none = let z : ⊥ = omega (arith, h .refused, none) in absurd z
+
+    -- bytes that lead to the end and have no tag that is refused have no fault
+    none-faultless : run before s ≡ go after → ((p : ℕ) (t : Tag) → In t (metAt before p s) → tagFault names chosen t ≡ 0) →
+        Faultless names chosen s
+    none-faultless l c n q (inl (e, f)) = let whole = run-plan s l in f .not-here (whole .0) (ap (take (suc q)) (whole .1))
+    none-faultless l c n q (inr (inl (e, f))) =
+        clear-before too-deep (suc q) q (λ j t less m. c j t m) (deep-refused q f) (omega arith)
+    none-faultless l c n q (inr (inr (e, f))) =
+        clear-before unknown-child (suc q) q (λ j t less m. c j t m) (unknown-refused q f) (omega arith)
+
+    -- the reading of any bytes tells their first fault, or that they are a plan without a fault
+    pub reading-tells-by : ReadingTells names chosen s
+    unfolding readPlan
+    reading-tells-by =
+        let o : Outcome (tagFault names chosen) before 0 s (readPlan names chosen s) = outcome (tagFault names chosen) before 0 s in
+        record {
+          first = outcome-first o;
+          is-plan = λ none. run-plan s (outcome-none o none .0);
+          faultless = λ none. let h = outcome-none o none in none-faultless (h .0) (h .2);
+          tags-are = λ none plan e. outcome-none o none .1 ∙ ap (tagsFrom before) (sym e) ∙ plan-tags plan;
+          accepts = λ plan e free.
+              ⊎-elim (λ (few : readPlan names chosen s .number ≤ 0). omega arith)
+              (λ (some : 0 < readPlan names chosen s .number). absurd (free (readPlan names chosen s .number)
+              (readPlan names chosen s .place) (outcome-first o some .fault)))
+              (le-or-lt (readPlan names chosen s .number) 0);
+        }
