@@ -6,3 +6,4 @@ pub mod MetLaws
 pub mod Outcomes
 pub mod TagFaults
 pub mod FirstFault
+pub mod Passages
