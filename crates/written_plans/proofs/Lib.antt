@@ -1,9 +1,23 @@
--- The theory of plans: Runs is reading without its answers, MetLaws has its laws, and Outcomes says what reading comes to; NameRule is the
--- rule of names. Assumes nothing.
+-- The theory of plans. Assumes nothing.
+-- Runs: reading without its answers
 pub mod Runs
+-- NameRule: the laws of names that the other files use
 pub mod NameRule
+-- Rests: what may stand from a place on, so that the whole is a plan
+pub mod Rests
+-- Elements: an element made of its name and what may follow the name
+pub mod Elements
+-- StepsBack: one step of reading, from its end to its beginning
+pub mod StepsBack
+-- Soundness: bytes that can be read to the end are a plan
+pub mod Soundness
+-- MetLaws: one step of reading, and the byte where a tag is met
 pub mod MetLaws
+-- Outcomes: what reading comes to
 pub mod Outcomes
+-- TagFaults: what a tag is refused for
 pub mod TagFaults
-pub mod FirstFault
+-- Passages: every plan can be read, and the tags met are its tags
 pub mod Passages
+-- FirstFault: reading tells the first fault of all
+pub mod FirstFault

@@ -59,13 +59,15 @@ pub name-rest : (n : List ℕ) → beginsName n ≡ true → nameOk (n ++ nameRe
 unfolding beginsName nameRest
 name-rest n begins = subst (λ z. nameOk z ≡ true) (sym (append-nil n)) begins
 
--- white space, `/` and `>` stand in no name
+-- white space stands in no name
 pub name-white : (n m : List ℕ) (b : ℕ) → nameOk (n ++ (b ∷ m)) ≡ true → isWhite b ≡ false
 name-white n m b ok =
     or-false (or-false (other n m b 32 ok refl) (other n m b 9 ok refl)) (or-false (other n m b 13 ok refl) (other n m b 10 ok refl))
 
+-- nor does `/`
 pub name-slash : (n m : List ℕ) (b : ℕ) → nameOk (n ++ (b ∷ m)) ≡ true → eqb b slash ≡ false
 name-slash n m b ok = other n m b slash ok refl
 
+-- nor does `>`
 pub name-greater : (n m : List ℕ) (b : ℕ) → nameOk (n ++ (b ∷ m)) ≡ true → eqb b greater ≡ false
 name-greater n m b ok = other n m b greater ok refl
