@@ -17,7 +17,11 @@ pub mod MetLaws
 pub mod Outcomes
 -- TagFaults: what a tag is refused for
 pub mod TagFaults
--- Passages: every plan can be read, and the tags met are its tags
-pub mod Passages
+-- WrittenRuns: every plan can be read to its end, and the tags met are its tags
+pub mod WrittenRuns
+-- Completions: what can be read can be completed to a plan
+pub mod Completions
+-- Rows: the rows of a plan's tags are its traces
+pub mod Rows
 -- FirstFault: reading tells the first fault of all
 pub mod FirstFault

@@ -7,6 +7,7 @@ use Prim.Native.Nat.{ℕ, _≤_, _<_}
 use native.Mathlib.Omega.{arith}
 use lib.Dec.{eqb}
 use lib.ListN.{length, length-append}
+use Rattle.base.specs.Lists.{all}
 use Rattle.base.specs.Limits.{name-bytes}
 use Rattle.base.proofs.Tests.{Tells, tells-eqb, tells-leb, tells-and, tells-itself, tells-all, told-false, or-false}
 use Rattle.model.specs.Fields.{nameOk, startsName, continuesName}
@@ -39,6 +40,11 @@ other n m b x ok e =
 pub name-not-empty : nameOk [] ≡ false
 unfolding nameOk
 name-not-empty = refl
+
+-- `a` is a name
+pub a-name : nameOk (97 ∷ []) ≡ true
+unfolding nameOk all
+a-name = refl
 
 -- every beginning of a name that has a byte begins a name
 pub name-begins : (n m : List ℕ) → nameOk (n ++ m) ≡ true → 0 < length n → beginsName n ≡ true

@@ -15,7 +15,7 @@ use Rattle.written_plans.proofs.Rests.{Inside, Left, Ending, Ends, Name
 use Rattle.written_plans.proofs.Elements.{none, white-more, more, outermost, inner}
 
 -- what is so of either outcome of a test is so of the choice by it
-by-test : (P : Next → Type 0) (b : Bool) {x y : Next} → (b ≡ true → P x) → (b ≡ false → P y) → P (cond b x y)
+pub by-test : (P : Next → Type 0) (b : Bool) {x y : Next} → (b ≡ true → P x) → (b ≡ false → P y) → P (cond b x y)
 by-test P true f g = f refl
 by-test P false f g = g refl
 
