@@ -1,5 +1,6 @@
--- The reading of a plan tells the first of its faults, or that there is none. From what reading comes to (Outcomes) and from what plans and
--- readings have to do with each other, which the section below takes as its hypotheses. Assumes nothing else.
+-- The reading of a plan tells the first of its faults, or that there is none: what reading comes to (Outcomes), put in terms of plans by
+-- the theorems that bytes read to the end are a plan, that every plan is read to its end with its tags, and that what is read can be
+-- completed. Assumes nothing.
 use mathlib.Core.Path.{_≡_, refl, sym, ap, _∙_, subst}
 use mathlib.Core.Logic.{_⊎_, inl, inr, ⊎-elim}
 use mathlib.Core.List.{List, [], _∷_, _++_, List·Memᴰ as In}
@@ -14,6 +15,9 @@ use Rattle.written_plans.specs.Reading.{Place, before, after, go, readPl
 use Rattle.written_plans.specs.Claims.{Faultless, ReadingTells}
 use Rattle.written_plans.proofs.Runs.{run, tagsFrom, metAt}
 use Rattle.written_plans.proofs.MetLaws.{run-front, tag-met, met-tag, met-is-here, met-onward, met-single, met-moves}
+use Rattle.written_plans.proofs.Soundness.{run-plan}
+use Rattle.written_plans.proofs.WrittenRuns.{plan-runs, plan-tags}
+use Rattle.written_plans.proofs.Completions.{completes}
 use Rattle.written_plans.proofs.Outcomes.{Blocked, Judged, Clear, Outcome, accepted, blocked, judged-at, outcome}
 use Rattle.written_plans.proofs.TagFaults.{TooDeep, UnknownChild, Verdict, fine, deep, unknown, verdict}
 
@@ -31,12 +35,7 @@ take-fewer s u p q h e = sym (take-take p q u h) ∙ ap (take p) e ∙ take-take
 no-less : {p q : ℕ} → (q < p → ⊥) → (p < q) ⊎ (p ≡ q)
 no-less {p} {q} h = ⊎-elim (λ (more : suc p ≤ q). inl more) (λ (few : q < suc p). inr (omega arith)) (le-or-lt (suc p) q)
 
-module _
-    (run-plan : (s : List ℕ) → run before s ≡ go after → (plan : Plan) × (planBytes plan ≡ s))
-    (plan-runs : (plan : Plan) → run before (planBytes plan) ≡ go after)
-    (completes : (s : List ℕ) (q : Place) → run before s ≡ go q → (t : List ℕ) × (run q t ≡ go after))
-    (plan-tags : (plan : Plan) → tagsFrom before (planBytes plan) ≡ planTags plan)
-    (s : List ℕ) where
+module _ (s : List ℕ) where
   -- ---- plans and the bytes read
 
   -- some plan begins with bytes that can be read
@@ -198,19 +197,19 @@ module _
     none-faultless l c n q (inr (inr (e, f))) =
         clear-before unknown-child (suc q) q (λ j t less m. c j t m) (unknown-refused q f) (omega arith)
 
-    -- the reading of any bytes tells their first fault, or that they are a plan without a fault
-    pub reading-tells-by : ReadingTells names chosen s
-    unfolding readPlan
-    reading-tells-by =
-        let o : Outcome (tagFault names chosen) before 0 s (readPlan names chosen s) = outcome (tagFault names chosen) before 0 s in
-        record {
-          first = outcome-first o;
-          is-plan = λ none. run-plan s (outcome-none o none .0);
-          faultless = λ none. let h = outcome-none o none in none-faultless (h .0) (h .2);
-          tags-are = λ none plan e. outcome-none o none .1 ∙ ap (tagsFrom before) (sym e) ∙ plan-tags plan;
-          accepts = λ plan e free.
-              ⊎-elim (λ (few : readPlan names chosen s .number ≤ 0). omega arith)
-              (λ (some : 0 < readPlan names chosen s .number). absurd (free (readPlan names chosen s .number)
-              (readPlan names chosen s .place) (outcome-first o some .fault)))
-              (le-or-lt (readPlan names chosen s .number) 0);
-        }
+-- the reading of any bytes tells their first fault, or that they are a plan without a fault
+pub reading-tells : (names : List (List ℕ)) (chosen s : List ℕ) → ReadingTells names chosen s
+unfolding readPlan
+reading-tells names chosen s =
+    let o : Outcome (tagFault names chosen) before 0 s (readPlan names chosen s) = outcome (tagFault names chosen) before 0 s in
+    let number = readPlan names chosen s .number in
+    let told = outcome-first s names chosen o in
+    record {
+      first = told;
+      is-plan = λ none. run-plan s (outcome-none s names chosen o none .0);
+      faultless = λ none. let h = outcome-none s names chosen o none in none-faultless s names chosen (h .0) (h .2);
+      tags-are = λ none plan e. outcome-none s names chosen o none .1 ∙ ap (tagsFrom before) (sym e) ∙ plan-tags plan;
+      accepts = λ plan e free.
+          ⊎-elim (λ (few : number ≤ 0). omega arith) (λ (some : 0 < number). absurd (free number _ (told some .fault)))
+          (le-or-lt number 0);
+    }
