@@ -3,18 +3,19 @@
 -- completed. Assumes nothing.
 use mathlib.Core.Path.{_≡_, refl, sym, ap, _∙_, subst}
 use mathlib.Core.Logic.{_⊎_, inl, inr, ⊎-elim}
-use mathlib.Core.List.{List, [], _∷_, _++_, List·Memᴰ as In}
+use mathlib.Core.List.{List, _++_, List·Memᴰ as In}
 use Prim.Native.Nat.{ℕ, suc, _-_, _≤_, _<_}
 use native.Mathlib.Omega.{arith}
 use lib.ListN.{length, take, drop, length-drop}
 use lib.Seq.{length-take-le, take-at, take-take}
 use Rattle.base.specs.Limits.{bad-plan, too-deep, unknown-child}
 use Rattle.base.proofs.Tests.{le-or-lt}
-use Rattle.written_plans.specs.Written.{Plan, planBytes, planTags, Tag, tag, Impossible, TagAt, Deep, Unknown, Fault, First}
+use Rattle.written_plans.specs.Written.{Plan, planBytes, Tag, tag, Impossible, TagAt, Deep, Unknown, Fault, First}
 use Rattle.written_plans.specs.Reading.{Place, before, after, go, readPlan, tagFault}
 use Rattle.written_plans.specs.Claims.{Faultless, ReadingTells}
 use Rattle.written_plans.proofs.Runs.{run, tagsFrom, metAt}
-use Rattle.written_plans.proofs.MetLaws.{run-front, tag-met, met-tag, met-is-here, met-onward, met-single, met-moves}
+use Rattle.written_plans.proofs.Steps.{run-front}
+use Rattle.written_plans.proofs.MetLaws.{tag-met, met-tag, met-is-here, met-onward, met-single, met-moves}
 use Rattle.written_plans.proofs.Soundness.{run-plan}
 use Rattle.written_plans.proofs.WrittenRuns.{plan-runs, plan-tags}
 use Rattle.written_plans.proofs.Completions.{completes}
@@ -86,15 +87,17 @@ module _ (s : List ℕ) where
     Refused number p =
         (t : Tag) × In t (metAt before p s) × ((0 < tagFault names chosen t) × (tagFault names chosen t ≤ number))
 
-    -- a tag of a plan that is too deep or unknown is met and refused
+    -- a tag of a plan that is too deep is met and refused
     deep-refused : (p : ℕ) → Deep s p → Refused too-deep p
-    deep-refused p (t, at, far) = let u = tag (t .around) (t .name) (drop p s) in (u, tag-is-met p t at, look u far (verdict names chosen u))
+    deep-refused p (t, at, far) =
+        let u = tag (t .around) (t .name) (drop p s) in (u, tag-is-met p t at, look u far (verdict names chosen u))
       where
         look : (u : Tag) → TooDeep u → Verdict names chosen u → (0 < tagFault names chosen u) × (tagFault names chosen u ≤ too-deep)
         look u d (fine e near o) = absurd (near d)
         look u d (deep e h) = (omega arith, omega arith)
         look u d (unknown e near o) = absurd (near d)
 
+    -- and so is one that is an unknown child
     unknown-refused : (p : ℕ) → Unknown names chosen s p → Refused unknown-child p
     unknown-refused p (t, at, child, other) =
         let u = tag (t .around) (t .name) (drop p s) in (u, tag-is-met p t at, look u (child, other) (verdict names chosen u))
@@ -112,7 +115,8 @@ module _ (s : List ℕ) where
         look : Verdict names chosen (h .met-tag) → Fault names chosen s number p
         look (fine e d o) = let z : ⊥ = omega (arith, e, h .judged, h .refused) in absurd z
         look (deep e d) =
-            let at = has-tag p (h .is-met) in inr (inl (sym (h .judged) ∙ e, (tag (h .met-tag .around) (h .met-tag .name) (at .0), at .1, d)))
+            let at = has-tag p (h .is-met) in
+            inr (inl (sym (h .judged) ∙ e, (tag (h .met-tag .around) (h .met-tag .name) (at .0), at .1, d)))
         look (unknown e d o) =
             let at = has-tag p (h .is-met) in
             inr (inr (sym (h .judged) ∙ e, (tag (h .met-tag .around) (h .met-tag .name) (at .0), at .1, o .0, o .1)))

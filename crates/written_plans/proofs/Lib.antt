@@ -11,7 +11,9 @@ pub mod Elements
 pub mod StepsBack
 -- Soundness: bytes that can be read to the end are a plan
 pub mod Soundness
--- MetLaws: one step of reading, and the byte where a tag is met
+-- Steps: one step of reading
+pub mod Steps
+-- MetLaws: the byte where a tag is met
 pub mod MetLaws
 -- Outcomes: what reading comes to
 pub mod Outcomes

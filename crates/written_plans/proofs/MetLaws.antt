@@ -1,6 +1,6 @@
--- Laws of reading without its answers: one step at a time, over a front, and at which byte a tag is met. Assumes nothing.
-use mathlib.Core.Path.{_≡_, refl, sym, ap, ap₂, _∙_, subst}
-use mathlib.Core.Logic.{_⊎_, inl, inr, ⊎-elim}
+-- At which byte a tag is met: each tag at one, each byte at most one, and which one depends on the bytes up to it only. Assumes nothing.
+use mathlib.Core.Path.{_≡_, refl, sym, ap, _∙_, subst}
+use mathlib.Core.Logic.{⊎-elim}
 use mathlib.Core.Bool.{Bool, true, false, cond}
 use mathlib.Core.List.{List, [], _∷_, _++_, List·Memᴰ as In, List·Memᴰ·head as here, List·Memᴰ·not-nil, List·Memᴰ·append-cases}
 use mathlib.Core.List.{List·Memᴰ·eq-of-singleton, Memᴰ·append-left, Memᴰ·append-right}
@@ -10,101 +10,12 @@ use native.Mathlib.Omega.{arith}
 use lib.ListN.{length, take, drop}
 use Rattle.written_plans.specs.Written.{Tag, tag}
 use Rattle.written_plans.specs.Reading.{Place, before, inside, opened, naming, named, emptied, closing, after}
-use Rattle.written_plans.specs.Reading.{Next, stop, go, step, met, beginsName}
+use Rattle.written_plans.specs.Reading.{go, step, met, beginsName}
 use Rattle.written_plans.proofs.Runs.{run, tagsFrom, metAt}
+use Rattle.written_plans.proofs.Steps.{Stepped, stops, goes, stepped, run-nil, run-goes, tags-stop, tags-go}
+use Rattle.written_plans.proofs.Steps.{met-nil, met-stops, met-here, met-later}
 
--- ---- one step
-
--- a byte stops reading, or leads to a place
-pub data Stepped (q : Place) (b : ℕ) : Type 0 where
-  stops : step q b ≡ stop → Stepped q b
-  goes : (r : Place) → step q b ≡ go r → Stepped q b
-
-pub stepped : (q : Place) (b : ℕ) → Stepped q b
-stepped q b = look (step q b) refl
-  where
-    look : (x : Next) → step q b ≡ x → Stepped q b
-    look stop e = stops e
-    look (go r) e = goes r e
-
--- a place is no stop
-abbrev GoesOn : Next → Type 0
-GoesOn stop = ⊥
-GoesOn (go r) = Unit {0}
-
-pub go≢stop : {r : Place} → go r ≡ stop → ⊥
-go≢stop e = subst GoesOn e tt
-
--- places led to are equal
-pub go-eq : {q r : Place} → go q ≡ go r → q ≡ r
-go-eq {q} e = ap (λ (x : Next). elim x [ stop ↦ q | go z ↦ z ]) e
-
-module _ (q : Place) (b : ℕ) (s : List ℕ) (e : step q b ≡ stop) where
-  pub run-stops : run q (b ∷ s) ≡ stop
-  unfolding run
-  run-stops = ap (λ (x : Next). elim x [ stop ↦ stop | go r ↦ run r s ]) e
-
-  pub tags-stop : tagsFrom q (b ∷ s) ≡ []
-  unfolding tagsFrom
-  tags-stop = ap (λ (x : Next). elim x as (λ _. List Tag) [ stop ↦ [] | go r ↦ met q b s ++ tagsFrom r s ]) e
-
-  pub met-stops : (p : ℕ) → metAt q p (b ∷ s) ≡ []
-  unfolding metAt
-  met-stops zero = ap (λ (x : Next). elim x as (λ _. List Tag) [ stop ↦ [] | go r ↦ met q b s ]) e
-  met-stops (suc p) = ap (λ (x : Next). elim x as (λ _. List Tag) [ stop ↦ [] | go r ↦ metAt r p s ]) e
-
-module _ (q : Place) {r : Place} (b : ℕ) (s : List ℕ) (e : step q b ≡ go r) where
-  pub run-goes : run q (b ∷ s) ≡ run r s
-  unfolding run
-  run-goes = ap (λ (x : Next). elim x [ stop ↦ stop | go z ↦ run z s ]) e
-
-  pub tags-go : tagsFrom q (b ∷ s) ≡ met q b s ++ tagsFrom r s
-  unfolding tagsFrom
-  tags-go = ap (λ (x : Next). elim x as (λ _. List Tag) [ stop ↦ [] | go z ↦ met q b s ++ tagsFrom z s ]) e
-
-  pub met-here : metAt q zero (b ∷ s) ≡ met q b s
-  unfolding metAt
-  met-here = ap (λ (x : Next). elim x as (λ _. List Tag) [ stop ↦ [] | go z ↦ met q b s ]) e
-
-  pub met-later : (p : ℕ) → metAt q (suc p) (b ∷ s) ≡ metAt r p s
-  unfolding metAt
-  met-later p = ap (λ (x : Next). elim x as (λ _. List Tag) [ stop ↦ [] | go z ↦ metAt z p s ]) e
-
-pub run-nil : (q : Place) → run q [] ≡ go q
-unfolding run
-run-nil q = refl
-
--- no tag is met past the end
-pub met-nil : (q : Place) (p : ℕ) → metAt q p [] ≡ []
-unfolding metAt
-met-nil q zero = refl
-met-nil q (suc p) = refl
-
--- ---- over a front
-
--- bytes that lead to a place, and what follows them
-pub run-front : (q : Place) {r : Place} (s t : List ℕ) → run q s ≡ go r → run q (s ++ t) ≡ run r t
-run-front q [] t e = ap (λ (z : Place). run z t) (go-eq (sym (run-nil q) ∙ e))
-run-front q {r} (b ∷ s) t e = look (stepped q b) (λ z. run-front z s t)
-  where
-    look : Stepped q b → ((z : Place) → run z s ≡ go r → run z (s ++ t) ≡ run r t) → run q (b ∷ (s ++ t)) ≡ run r t
-    look (stops d) again = absurd (go≢stop (sym e ∙ run-stops q b s d))
-    look (goes z d) again = run-goes q b (s ++ t) d ∙ again z (sym (run-goes q b s d) ∙ e)
-
--- bytes that lead somewhere: so does each front of them
-pub front-runs : (q : Place) {r : Place} (s t : List ℕ) → run q (s ++ t) ≡ go r → (z : Place) × (run q s ≡ go z)
-front-runs q [] t e = (q, run-nil q)
-front-runs q {r} (b ∷ s) t e = look (stepped q b) (λ z. front-runs z s t)
-  where
-    look :
-        Stepped q b → ((z : Place) → run z (s ++ t) ≡ go r → (y : Place) × (run z s ≡ go y)) →
-        (y : Place) × (run q (b ∷ s) ≡ go y)
-    look (stops d) again = absurd (go≢stop (sym e ∙ run-stops q b (s ++ t) d))
-    look (goes z d) again = let h = again z (sym (run-goes q b (s ++ t) d) ∙ e) in (h .0, run-goes q b s d ∙ h .1)
-
--- ---- tags and the bytes where they are met
-
--- every tag is met at some byte, and what is met at a byte is one of the tags
+-- every tag is met at some byte
 pub tag-met : (q : Place) (s : List ℕ) {t : Tag} → In t (tagsFrom q s) → (p : ℕ) × In t (metAt q p s)
 unfolding tagsFrom
 tag-met q [] m = absurd (List·Memᴰ·not-nil m)
@@ -117,6 +28,7 @@ tag-met q (b ∷ s) {t} m = look (stepped q b) (λ z. tag-met z s)
         (λ n. let h = again r n in (suc (h .0), subst (λ z. In t z) (sym (met-later q b s e (h .0))) (h .1)))
         (List·Memᴰ·append-cases (met q b s) (subst (λ z. In t z) (tags-go q b s e) m))
 
+-- and what is met at a byte is one of the tags
 pub met-tag : (q : Place) (p : ℕ) (s : List ℕ) {t : Tag} → In t (metAt q p s) → In t (tagsFrom q s)
 met-tag q p [] {t} m = absurd (List·Memᴰ·not-nil (subst (λ z. In t z) (met-nil q p) m))
 met-tag q zero (b ∷ s) {t} m = look (stepped q b)
@@ -137,6 +49,7 @@ pub data Meets (q : Place) (b : ℕ) : Type 0 where
   none : ((s : List ℕ) → met q b s ≡ []) → Meets q b
   one : (around : List (List ℕ)) (name : List ℕ) → ((s : List ℕ) → met q b s ≡ tag around name (b ∷ s) ∷ []) → Meets q b
 
+-- one of the two
 pub meets : (q : Place) (b : ℕ) → Meets q b
 unfolding met
 meets before b = none (λ s. refl)
@@ -169,6 +82,7 @@ met-first q b s {t} (goes r e) m = look (meets q b)
     one-tag a n f (c ∷ u) d =
         let same : c ≡ b = head-eq-of-cons-eq d in
         subst (λ z. metAt q zero (z ∷ u) ≡ tag a n (z ∷ u) ∷ []) (sym same) (met-here q b u e ∙ f u)
+
     look : Meets q b → MetHere q zero (b ∷ s) t
     look (none f) = absurd (List·Memᴰ·not-nil (subst (λ z. In t z) (met-here q b s e ∙ f s) m))
     look (one a n f) =

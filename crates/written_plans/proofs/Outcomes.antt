@@ -1,6 +1,5 @@
 -- What reading comes to, in terms of run, tagsFrom and metAt: accepted, or refused at a byte with no fault before it. Assumes nothing.
 use mathlib.Core.Path.{_≡_, refl, sym, ap, _∙_, subst}
-use mathlib.Core.Logic.{_⊎_, inl, inr, ⊎-elim}
 use mathlib.Core.Bool.{Bool, true, false}
 use mathlib.Core.List.{List, [], _∷_, _++_, List·Memᴰ as In, List·Memᴰ·head as here, List·Memᴰ·not-nil}
 use mathlib.Core.List.{List·Memᴰ·eq-of-singleton, head-eq-of-cons-eq, tail-eq-of-cons-eq, nil≢cons, cons≢nil}
@@ -15,8 +14,9 @@ use Rattle.written_plans.specs.Written.{Tag, tag}
 use Rattle.written_plans.specs.Reading.{Place, before, inside, opened, naming, named, emptied, closing, after}
 use Rattle.written_plans.specs.Reading.{Next, stop, go, step, met, Reading, refusedAt, ended, withTags, tagsFault, readFrom}
 use Rattle.written_plans.proofs.Runs.{run, tagsFrom, metAt}
-use Rattle.written_plans.proofs.MetLaws.{Stepped, stops, goes, stepped, go≢stop, go-eq, run-stops, run-goes, run-nil, tags-go}
-use Rattle.written_plans.proofs.MetLaws.{met-here, met-later, met-nil, Meets, none, one, meets}
+use Rattle.written_plans.proofs.Steps.{Stepped, stops, goes, stepped, go≢stop, go-eq, run-stops, run-goes, run-nil, tags-go}
+use Rattle.written_plans.proofs.Steps.{met-here, met-later, met-nil}
+use Rattle.written_plans.proofs.MetLaws.{Meets, none, one, meets}
 
 -- nothing that begins with the bytes up to and including the one at i can be read to the end, but the bytes before can be read
 pub record Blocked (q : Place) (s : List ℕ) (i : ℕ) : Type 0 where
@@ -44,7 +44,7 @@ pub data Outcome (judge : Tag → ℕ) (q : Place) (p : ℕ) (s : List ℕ) (r :
 
 -- ---- the end of the bytes
 
--- reading is at the end exactly after the outermost element
+-- the end of the bytes is right after the outermost element, or too early
 data Ended (q : Place) (p : ℕ) : Type 0 where
   whole : q ≡ after → ended q p ≡ refusedAt 0 0 → Ended q p
   early : (q ≡ after → ⊥) → ended q p ≡ refusedAt bad-plan p → Ended q p
@@ -60,9 +60,11 @@ IsAfter (emptied around) = ⊥
 IsAfter (closing due around) = ⊥
 IsAfter after = Unit {0}
 
+-- a place equal to the one after the outermost element
 is-after : {q : Place} → q ≡ after → IsAfter q
 is-after e = subst IsAfter (sym e) tt
 
+-- one of the two
 how-ended : (q : Place) (p : ℕ) → Ended q p
 unfolding ended
 how-ended before p = early (λ e. is-after e) refl
@@ -74,6 +76,7 @@ how-ended (emptied around) p = early (λ e. is-after e) refl
 how-ended (closing due around) p = early (λ e. is-after e) refl
 how-ended after p = whole refl refl
 
+-- at any other place the end of the bytes does not lead there
 nothing-else : {q : Place} → (q ≡ after → ⊥) → (u : List ℕ) → take 1 u ≡ [] → run q u ≡ go after → ⊥
 nothing-else {q} away [] d e = away (go-eq (sym (run-nil q) ∙ e))
 nothing-else away (b ∷ u) d e = cons≢nil d
@@ -82,6 +85,7 @@ nothing-else away (b ∷ u) d e = cons≢nil d
 clear-zero : (judge : Tag → ℕ) (q : Place) (s : List ℕ) → Clear judge q s 0
 clear-zero judge q s j t m = let z : ⊥ = omega arith in absurd z
 
+-- what reading comes to at the end of the bytes
 outcome-nil : (judge : Tag → ℕ) (q : Place) (p : ℕ) → Ended q p → Outcome judge q p [] (ended q p)
 unfolding tagsFrom
 outcome-nil judge q p (whole e f) =
@@ -103,6 +107,7 @@ module _ (judge : Tag → ℕ) (q : Place) (p b : ℕ) (s : List ℕ) where
   onward r fault =
       elim (eqb fault 0) [ true ↦ withTags (met q b s) (readFrom judge r (suc p) s) | false ↦ refusedAt fault p ]
 
+  -- reading, where the byte stops it and where it leads to a place
   read-stops : step q b ≡ stop → readFrom judge q p (b ∷ s) ≡ refusedAt bad-plan p
   unfolding readFrom
   read-stops e = ap (λ (x : Next). elim x [ stop ↦ refusedAt bad-plan p | go r ↦ onward r faultHere ]) e
@@ -150,6 +155,7 @@ module _ (judge : Tag → ℕ) (q : Place) (p b : ℕ) (s : List ℕ) where
       clear-on i c zero t h m = sym (fault-of (subst (λ z. In t z) (met-here q b s e) m)) ∙ fine
       clear-on i c (suc j) t h m = c j t (omega arith) (subst (λ z. In t z) (met-later q b s e j) m)
 
+      -- no tag at all is refused
       all-fine : ((j : ℕ) (t : Tag) → In t (metAt r j s) → judge t ≡ 0) → (j : ℕ) (t : Tag) → In t (metAt q j (b ∷ s)) → judge t ≡ 0
       all-fine c j t m = clear-on (suc j) (λ k v h. c k v) j t (omega arith) m
 
@@ -164,6 +170,7 @@ module _ (judge : Tag → ℕ) (q : Place) (p b : ℕ) (s : List ℕ) where
           ends-not (c ∷ u) d f =
               h .ends-not u (tail-eq-of-cons-eq d) (sym (run-goes q c u (ap (step q) (head-eq-of-cons-eq d) ∙ e)) ∙ f)
 
+      -- what is judged later
       judged-on : (i number : ℕ) → Judged judge r s i number → Judged judge q (b ∷ s) (suc i) number
       judged-on i number h =
           record {
@@ -184,6 +191,7 @@ module _ (judge : Tag → ℕ) (q : Place) (p b : ℕ) (s : List ℕ) where
           let next : suc p + i ≡ p + suc i = omega arith in
           judged-at (suc i) (at ∙ next) (clear-on i c) (judged-on i (x .number) h)
 
+    -- where the byte leads to a place
     outcome-goes : (x : Bool) → eqb faultHere 0 ≡ x → Outcome judge r (suc p) s (readFrom judge r (suc p) s)
         → Outcome judge q p (b ∷ s) (elim x [ true ↦ withTags (met q b s) (readFrom judge r (suc p) s) | false ↦ refusedAt faultHere p ])
     outcome-goes true f h = outcome-on (tells-eqb faultHere 0 .fact f) (readFrom judge r (suc p) s) h

@@ -5,7 +5,7 @@ use mathlib.Core.List.{List, [], _∷_, List·Memᴰ as In, head-eq-of-cons-eq, 
 use Prim.Native.Nat.{ℕ, _≤_}
 use lib.Dec.{leb}
 use lib.ListN.{length}
-use Rattle.base.specs.Lists.{same, hasRow}
+use Rattle.base.specs.Lists.{hasRow}
 use Rattle.base.specs.Limits.{plan-depth, too-deep, unknown-child, when, firstOf}
 use Rattle.base.proofs.Tests.{Tells, not-told, tells-and, tells-by, tells-hasRow, tells-leb, tells-not, tells-same}
 use Rattle.written_plans.specs.Written.{Tag, ChildOf}
@@ -19,6 +19,7 @@ TooDeep t = plan-depth ≤ length (t .around)
 abbrev pub UnknownChild : List (List ℕ) → List ℕ → Tag → Type 0
 UnknownChild names chosen t = ChildOf chosen t × (In (t .name) names → ⊥)
 
+-- the test of a child
 tells-child : (chosen : List ℕ) (around : List (List ℕ)) →
     Tells (isChild chosen around) ((others : List (List ℕ)) × (around ≡ chosen ∷ others))
 unfolding isChild
@@ -36,14 +37,17 @@ pub data Verdict (names : List (List ℕ)) (chosen : List ℕ) (t : Tag) : Type 
 abbrev numberFor : Bool → Bool → ℕ
 numberFor x y = firstOf (when x too-deep) (when y unknown-child)
 
+-- one of the three
 pub verdict : (names : List (List ℕ)) (chosen : List ℕ) (t : Tag) → Verdict names chosen t
 unfolding tagFault
 verdict names chosen t = look (leb plan-depth (length (t .around))) (isChild chosen (t .around) && not (hasRow (t .name) names)) refl refl
   where
     tells-deep : Tells (leb plan-depth (length (t .around))) (TooDeep t)
     tells-deep = tells-leb plan-depth (length (t .around))
+
     tells-unknown : Tells (isChild chosen (t .around) && not (hasRow (t .name) names)) (UnknownChild names chosen t)
     tells-unknown = tells-and (tells-child chosen (t .around)) (tells-not (tells-hasRow (t .name) names))
+
     look : (x y : Bool) → leb plan-depth (length (t .around)) ≡ x → (isChild chosen (t .around) && not (hasRow (t .name) names)) ≡ y
         → Verdict names chosen t
     look true y d e = deep (ap₂ numberFor d e) (tells-deep .fact d)

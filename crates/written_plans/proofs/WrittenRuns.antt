@@ -1,7 +1,7 @@
 -- Everything that is written can be read: the places that white space, names, tags and contents lead to, with the tags that are met on the
 -- way; so the tags met in a plan are its tags, and a plan leads to the place after it. Assumes nothing.
 use mathlib.Core.Path.{_≡_, refl, sym, ap, _∙_, subst}
-use mathlib.Core.Bool.{Bool, true, false, _||_, cond, true≢false, false≢true, and-eq-true-iff}
+use mathlib.Core.Bool.{true, false, _||_, true≢false, false≢true, and-eq-true-iff}
 use mathlib.Core.List.{List, [], _∷_, _++_, append-assoc, append-nil}
 use Prim.Native.Nat.{ℕ}
 use native.Mathlib.Omega.{arith}
@@ -17,7 +17,7 @@ use Rattle.written_plans.specs.Written.{Plan, planBytes, planTags, Tag, 
 use Rattle.written_plans.specs.Reading.{beginsName, Place, before, inside, opened, naming, named, emptied, closing, after}
 use Rattle.written_plans.specs.Reading.{go, leave, afterName, afterEnd, endBegins, step, met}
 use Rattle.written_plans.proofs.Runs.{run, tagsFrom}
-use Rattle.written_plans.proofs.MetLaws.{run-goes, tags-go, run-nil}
+use Rattle.written_plans.proofs.Steps.{run-goes, tags-go, run-nil}
 use Rattle.written_plans.proofs.NameRule.{name-not-empty, name-begins, nameRest, name-rest, name-white, name-slash, name-greater}
 
 -- reading at q with bytes s comes to r with u still to read, and meets these tags on the way
@@ -61,7 +61,7 @@ name-ends n b none =
     let longer = n ++ (b ∷ []) in
     told-false (tells-itself (beginsName longer))
     (λ begins. none (nameRest longer)
-        (subst (λ z. nameOk z ≡ true) (append-assoc n (b ∷ []) (nameRest longer)) (name-rest longer begins)))
+    (subst (λ z. nameOk z ≡ true) (append-assoc n (b ∷ []) (nameRest longer)) (name-rest longer begins)))
 
 -- white space ends a name
 pub white-ends : (n : List ℕ) (b : ℕ) → isWhite b ≡ true → beginsName (n ++ (b ∷ [])) ≡ false
@@ -88,7 +88,8 @@ pass-letter around n b s begins =
 -- the rest of a name
 pub pass-more-name : (around : List (List ℕ)) (n m s : List ℕ) → nameOk (n ++ m) ≡ true
     → Passes (naming around n) (m ++ s) [] (naming around (n ++ m)) s
-pass-more-name around n [] s ok = subst (λ z. Passes (naming around n) s [] (naming around z) s) (sym (append-nil n)) (stay (naming around n) s)
+pass-more-name around n [] s ok =
+    subst (λ z. Passes (naming around n) s [] (naming around z) s) (sym (append-nil n)) (stay (naming around n) s)
 pass-more-name around n (b ∷ m) s ok =
     let longer = n ++ (b ∷ []) in
     let grouped = append-assoc n (b ∷ []) m in
@@ -153,7 +154,7 @@ module _ (q : Place) (around : List (List ℕ)) (opens : (s : List ℕ) → Pass
       opens (n .bytes ++ (g .bytes ++ (greater ∷ s)))
       then pass-name around (n .bytes) (g .bytes ++ (greater ∷ s)) (n .allowed)
       then pass-after-name around (n .bytes) (g .bytes) greater s (inside (n .bytes) around) (n .allowed) (g .white)
-          (greater-ends (n .bytes)) refl
+      (greater-ends (n .bytes)) refl
 
   -- an empty-element tag leads past its element
   pub pass-empty : (n : Name) (g : Space) (s : List ℕ) → Passes q (emptyTag (n .bytes) (g .bytes) s)
@@ -237,10 +238,10 @@ pass-element c s single =
     by-element (λ c. Passes before (written c s) (tags [] c s) after s)
     (λ n g. pass-empty before [] pass-first n g s)
     (λ n g inner e.
-        let rest = endTag (n .bytes) (e .bytes) s in
-        pass-start before [] pass-first n g (written inner rest)
-        then pass-written (n .bytes) [] inner rest
-        then pass-end [] (n .bytes) e s)
+    let rest = endTag (n .bytes) (e .bytes) s in
+    pass-start before [] pass-first n g (written inner rest)
+    then pass-written (n .bytes) [] inner rest
+    then pass-end [] (n .bytes) e s)
     c single
 
 -- a plan leads to the place after it, with its tags
@@ -256,6 +257,7 @@ pass-plan plan =
     then pass-element (plan .element) end (plan .single)
     then last
 
+-- a plan is read to its end
 pub plan-runs : (plan : Plan) → run before (planBytes plan) ≡ go after
 plan-runs plan = pass-plan plan .runs ∙ run-nil after
 
