@@ -75,6 +75,11 @@ ElementFrom names s stack stack′ r from end (turn.Go t) =
 ElementFrom names s stack stack′ r from end (turn.Refused k p) =
     (k ≡ bad-plan) × Stops s (named (openNames s stack (r .depth)) (part s from end)) end p
 
+-- the same for all names among which the open elements' numbers stand on the stack, and this one is the number of the element's name
+pub record ElementAs (s stack stack′ : List ℕ) (r : Reached) (from end number : ℕ) (t : Turn) : Type 0 where
+  pub is : (names : List (List ℕ)) → Standing names s stack r → number ≡ numberOf names (part s from end)
+      → ElementFrom names s stack stack′ r from end t
+
 -- ---- one turn, and a whole plan
 
 -- an entry of the log by its parts

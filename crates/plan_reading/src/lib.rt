@@ -20,16 +20,13 @@ use name_search::STARTS;
 use name_search::index_names;
 use name_search::number_of;
 ghost use mathlib.Core.Path.{_≡_};
-ghost use mathlib.Core.List.{List};
-ghost use Prim.Native.Nat.{ℕ, _*_, _≤_, _<_};
+ghost use Prim.Native.Nat.{_*_, _≤_, _<_};
 ghost use lib.ListN.{length};
 ghost use Rattle.base.specs.Limits.{name-limit, plan-depth};
-ghost use Rattle.model.specs.Fields.{numberOf};
 ghost use Rattle.judging.specs.Offsets.{offsetAt};
 ghost use Rattle.name_search.specs.Search.{Indexed};
 ghost use Rattle.plan_reading.specs.Pieces.{NameHere, Stacked};
-ghost use Rattle.plan_reading.specs.Scanning.{part};
-ghost use Rattle.plan_reading.specs.Turns.{namesOf, chosenOf, judgeOf, Named, Room, Standing, TagJudged, ElementFrom};
+ghost use Rattle.plan_reading.specs.Turns.{namesOf, chosenOf, judgeOf, Named, Room, Standing, TagJudged, ElementAs};
 ghost use Rattle.plan_reading.specs.Turns.{TurnFrom, PlanReadAs};
 
 // What is looked for: how many names the list has, and which of them is chosen.
@@ -83,9 +80,7 @@ fn begin_element(
     requires { ⌜ r .at < from ⌝ }
     requires { ⌜ r .depth < plan-depth ⌝ }
     requires { ⌜ Stacked (now plan) (now stack) r ⌝ }
-    ensures { λ t. ⌜ (names : List (List ℕ)) → Standing names (now (plan .entry)) (now (stack .entry)) r
-        → number ≡ numberOf names (part (now (plan .entry)) from end)
-        → ElementFrom names (now (plan .entry)) (now (stack .entry)) (now (stack .exit)) r from end t ⌝ }
+    ensures { λ t. ⌜ ElementAs (now (plan .entry)) (now (stack .entry)) (now (stack .exit)) r from end number t ⌝ }
 {
     let close = tag_end(plan, end);
     match close {
@@ -110,7 +105,7 @@ fn begin_element(
 }
 
 // What stands next, up to the end of a tag: text, white space, and one tag.
-fn turn(
+fn read_piece(
     plan: &[u8],
     list: &[u8],
     starts: &[usize; STARTS],
@@ -162,7 +157,7 @@ pub fn read_plan(plan: &[u8], list: &[u8], sought: Sought, log: &mut [u8]) -> Pl
         tags: 0,
     };
     while r.at < plan.len() {
-        let next = turn(plan, list, &starts, sought, &mut stack, log, r);
+        let next = read_piece(plan, list, &starts, sought, &mut stack, log, r);
         match next {
             Turn::Go(q) => {
                 r = q;
