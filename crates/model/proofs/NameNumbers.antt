@@ -137,58 +137,52 @@ equal-numbers names a b m k e =
 -- ---- ascending names
 
 module _ (names : List (List ℕ)) (ascending : Ascends names) where
-  -- no name that ascends stands at two places
-  one-place : (i j : ℕ) → i < length names → j < length names → getD names i [] ≡ getD names j [] → i ≤ j
-  one-place i j h k e =
+  -- a name stands before none that has a lower place, nor before itself
+  not-before : (i j : ℕ) → i ≤ j → j < length names → before (getD names j []) (getD names i []) ≡ true → ⊥
+  not-before i j l h o =
+      ⊎-elim
+      (λ (q : j ≤ i).
+      let is : j ≡ i = omega arith in
+      before-self (getD names i []) (subst (λ (k : ℕ). before (getD names k []) (getD names i []) ≡ true) is o))
+      (λ (q : i < j).
+      before-self (getD names i [])
+      (before-trans (getD names i []) (getD names j []) (getD names i []) (ascending .in-order i j q h) o))
+      (le-or-lt j i)
+
+  -- a name before the one at place j stands at no place from j on
+  pub places-below :
+      (n : List ℕ) (j : ℕ) → before n (getD names j []) ≡ true → (i : ℕ) → i < length names → getD names i [] ≡ n → i < j
+  places-below n j o i h e =
+      ⊎-elim
+      (λ (l : j ≤ i). absurd (not-before j i l h (subst (λ (z : List ℕ). before z (getD names j []) ≡ true) (sym e) o)))
+      (λ (l : i < j). l) (le-or-lt j i)
+
+  -- and a name after that one stands at no place up to j
+  pub places-above :
+      (n : List ℕ) (j : ℕ) → j < length names → before (getD names j []) n ≡ true → (i : ℕ) → getD names i [] ≡ n → j < i
+  places-above n j h o i e =
+      ⊎-elim
+      (λ (l : i ≤ j). absurd (not-before i j l h (subst (λ (z : List ℕ). before (getD names j []) z ≡ true) (sym e) o)))
+      (λ (l : j < i). l) (le-or-lt i j)
+
+  -- places of one name
+  same-place : (i j : ℕ) → i < length names → getD names i [] ≡ getD names j [] → i ≤ j
+  same-place i j h e =
       ⊎-elim (λ (l : i ≤ j). l)
       (λ (l : j < i).
-      absurd (before-self (getD names j [])
+      absurd
+      (before-self (getD names j [])
       (subst (λ (z : List ℕ). before (getD names j []) z ≡ true) e (ascending .in-order j i l h))))
       (le-or-lt i j)
 
   -- the name at a place has that number
   pub number-at-place : (i : ℕ) → i < length names → numberOf names (getD names i []) ≡ i
   number-at-place i h =
+      let n = numberOf names (getD names i []) in
       let known = number-of-known names (getD names i []) (nth-in [] names i h) in
-      let up : numberOf names (getD names i []) ≤ i = one-place (numberOf names (getD names i [])) i (known .0) h (known .1) in
-      let down : i ≤ numberOf names (getD names i []) = one-place i (numberOf names (getD names i [])) h (known .0) (sym (known .1)) in
+      let low : n ≤ i = same-place n i (known .0) (known .1) in
+      let high : i ≤ n = same-place i n h (sym (known .1)) in
       omega arith
-
-  -- a name before the one at place j stands at no place from j on
-  pub places-below :
-      (n : List ℕ) (j : ℕ) → before n (getD names j []) ≡ true → (i : ℕ) → i < length names → getD names i [] ≡ n → i < j
-  places-below n j low i h e =
-      ⊎-elim
-      (λ (l : j ≤ i).
-      absurd (⊎-elim
-      (λ (q : i ≤ j).
-      let same-place : j ≡ i = omega arith in
-      before-self n
-      (subst (λ (z : List ℕ). before n z ≡ true) (ap (λ (k : ℕ). getD names k []) same-place ∙ e) low))
-      (λ (q : j < i).
-      before-self n
-      (before-trans n (getD names j []) n low
-      (subst (λ (z : List ℕ). before (getD names j []) z ≡ true) e (ascending .in-order j i q h))))
-      (le-or-lt i j)))
-      (λ (l : i < j). l) (le-or-lt j i)
-
-  -- and a name after that one stands at no place up to j
-  pub places-above :
-      (n : List ℕ) (j : ℕ) → j < length names → before (getD names j []) n ≡ true → (i : ℕ) → getD names i [] ≡ n → j < i
-  places-above n j k high i e =
-      ⊎-elim
-      (λ (l : i ≤ j).
-      absurd (⊎-elim
-      (λ (q : j ≤ i).
-      let same-place : j ≡ i = omega arith in
-      before-self n
-      (subst (λ (z : List ℕ). before z n ≡ true) (ap (λ (p : ℕ). getD names p []) same-place ∙ e) high))
-      (λ (q : i < j).
-      before-self n
-      (before-trans n (getD names j []) n
-      (subst (λ (z : List ℕ). before z (getD names j []) ≡ true) e (ascending .in-order i j q k)) high))
-      (le-or-lt j i)))
-      (λ (l : j < i). l) (le-or-lt i j)
 
 -- a name above the last one stands above all
 last-at : (m : List ℕ) (names : List (List ℕ)) → lastOr m names ≡ getD (m ∷ names) (length names) []
