@@ -55,7 +55,7 @@ pub record BookOk (f : File) : Type 0 where
   pub rows-below : (r : List ℕ) → In r (f .items) → allBelow (length (f .names)) r ≡ true
 
 -- before the first field
-nothing-read : (c : Class) → ClassOk c → BookOk (unread c)
+pub nothing-read : (c : Class) → ClassOk c → BookOk (unread c)
 nothing-read c ok =
     record {
       names-ok = tt;
