@@ -53,6 +53,10 @@ rowFields rows = flatMap (fieldBytes row-mark) rows
 unfoldable pub classField : Class → List ℕ
 classField c = fieldBytes class-mark (c .kind ∷ (c .first ∷ (c .second ∷ [])))
 
+-- the fields of the rows, in order
+unfoldable pub rowFields : List (List ℕ) → List ℕ
+rowFields rows = flatMap (fieldBytes row-mark) rows
+
 -- the arcs of a state field, three bytes each
 unfoldable pub arcBytes : List Arc → List ℕ
 arcBytes arcs = flatMap (λ (a : Arc). a .name ∷ twoBytes (a .to)) arcs
