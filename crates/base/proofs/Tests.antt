@@ -131,6 +131,13 @@ tells-before :
 unfolding before
 tells-before x y xs ys = tells-or (tells-ltb x y) (tells-and (tells-eqb x y) (tells-itself (before xs ys)))
 
+-- nothing stands before itself
+pub before-self : (a : List ℕ) → before a a ≡ true → ⊥
+unfolding before
+before-self [] e = false≢true e
+before-self (x ∷ a) e =
+    ⊎-elim (λ (low : x < x). let z : ⊥ = omega arith in z) (λ r. before-self a (r .1)) (tells-before x x a a .fact e)
+
 -- it is transitive
 pub before-trans : (xs ys zs : List ℕ) → before xs ys ≡ true → before ys zs ≡ true → before xs zs ≡ true
 unfolding before

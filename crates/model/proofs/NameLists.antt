@@ -8,7 +8,7 @@ use native.Mathlib.Omega.{arith}
 use lib.ListN.{length, getD}
 use Rattle.base.specs.Limits.{name-limit}
 use Rattle.base.specs.Lists.{before, lastOr}
-use Rattle.model.specs.Fields.{standard, unread, name-list, above, readNames, readWith}
+use Rattle.model.specs.Fields.{standard, unread, name-list, Ascends, above, readNames, readWith}
 use Rattle.model.specs.Claims.{namesOf}
 use Rattle.base.proofs.Lists.{lastOr-snoc}
 use Rattle.base.proofs.Tests.{before-trans}
@@ -16,10 +16,6 @@ use Rattle.model.proofs.FieldLaws.{fitting}
 use Rattle.model.proofs.Turns.{read-keeps}
 use Rattle.model.proofs.Books.{NamesOk, BookOk, nothing-read, book-step}
 use Rattle.model.proofs.WrittenLengths.{names-few}
-
--- names in strictly ascending byte order, by their numbers
-abbrev pub NamesAscend : List (List ℕ) → Type 0
-NamesAscend names = (i j : ℕ) → i < j → j < length names → before (getD names i []) (getD names j []) ≡ true
 
 -- each name stands above the one before it, the first above d
 abbrev AscendFrom : List ℕ → List (List ℕ) → Type 0
@@ -44,24 +40,26 @@ above-all d (n ∷ names) up (suc j) h =
     before-trans d n (getD names j []) (up .0) (above-all n names (up .1) j (omega arith))
 
 -- and each above all before it
-ascend-all : (n : List ℕ) (names : List (List ℕ)) → AscendFrom n names → NamesAscend (n ∷ names)
+ascend-all :
+    (n : List ℕ) (names : List (List ℕ)) → AscendFrom n names → (i j : ℕ) → i < j → j < length (n ∷ names) →
+    before (getD (n ∷ names) i []) (getD (n ∷ names) j []) ≡ true
 ascend-all n names up i zero h g = let z : ⊥ = omega arith in absurd z
 ascend-all n names up zero (suc j) h g = above-all n names up j (omega arith)
 ascend-all n [] up (suc i) (suc j) h g = let z : ⊥ = omega arith in absurd z
 ascend-all n (m ∷ names) up (suc i) (suc j) h g = ascend-all m names (up .1) i j (omega arith) (omega arith)
 
 -- names that may come one by one ascend
-pub names-ascend : (names : List (List ℕ)) → NamesOk [] names → NamesAscend names
+pub names-ascend : (names : List (List ℕ)) → NamesOk [] names → Ascends names
 unfolding lastOr
-names-ascend [] ok i j h g = let z : ⊥ = omega arith in absurd z
-names-ascend (n ∷ names) ok i j h g = ascend-all n names (ascend-from n [] names (ok .1)) i j h g
+names-ascend [] ok = record { in-order = λ i j h g. let z : ⊥ = omega arith in absurd z }
+names-ascend (n ∷ names) ok = record { in-order = ascend-all n names (ascend-from n [] names (ok .1)) }
 
 -- the names of an accepted list
 pub record NamesRead (names : List (List ℕ)) : Type 0 where
   pub names-ok : NamesOk [] names
   pub some : 1 ≤ length names
   pub few : length names ≤ name-limit
-  pub ascending : NamesAscend names
+  pub ascending : Ascends names
 
 pub accepted-names : (s : List ℕ) → readNames s .number ≡ 0 → NamesRead (namesOf s)
 unfolding readWith

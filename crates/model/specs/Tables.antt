@@ -45,10 +45,6 @@ fieldBytes mark body = mark ∷ (twoBytes (length body) ++ body)
 unfoldable pub nameFields : List (List ℕ) → List ℕ
 nameFields names = flatMap (fieldBytes name-mark) names
 
--- the fields of the rows, in order
-unfoldable pub rowFields : List (List ℕ) → List ℕ
-rowFields rows = flatMap (fieldBytes row-mark) rows
-
 -- the field of the class
 unfoldable pub classField : Class → List ℕ
 classField c = fieldBytes class-mark (c .kind ∷ (c .first ∷ (c .second ∷ [])))
