@@ -119,14 +119,14 @@ loop-again c =
     (λ w. (
       omega arith,
       rw (w .6, w .7)
-      (goes (entryAt (args .log .now) (loop .j) .number ∷ []) (from start (loop .j + 1)) (turn (record { before = c .before; if2 = w .0 }))
-      (w .3 .ensures)),
+          (goes (entryAt (args .log .now) (loop .j) .number ∷ []) (from start (loop .j + 1)) (turn (record { before = c .before; if2 = w .0 }))
+          (w .3 .ensures)),
     ))
     (λ w. (
       omega arith,
       rw (w .1, w .2)
-      (subst (Left start (loop .out) (loop .next))
-      (row-passes (args .log .now) (args .count) (loop .j) depth (omega arith) (omega arith) (w .0 .left)) (loop .inv .1)),
+          (subst (Left start (loop .out) (loop .next))
+          (row-passes (args .log .now) (args .count) (loop .j) depth (omega arith) (omega arith) (w .0 .left)) (loop .inv .1)),
     ))
     (c .if2 .came)
 
