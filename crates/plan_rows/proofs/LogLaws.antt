@@ -6,7 +6,7 @@ use Prim.Native.Nat.{ℕ, suc, _+_, _-_, _≤_, _<_}
 use native.Mathlib.Numerals.{add-one}
 use native.Mathlib.Omega.{arith}
 use borrow.Author.Tests.{le-leb, lt-leb, eq-eqb, ne-eqb}
-use Rattle.written_plans.specs.Reading.{Entry, rowAfter, rowsIn}
+use Rattle.written_plans.specs.Reading.{rowAfter, rowsIn}
 use Rattle.plan_rows.specs.Logs.{entryAt, entriesAt, entriesFrom, rowAt}
 
 -- all entries

@@ -1,5 +1,5 @@
 // The rows of a plan, made from the log of its tags: two bytes a tag, the number of its name and how many elements are around it. The row
-// of an element are the tags one deeper, up to the first tag that is not inside it.
+// of an element has the numbers of the tags one deeper, up to the first tag that is not inside it.
 use base::limits::BAD_ROW;
 use base::limits::BOOK_ROWS;
 use base::limits::ROW_LIMIT;

@@ -42,8 +42,16 @@ loop-again c =
     let at = c .before .before .before .before .args in
     let i = c .before .before .before .loop .i in
     ⊎-elim
-    (λ w. (omega arith, omega arith, omega (arith, ap length (rows-chosen (at .log .now) (at .count) i (at .chosen) (omega arith) (w .0 .taken)))))
-    (λ w. (omega arith, omega arith, omega (arith, ap length (rows-other (at .log .now) (at .count) i (at .chosen) (omega arith) (w .0 .left)))))
+    (λ w. (
+      omega arith,
+      omega arith,
+      omega (arith, ap length (rows-chosen (at .log .now) (at .count) i (at .chosen) (omega arith) (w .0 .taken))),
+    ))
+    (λ w. (
+      omega arith,
+      omega arith,
+      omega (arith, ap length (rows-other (at .log .now) (at .count) i (at .chosen) (omega arith) (w .0 .left))),
+    ))
     (c .if1 .came)
 
 returns : tie.Need-returns Inv-loop μ-loop

@@ -115,12 +115,12 @@ loop-again c =
     let start = start (c .before .before .before) in
     let args = start .args in
     let depth = entryAt (args .log .now) (args .i) .depth in
+    let number = entryAt (args .log .now) (loop .j) .number in
     ⊎-elim
     (λ w. (
       omega arith,
       rw (w .6, w .7)
-          (goes (entryAt (args .log .now) (loop .j) .number ∷ []) (from start (loop .j + 1)) (turn (record { before = c .before; if2 = w .0 }))
-          (w .3 .ensures)),
+          (goes (number ∷ []) (from start (loop .j + 1)) (turn (record { before = c .before; if2 = w .0 })) (w .3 .ensures)),
     ))
     (λ w. (
       omega arith,

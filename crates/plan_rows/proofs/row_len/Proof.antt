@@ -68,8 +68,16 @@ loop-again c =
     let j = c .before .before .before .before .loop .j in
     let depth = entryAt (at .log .now) (at .i) .depth in
     ⊎-elim
-    (λ w. (omega arith, omega arith, omega (arith, ap length (row-takes (at .log .now) (at .count) j depth (omega arith) (w .0 .taken)))))
-    (λ w. (omega arith, omega arith, omega (arith, ap length (row-passes (at .log .now) (at .count) j depth (omega arith) (omega arith) (w .0 .left)))))
+    (λ w. (
+      omega arith,
+      omega arith,
+      omega (arith, ap length (row-takes (at .log .now) (at .count) j depth (omega arith) (w .0 .taken))),
+    ))
+    (λ w. (
+      omega arith,
+      omega arith,
+      omega (arith, ap length (row-passes (at .log .now) (at .count) j depth (omega arith) (omega arith) (w .0 .left))),
+    ))
     (c .if2 .came)
 
 returns-2 : tie.Need-returns-2 Inv-loop μ-loop
