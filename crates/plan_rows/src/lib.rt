@@ -48,11 +48,11 @@ fn row_len(log: &[u8], count: usize, i: usize) -> usize
     let mut length = 0;
     let mut j = i + 1;
     while j < count {
-        let at = log[2 * j + 1];
-        if at <= depth {
+        let deep = log[2 * j + 1];
+        if deep <= depth {
             return length;
         }
-        if at == depth + 1 {
+        if deep == depth + 1 {
             length += 1;
         }
         j += 1;

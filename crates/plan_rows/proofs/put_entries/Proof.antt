@@ -1,5 +1,5 @@
 -- `put_entries` meets its contract. The loop's invariant: of the row the entries from entry j on are left to write. Assumes nothing.
-use mathlib.Core.Path.{subst}
+use mathlib.Core.Path.{_≡_, subst}
 use mathlib.Core.Logic.{⊎-elim}
 use mathlib.Core.List.{List, [], _∷_}
 use Prim.Native.Nat.{ℕ, _+_, _-_, _*_, _≤_}
@@ -45,7 +45,7 @@ turn c =
     let args = start .args in
     let depth = entryAt (args .log .now) (args .i) .depth in
     subst (Left start (loop .out) (loop .next))
-    (row-takes (args .log .now) (args .count) (loop .j) depth (omega arith) (c .if2 .taken)) (loop .inv .1)
+    (row-takes (args .log .now) (args .count) (loop .j) depth (omega arith) (omega arith)) (loop .inv .1)
 
 mul-depth : tie.Need-mul-depth Inv-loop μ-loop
 mul-depth c = omega (arith, c .before .before .pre .0 .few, c .before .before .pre .1 .0)
@@ -86,7 +86,7 @@ returns c =
     let depth = entryAt (args .log .now) (args .i) .depth in
     finishes
     (subst (Left start (loop .out) (loop .next))
-    (row-stops (args .log .now) (args .count) (loop .j) depth (omega arith) (c .if1 .taken)) (loop .inv .1))
+    (row-stops (args .log .now) (args .count) (loop .j) depth (omega arith) (omega arith)) (loop .inv .1))
 
 add-if2 : tie.Need-add-if2 Inv-loop μ-loop
 add-if2 c = omega (arith, c .before .shared-slice-known3 .given (2 * c .before .before .before .loop .j + 1))
@@ -116,17 +116,19 @@ loop-again c =
     let args = start .args in
     let depth = entryAt (args .log .now) (args .i) .depth in
     let number = entryAt (args .log .now) (loop .j) .number in
+    let around = entryAt (args .log .now) (loop .j) .depth in
     ⊎-elim
     (λ w. (
       omega arith,
       rw (w .6, w .7)
           (goes (number ∷ []) (from start (loop .j + 1)) (turn (record { before = c .before; if2 = w .0 })) (w .3 .ensures)),
     ))
-    (λ w. (
+    (λ w.
+    let apart : around ≡ depth + 1 → ⊥ = λ (e : around ≡ depth + 1). omega (arith, w .0 .left) in (
       omega arith,
       rw (w .1, w .2)
           (subst (Left start (loop .out) (loop .next))
-          (row-passes (args .log .now) (args .count) (loop .j) depth (omega arith) (omega arith) (w .0 .left)) (loop .inv .1)),
+          (row-passes (args .log .now) (args .count) (loop .j) depth (omega arith) (omega arith) apart) (loop .inv .1)),
     ))
     (c .if2 .came)
 

@@ -34,21 +34,21 @@ loop-holds : tie.Need-loop-holds Inv-loop μ-loop
 unfolding rowAt
 loop-holds c = (omega (arith, c .before .pre .1), omega arith, omega arith)
 
-mul-at : tie.Need-mul-at Inv-loop μ-loop
-mul-at c = omega (arith, c .before .before .before .pre .0 .few)
+mul-deep : tie.Need-mul-deep Inv-loop μ-loop
+mul-deep c = omega (arith, c .before .before .before .pre .0 .few)
 
-add-at : tie.Need-add-at Inv-loop μ-loop
-add-at c = omega (arith, c .before .before .before .pre .0 .few)
+add-deep : tie.Need-add-deep Inv-loop μ-loop
+add-deep c = omega (arith, c .before .before .before .pre .0 .few)
 
-shared-slice-read-at : tie.Need-shared-slice-read-at Inv-loop μ-loop
-shared-slice-read-at c = omega (arith, c .before .before .before .before .pre .0 .within)
+shared-slice-read-deep : tie.Need-shared-slice-read-deep Inv-loop μ-loop
+shared-slice-read-deep c = omega (arith, c .before .before .before .before .pre .0 .within)
 
 returns : tie.Need-returns Inv-loop μ-loop
 returns c =
     let at = c .before .before .before .before .before .args in
     let j = c .before .before .before .loop .j in
     let depth = entryAt (at .log .now) (at .i) .depth in
-    omega (arith, ap length (row-stops (at .log .now) (at .count) j depth (omega arith) (c .if1 .taken)))
+    omega (arith, ap length (row-stops (at .log .now) (at .count) j depth (omega arith) (omega arith)))
 
 add-if2 : tie.Need-add-if2 Inv-loop μ-loop
 add-if2 c = omega (arith, c .before .shared-slice-known2 .given (2 * c .before .before .before .loop .j + 1))
@@ -67,16 +67,18 @@ loop-again c =
     let at = c .before .before .before .before .before .before .args in
     let j = c .before .before .before .before .loop .j in
     let depth = entryAt (at .log .now) (at .i) .depth in
+    let deep = entryAt (at .log .now) j .depth in
     ⊎-elim
     (λ w. (
       omega arith,
       omega arith,
-      omega (arith, ap length (row-takes (at .log .now) (at .count) j depth (omega arith) (w .0 .taken))),
+      omega (arith, ap length (row-takes (at .log .now) (at .count) j depth (omega arith) (omega (arith, w .0 .taken)))),
     ))
-    (λ w. (
+    (λ w.
+    let apart : deep ≡ depth + 1 → ⊥ = λ (e : deep ≡ depth + 1). omega (arith, w .0 .left) in (
       omega arith,
       omega arith,
-      omega (arith, ap length (row-passes (at .log .now) (at .count) j depth (omega arith) (omega arith) (w .0 .left))),
+      omega (arith, ap length (row-passes (at .log .now) (at .count) j depth (omega arith) (omega arith) apart)),
     ))
     (c .if2 .came)
 
@@ -97,9 +99,9 @@ row-len-spec =
     shared-slice-read-depth
     add-j
     loop-holds
-    mul-at
-    add-at
-    shared-slice-read-at
+    mul-deep
+    add-deep
+    shared-slice-read-deep
     returns
     add-if2
     add-length
