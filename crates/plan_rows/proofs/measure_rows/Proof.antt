@@ -4,6 +4,7 @@ use mathlib.Core.Logic.{⊎-elim}
 use mathlib.Core.List.{List, _∷_}
 use Prim.Native.Nat.{ℕ, _+_, _-_, _*_, _≤_}
 use native.Mathlib.Omega.{arith}
+use Rattle.base.specs.Limits.{row-limit}
 use Rattle.written_plans.specs.Reading.{rowsIn}
 use Rattle.plan_rows.specs.Logs.{entriesFrom, rowAt, logRows}
 use Rattle.plan_rows.proofs.LogLaws.{entries-all, rows-chosen, rows-other, rows-end}
@@ -14,7 +15,7 @@ use Rattle.plan_rows.proofs.measure_rows.Tie as tie
 
 abbrev Inv-loop : tie.InvT-loop
 Inv-loop log count chosen rows bytes₀ i₀ bytes i =
-    (i ≤ count) × (bytes ≤ 67 * i) × Passed (logRows log count chosen) (rowsIn chosen (entriesFrom log count i)) bytes
+    (i ≤ count) × (bytes ≤ (3 + row-limit) * i) × Passed (logRows log count chosen) (rowsIn chosen (entriesFrom log count i)) bytes
 
 abbrev μ-loop : tie.MeasureT-loop
 μ-loop log count chosen rows bytes₀ i₀ bytes i = count - i
