@@ -1,11 +1,9 @@
 -- `scanning::skip_text` meets its contract. The loop's invariant: the bytes up to i are text. Assumes nothing.
-use mathlib.Core.Path.{_≡_}
-use mathlib.Core.Bool.{false}
 use Prim.Native.Nat.{_-_, _<_}
 use native.Mathlib.Omega.{arith}
 use borrow.Author.Needs.{needs}
 use borrow.Author.Tests.{not-true, not-false}
-use lib.ListN.{length, getD}
+use lib.ListN.{length}
 use Rattle.written_plans.specs.Written.{isText}
 use Rattle.plan_reading.proofs.ScanLaws.{Passing, passing-start, passing-more, passing-end}
 use Rattle.plan_reading.proofs.scanning.skip_text.Statement.{statement}
