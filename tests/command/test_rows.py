@@ -175,7 +175,8 @@ class Refused(InFolder):
 
     def test_limits_of_all_plans(self):
         smaller = "take a smaller element, such as a meal in place of a day"
-        self.counted("<day/>", 256 * "<day/>", "two.xml: with this plan there are over 256 rows: at most 256 are allowed; give fewer plans")
+        self.counted("<day/>", 256 * "<day/>",
+                     "two.xml: with this plan there are over 256 rows: at most 256 are allowed; give fewer plans")
         many = "".join(f"<day><n{i}/></day>" for i in range(60))
         more = "".join(f"<n{i}/>" for i in range(60, 65))
         self.counted(f"<day>{more}</day>", many,
@@ -206,12 +207,13 @@ class Refused(InFolder):
     def test_names_files_that_will_not_do(self):
         self.put("plan.xml", "<day/>")
         wanted = "names are wanted: a text, a list of names, a book or a table"
+        many = " ".join(f"n{i}" for i in range(65))
+        yet = "which the format does not allow yet: ASCII letters, digits, _ : . and - are"
+        over = "there are over 64 different names: at most 64 are allowed; take a smaller element, such as a meal in place of a day"
         for name, data, said in [
                 ("days.txt", "Day lunch\n", "days.txt: day is not in this list, which must hold the element's own name; did you mean Day?"),
-                ("bad.txt", "day\nmorning-snäck\n", "bad.txt:2: the name 'morning-snäck' holds 'ä', which the format does not allow yet: "
-                                                    "ASCII letters, digits, _ : . and - are; write morning-snaeck"),
-                ("many.txt", " ".join(f"n{i}" for i in range(65)), "many.txt: with this file there are over 64 different names: at most "
-                                                                    "64 are allowed; take a smaller element, such as a meal in place of a day"),
+                ("bad.txt", "day\nsnäck\n", f"bad.txt:2: the name 'snäck' holds 'ä', {yet}; write snaeck"),
+                ("many.txt", many, f"many.txt: with this file {over}"),
                 ("empty", "", f"empty: this is an empty file; {wanted}"),
                 ("other.xml", "<day/>", f"other.xml: this is a plan, in XML ('plans rows' makes a book of plans); {wanted}"),
                 ("list", field(1, b"b") + field(1, b"a"), f"list: refusal 6: {plans.REFUSALS[6]}"),
@@ -300,11 +302,13 @@ class Module(unittest.TestCase):
     def test_refusals_and_their_places(self):
         many = [f"n{i:03}" for i in range(300)]
         for plan, names, element, number, offset in [
-                (b"", (), "day", 4, None), (b"", ("b", "a"), "a", 6, None), (b"", many, "n299", 7, None), (b"", ("day", "9"), "day", 5, None),
-                (b"", ("day",), "tea", 9, None), (b"", ("day",), "day", 14, 0), (b"<day><tea", ("day",), "day", 14, 9),
+                (b"", (), "day", 4, None), (b"", ("b", "a"), "a", 6, None), (b"", many, "n299", 7, None),
+                (b"", ("day", "9"), "day", 5, None), (b"", ("day",), "tea", 9, None),
+                (b"", ("day",), "day", 14, 0), (b"<day><tea", ("day",), "day", 14, 9),
                 (b"<day><tea/>", ("day",), "day", 16, 9), (16 * b"<a>" + b"<a>", ("day",), "day", 15, 50),
                 (b"<a>" + 257 * b"<day/>" + b"</a>", ("day",), "day", 7, None), (bytes(65536), ("day",), "day", 1, None),
-                (b"<day>" + 65 * b"<day/>" + b"</day>", ("day",), "day", 9, None), (b"", plans.write_names(("day",))[:-1], "day", 2, None)]:
+                (b"<day>" + 65 * b"<day/>" + b"</day>", ("day",), "day", 9, None),
+                (b"", plans.write_names(("day",))[:-1], "day", 2, None)]:
             with self.assertRaises(plans.Refused) as caught:
                 plans.read_rows(plan, names, element)
             self.assertEqual((caught.exception.number, caught.exception.offset), (number, offset), (plan[:20], names[:3]))
