@@ -37,6 +37,7 @@ pub mod CallLaws
 pub mod Turns
 pub mod StateBodies
 pub mod Books
+pub mod NameNumbers
 pub mod ReadBack
 pub mod WrittenLengths
 pub mod Rewriting

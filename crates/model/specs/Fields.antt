@@ -3,10 +3,10 @@
 use mathlib.Core.Path.{_≡_}
 use mathlib.Core.Bool.{Bool, true, false, _&&_, _||_, not, cond}
 use mathlib.Core.List.{List, [], _∷_, _++_}
-use Prim.Native.Nat.{ℕ, zero, suc, _+_, _*_}
+use Prim.Native.Nat.{ℕ, zero, suc, _+_, _*_, _<_}
 use lib.Dec.{eqb, ltb, leb}
 use lib.ListN.{length, getD, take, drop}
-use Rattle.base.specs.Lists.{all, before, lastOr}
+use Rattle.base.specs.Lists.{all, before, lastOr, same}
 use Rattle.base.specs.Limits.{name-limit, name-bytes, book-rows, row-limit, state-limit, setting-limit, when, firstOf}
 use Rattle.base.specs.Limits.{name-mark, class-mark, row-mark, state-mark, name-due, names-met, class-met, items-met}
 use Rattle.base.specs.Limits.{context-kind, seen-set-kind, last-names-kind}
@@ -131,6 +131,15 @@ nameFault names body =
     firstOf (when (not (nameOk body)) bad-name)
     (firstOf (when (not (above names body)) name-order)
     (when (leb name-limit (length names)) too-many))
+
+-- the names stand in strictly ascending byte order
+pub record Ascends (names : List (List ℕ)) : Type 0 where
+  pub in-order : (i j : ℕ) → i < j → j < length names → before (getD names i []) (getD names j []) ≡ true
+
+-- the number of a name among these names, by its bytes; how many names there are where it is none of them
+unfoldable pub numberOf : List (List ℕ) → List ℕ → ℕ
+numberOf [] n = 0
+numberOf (m ∷ names) n = elim (same n m) [ true ↦ 0 | false ↦ suc (numberOf names n) ]
 
 -- a class: 8
 unfoldable pub classFault : List ℕ → ℕ

@@ -1,0 +1,3 @@
+// A plan read in one pass.
+pub mod pieces;
+pub mod scanning;
