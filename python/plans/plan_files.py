@@ -52,8 +52,8 @@ def scan(plan: bytes) -> Scan:
     """The plan's tags. The name of a tag that is not understood as a whole is taken too, as the library takes it."""
     tags: List[Tag] = []
     path: List[int] = []
-    front = FRONT.match(plan)
-    while front and len(front[2]) <= NAME_BYTES:
+    front = FRONT.match(plan, len(plan) - len(plan.lstrip(WHITE)))
+    while front and len(front[2]) <= NAME_BYTES and (path or not tags and not front[0].partition(b"<")[0]):
         name = front[2].decode("ascii")
         if front[1] and (not path or tags[path[-1]].name != name):
             break

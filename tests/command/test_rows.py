@@ -9,6 +9,9 @@ from xml.parsers import expat
 
 import plans
 from commands import ROOT, InFolder
+from plans.files import Failure, Input, Kind
+from plans.plan_files import place_of, scan
+from plans.plan_rows import Plan, collected, rows_of
 from reference import field
 
 WEEK = """<plan>Ward 3
@@ -254,6 +257,42 @@ class Refused(InFolder):
         done = self.plans("rows", "plan.xml", "--element", "day", env={"PLANS_LIBRARY": "libc.so.6"})
         self.assertEqual(done.returncode, 2)
         self.assertNotIn(b"Traceback", done.stderr)
+
+
+class Damaged(unittest.TestCase):
+    """Plans with faults put in: one line is said, at the place that the library tells, and the names collected are never too few."""
+    BITS = [b"<", b">", b"/", b"&", b" ", b"=", b"'", b"9", b"\0", b"\xc3", b"<!--", b"<?", b"</", b"/>", b"<day", b"</day>", b"\r",
+            33 * b"x"]
+
+    def damaged(self, draw: random.Random) -> bytes:
+        data = bytearray(WEEK.encode())
+        for _ in range(draw.choice([1, 1, 2])):
+            place = draw.randrange(len(data) + 1)
+            way = draw.randrange(4)
+            if way == 0:
+                del data[place:]
+            else:
+                data[place:place + (0, 0, 1, 4)[way]] = draw.choice(self.BITS) if way < 3 else b""
+        return bytes(data)
+
+    def test_messages(self):
+        draw = random.Random(18)
+        told = set()
+        for _ in range(3000):
+            data = self.damaged(draw)
+            plan = Plan(Input("week.xml", data, Kind.PLAN), scan(data))
+            names = collected([plan], "day")
+            try:
+                rows_of(plan, names, "day")
+            except Failure as problem:
+                with self.assertRaises(plans.Refused) as caught:
+                    plans.read_rows(data, names.names, "day")
+                self.assertEqual(caught.exception.number, 14, data)
+                front = f"week.xml:{place_of(data, caught.exception.offset)}: refusal 14: "
+                self.assertEqual(len(problem.lines), 1)
+                self.assertTrue(problem.lines[0].startswith(front) and problem.lines[0].isprintable(), problem.lines[0])
+                told.add(problem.lines[0][len(front):][:20])
+        self.assertGreater(len(told), 30)
 
 
 def by_expat(plan: bytes, element: str) -> list:
