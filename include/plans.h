@@ -31,7 +31,7 @@ extern "C" {
 #endif
 
 /* The version of this header and of the library beside it. scripts/header writes this line from the file VERSION. */
-#define PLANS_VERSION "1.0.0"
+#define PLANS_VERSION "1.1.0"
 
 /* The least length of a working area, in bytes. */
 #define PLANS_WORK_BYTES 65536

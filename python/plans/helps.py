@@ -139,8 +139,8 @@ Reads plans in XML and writes one book: a row for each element of that name, the
 names of its children in order. A plan is one element of tags and text, with no
 attribute, comment, declaration or &. The book's names are the element's and its
 children's, sorted; --names takes them from FILE instead, a text of names or a
-list of names, a book or a table, and a child that is not there is refused.
-Where a plan is refused, or no plan has the element (status 1), there is no book.
+list of names, a book or a table, and a child that is not there is refused. No
+book is written if a plan is refused, or if none has the element (status 1).
 
   $ echo '<plan><day><tea>hot</tea><cake/></day><day/></plan>' > week.xml
   $ plans rows week.xml --element day -o week.book
