@@ -283,7 +283,7 @@ def read_plans(asked: Asked) -> Tuple[List[Plan], bool]:
     plans = []
     for path in asked.words:
         try:
-            plans.append(read_plan(path))
+            plans.append(read_plan(path, asked.element))
         except Failure as problem:
             problem.say()
     return plans, len(plans) == len(asked.words)

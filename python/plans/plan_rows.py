@@ -1,12 +1,12 @@
 """From plan files to the rows of one book, for the command: names collected or taken from a file, each plan read by the library, and
 refusals in words."""
 from dataclasses import dataclass
-from typing import Iterable, List, Optional, Sequence, Set, Tuple
+from typing import FrozenSet, Iterable, List, Optional, Sequence, Set, Tuple
 
 from .fields import ENTRY_LIMIT, INPUT_LIMIT, NAME_LIMIT, REFUSALS, ROW_LIMIT, STATE_LIMIT, Book, Refused, Row
 from .files import Failure, Input, Kind, read_input
 from .models import build, front_names, judged_book, judged_table, read_rows
-from .plan_files import DEPTH_LIMIT, Scan, place_of, scan, tag_at, what_stands
+from .plan_files import DEPTH_LIMIT, place_of, scan, tag_at, what_stands
 from .showing import counted, nearest
 from .texts import BYTE_ORDER_MARK, LINE_ENDS, SMALLER, cells_of, decoded, name_problem
 
@@ -15,9 +15,10 @@ SIZES, TOO_MANY, BAD_ROW, TREE_TOO_LARGE, BAD_PLAN, TOO_DEEP, UNKNOWN_CHILD = 1,
 
 @dataclass(frozen=True)
 class Plan:
-    """A plan file, and its tags as the scan sees them."""
+    """A plan file; and, as the scan sees them, the names of the children of one element, and of all elements."""
     source: Input
-    tags: Scan
+    children: FrozenSet[str]
+    elements: FrozenSet[str]
 
 
 @dataclass(frozen=True)
@@ -27,9 +28,13 @@ class Names:
     source: Optional[Input]
 
 
-def read_plan(path: str) -> Plan:
-    source = read_input(path, texts=False)
-    return Plan(source, scan(source.data))
+def plan_of(source: Input, element: str) -> Plan:
+    seen = scan(source.data)
+    return Plan(source, frozenset(tag.name for tag in seen.children(element)), frozenset(tag.name for tag in seen.tags))
+
+
+def read_plan(path: str, element: str) -> Plan:
+    return plan_of(read_input(path, texts=False), element)
 
 
 def _too_many_names(label: str) -> Failure:
@@ -40,7 +45,7 @@ def collected(plans: Iterable[Plan], element: str) -> Names:
     """The element's name and those of its children, over all plans."""
     names: Set[str] = {element}
     for plan in plans:
-        names.update(tag.name for tag in plan.tags.children(element))
+        names.update(plan.children)
         if len(names) > NAME_LIMIT:
             raise _too_many_names(plan.source.label)
     return Names(tuple(sorted(names)), None)
@@ -126,7 +131,7 @@ def _placed(plan: Plan, problem: Refused, element: str) -> str:
     """The file, with line and column where the refusal has a place."""
     at = problem.offset
     if problem.number == BAD_ROW:
-        at = plan.tags.too_long(element)
+        at = scan(plan.source.data).too_long(element)
     return plan.source.label if at is None else f"{plan.source.label}:{place_of(plan.source.data, at)}"
 
 
@@ -141,7 +146,7 @@ def rows_of(plan: Plan, names: Names, element: str) -> Tuple[Row, ...]:
 
 def missing(plans: Sequence[Plan], element: str) -> str:
     """That no plan has the element, and which may have been meant."""
-    near = nearest(element, {tag.name for plan in plans for tag in plan.tags.tags})
+    near = nearest(element, sorted({name for plan in plans for name in plan.elements}))
     return f"no element {element}{f' (did you mean {near}?)' if near else ''}"
 
 

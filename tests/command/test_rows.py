@@ -10,8 +10,8 @@ from xml.parsers import expat
 import plans
 from commands import ROOT, InFolder
 from plans.files import Failure, Input, Kind
-from plans.plan_files import place_of, scan
-from plans.plan_rows import Plan, collected, rows_of
+from plans.plan_files import place_of
+from plans.plan_rows import collected, plan_of, rows_of
 from reference import field
 
 WEEK = """<plan>Ward 3
@@ -280,7 +280,7 @@ class Damaged(unittest.TestCase):
         told = set()
         for _ in range(3000):
             data = self.damaged(draw)
-            plan = Plan(Input("week.xml", data, Kind.PLAN), scan(data))
+            plan = plan_of(Input("week.xml", data, Kind.PLAN), "day")
             names = collected([plan], "day")
             try:
                 rows_of(plan, names, "day")
