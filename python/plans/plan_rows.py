@@ -7,7 +7,7 @@ from .fields import ENTRY_LIMIT, INPUT_LIMIT, NAME_LIMIT, REFUSALS, ROW_LIMIT, S
 from .files import Failure, Input, Kind, read_input
 from .models import build, front_names, judged_book, judged_table, read_rows
 from .plan_files import DEPTH_LIMIT, place_of, scan, tag_at, what_stands
-from .showing import counted, nearest
+from .showing import nearest
 from .texts import BYTE_ORDER_MARK, LINE_ENDS, SMALLER, cells_of, decoded, name_problem
 
 SIZES, TOO_MANY, BAD_ROW, TREE_TOO_LARGE, BAD_PLAN, TOO_DEEP, UNKNOWN_CHILD = 1, 7, 9, 10, 14, 15, 16
