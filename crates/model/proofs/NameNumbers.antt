@@ -1,72 +1,17 @@
--- Names and their numbers: byte order is strict and total; the number of a name, by its bytes, is that of the place where it stands,
--- and names that were allowed one after the other ascend, so that no two have one number. Assumes nothing.
-use mathlib.Core.Path.{_≡_, refl, sym, ap, ap₂, _∙_, subst}
+-- Names and their numbers: the number of a name, by its bytes, is that of the place where it stands; and where the names ascend, no two
+-- have one number. Assumes nothing.
+use mathlib.Core.Path.{_≡_, refl, sym, ap, _∙_, subst}
 use mathlib.Core.Logic.{_⊎_, inl, inr, ⊎-elim}
-use mathlib.Core.Bool.{true, false≢true}
-use mathlib.Core.List.{List, [], _∷_, _++_, append-nil, append-assoc, List·Memᴰ as In, List·Memᴰ·head as here, List·Memᴰ·tail as there}
-use mathlib.Core.List.{List·Memᴰ·not-nil, List·Memᴰ·cases-cons}
+use mathlib.Core.Bool.{true}
+use mathlib.Core.List.{List, [], _∷_, List·Memᴰ as In}
+use mathlib.Core.List.{List·Memᴰ·head as here, List·Memᴰ·tail as there, List·Memᴰ·not-nil, List·Memᴰ·cases-cons}
 use Prim.Native.Nat.{ℕ, suc, _≤_, _<_}
 use native.Mathlib.Omega.{arith}
-use lib.ListN.{length, getD, length-append, List·getD-append}
-use lib.Seq.{getD-at}
-use Rattle.base.specs.Lists.{before, lastOr}
-use Rattle.base.proofs.Tests.{Tells, told-false, tells-itself, tells-eqb, tells-ltb, tells-and, tells-or, tells-same, le-or-lt}
-use Rattle.base.proofs.Tests.{word-dec}
+use lib.ListN.{length, getD}
+use Rattle.base.specs.Lists.{before}
+use Rattle.base.proofs.Tests.{told-false, tells-same, le-or-lt, word-dec, before-self, before-trans}
 use Rattle.base.proofs.Places.{nth-in}
-use Rattle.model.specs.Fields.{Ascends, numberOf, above}
-use Rattle.model.proofs.Books.{NamesOk}
-
--- ---- byte order
-
--- the first difference decides
-tells-before :
-    (x y : ℕ) (xs ys : List ℕ) → Tells (before (x ∷ xs) (y ∷ ys)) ((x < y) ⊎ ((x ≡ y) × (before xs ys ≡ true)))
-unfolding before
-tells-before x y xs ys = tells-or (tells-ltb x y) (tells-and (tells-eqb x y) (tells-itself (before xs ys)))
-
--- nothing stands before itself
-pub before-self : (a : List ℕ) → before a a ≡ true → ⊥
-unfolding before
-before-self [] e = false≢true e
-before-self (x ∷ a) e =
-    ⊎-elim (λ (low : x < x). let z : ⊥ = omega arith in z) (λ r. before-self a (r .1)) (tells-before x x a a .fact e)
-
-pub before-trans : (a b c : List ℕ) → before a b ≡ true → before b c ≡ true → before a c ≡ true
-unfolding before
-before-trans [] [] c d e = absurd (false≢true d)
-before-trans [] (y ∷ b) [] d e = absurd (false≢true e)
-before-trans [] (y ∷ b) (z ∷ c) d e = refl
-before-trans (x ∷ a) [] c d e = absurd (false≢true d)
-before-trans (x ∷ a) (y ∷ b) [] d e = absurd (false≢true e)
-before-trans (x ∷ a) (y ∷ b) (z ∷ c) d e =
-    tells-before x z a c .test (go (tells-before x y a b .fact d) (tells-before y z b c .fact e) (before-trans a b c))
-  where
-    go :
-        (x < y) ⊎ ((x ≡ y) × (before a b ≡ true)) → (y < z) ⊎ ((y ≡ z) × (before b c ≡ true)) →
-        (before a b ≡ true → before b c ≡ true → before a c ≡ true) → (x < z) ⊎ ((x ≡ z) × (before a c ≡ true))
-    go (inl h) (inl k) again = inl (omega arith)
-    go (inl h) (inr k) again = inl (omega (arith, k .0))
-    go (inr h) (inl k) again = inl (omega (arith, h .0))
-    go (inr h) (inr k) again = inr (h .0 ∙ k .0, again (h .1) (k .1))
-
--- of two names one stands before the other, or they are equal
-pub before-total : (a b : List ℕ) → (before a b ≡ true) ⊎ ((a ≡ b) ⊎ (before b a ≡ true))
-unfolding before
-before-total [] [] = inr (inl refl)
-before-total [] (y ∷ b) = inl refl
-before-total (x ∷ a) [] = inr (inr refl)
-before-total (x ∷ a) (y ∷ b) = go (le-or-lt x y) (le-or-lt y x) (before-total a b)
-  where
-    go :
-        (x ≤ y) ⊎ (y < x) → (y ≤ x) ⊎ (x < y) → (before a b ≡ true) ⊎ ((a ≡ b) ⊎ (before b a ≡ true)) →
-        (before (x ∷ a) (y ∷ b) ≡ true) ⊎ (((x ∷ a) ≡ (y ∷ b)) ⊎ (before (y ∷ b) (x ∷ a) ≡ true))
-    go h (inr k) rest = inl (tells-before x y a b .test (inl k))
-    go (inr h) (inl k) rest = inr (inr (tells-before y x b a .test (inl h)))
-    go (inl h) (inl k) (inl r) = inl (tells-before x y a b .test (inr (omega arith, r)))
-    go (inl h) (inl k) (inr (inl r)) = inr (inl (ap₂ (λ (v : ℕ) (w : List ℕ). v ∷ w) (omega arith) r))
-    go (inl h) (inl k) (inr (inr r)) = inr (inr (tells-before y x b a .test (inr (omega arith, r))))
-
--- ---- the number of a name
+use Rattle.model.specs.Fields.{Ascends, numberOf}
 
 -- the first has the number 0, others one more than among the rest
 number-here : (n m : List ℕ) (names : List (List ℕ)) → n ≡ m → numberOf (m ∷ names) n ≡ 0
@@ -137,108 +82,49 @@ equal-numbers names a b m k e =
 -- ---- ascending names
 
 module _ (names : List (List ℕ)) (ascending : Ascends names) where
-  -- no name that ascends stands at two places
-  one-place : (i j : ℕ) → i < length names → j < length names → getD names i [] ≡ getD names j [] → i ≤ j
-  one-place i j h k e =
+  -- a name stands before none that has a lower place, nor before itself
+  not-before : (i j : ℕ) → i ≤ j → j < length names → before (getD names j []) (getD names i []) ≡ true → ⊥
+  not-before i j l h o =
+      ⊎-elim
+      (λ (q : j ≤ i).
+      let is : j ≡ i = omega arith in
+      before-self (getD names i []) (subst (λ (k : ℕ). before (getD names k []) (getD names i []) ≡ true) is o))
+      (λ (q : i < j).
+      before-self (getD names i [])
+      (before-trans (getD names i []) (getD names j []) (getD names i []) (ascending .in-order i j q h) o))
+      (le-or-lt j i)
+
+  -- a name before the one at place j stands at no place from j on
+  pub places-below :
+      (n : List ℕ) (j : ℕ) → before n (getD names j []) ≡ true → (i : ℕ) → i < length names → getD names i [] ≡ n → i < j
+  places-below n j o i h e =
+      ⊎-elim
+      (λ (l : j ≤ i). absurd (not-before j i l h (subst (λ (z : List ℕ). before z (getD names j []) ≡ true) (sym e) o)))
+      (λ (l : i < j). l) (le-or-lt j i)
+
+  -- and a name after that one stands at no place up to j
+  pub places-above :
+      (n : List ℕ) (j : ℕ) → j < length names → before (getD names j []) n ≡ true → (i : ℕ) → getD names i [] ≡ n → j < i
+  places-above n j h o i e =
+      ⊎-elim
+      (λ (l : i ≤ j). absurd (not-before i j l h (subst (λ (z : List ℕ). before (getD names j []) z ≡ true) (sym e) o)))
+      (λ (l : j < i). l) (le-or-lt i j)
+
+  -- places of one name
+  same-place : (i j : ℕ) → i < length names → getD names i [] ≡ getD names j [] → i ≤ j
+  same-place i j h e =
       ⊎-elim (λ (l : i ≤ j). l)
       (λ (l : j < i).
-      absurd (before-self (getD names j [])
+      absurd
+      (before-self (getD names j [])
       (subst (λ (z : List ℕ). before (getD names j []) z ≡ true) e (ascending .in-order j i l h))))
       (le-or-lt i j)
 
   -- the name at a place has that number
   pub number-at-place : (i : ℕ) → i < length names → numberOf names (getD names i []) ≡ i
   number-at-place i h =
+      let n = numberOf names (getD names i []) in
       let known = number-of-known names (getD names i []) (nth-in [] names i h) in
-      let up : numberOf names (getD names i []) ≤ i = one-place (numberOf names (getD names i [])) i (known .0) h (known .1) in
-      let down : i ≤ numberOf names (getD names i []) = one-place i (numberOf names (getD names i [])) h (known .0) (sym (known .1)) in
+      let low : n ≤ i = same-place n i (known .0) (known .1) in
+      let high : i ≤ n = same-place i n h (sym (known .1)) in
       omega arith
-
-  -- a name before the one at place j stands at no place from j on
-  pub places-below :
-      (n : List ℕ) (j : ℕ) → before n (getD names j []) ≡ true → (i : ℕ) → i < length names → getD names i [] ≡ n → i < j
-  places-below n j low i h e =
-      ⊎-elim
-      (λ (l : j ≤ i).
-      absurd (⊎-elim
-      (λ (q : i ≤ j).
-      let same-place : j ≡ i = omega arith in
-      before-self n
-      (subst (λ (z : List ℕ). before n z ≡ true) (ap (λ (k : ℕ). getD names k []) same-place ∙ e) low))
-      (λ (q : j < i).
-      before-self n
-      (before-trans n (getD names j []) n low
-      (subst (λ (z : List ℕ). before (getD names j []) z ≡ true) e (ascending .in-order j i q h))))
-      (le-or-lt i j)))
-      (λ (l : i < j). l) (le-or-lt j i)
-
-  -- and a name after that one stands at no place up to j
-  pub places-above :
-      (n : List ℕ) (j : ℕ) → j < length names → before (getD names j []) n ≡ true → (i : ℕ) → getD names i [] ≡ n → j < i
-  places-above n j k high i e =
-      ⊎-elim
-      (λ (l : i ≤ j).
-      absurd (⊎-elim
-      (λ (q : j ≤ i).
-      let same-place : j ≡ i = omega arith in
-      before-self n
-      (subst (λ (z : List ℕ). before z n ≡ true) (ap (λ (p : ℕ). getD names p []) same-place ∙ e) high))
-      (λ (q : i < j).
-      before-self n
-      (before-trans n (getD names j []) n
-      (subst (λ (z : List ℕ). before z (getD names j []) ≡ true) e (ascending .in-order i j q k)) high))
-      (le-or-lt j i)))
-      (λ (l : j < i). l) (le-or-lt i j)
-
--- a name above the last one stands above all
-last-at : (m : List ℕ) (names : List (List ℕ)) → lastOr m names ≡ getD (m ∷ names) (length names) []
-unfolding lastOr
-last-at m [] = refl
-last-at m (x ∷ names) = last-at x names
-
-above-all :
-    (names : List (List ℕ)) (n : List ℕ) → Ascends names → above names n ≡ true → (i : ℕ) → i < length names →
-    before (getD names i []) n ≡ true
-unfolding above
-above-all [] n ascending e i h = let z : ⊥ = omega arith in absurd z
-above-all (m ∷ names) n ascending e i h =
-    ⊎-elim
-    (λ (l : length names ≤ i).
-    let is : length names ≡ i = omega arith in subst (λ (k : ℕ). before (getD (m ∷ names) k []) n ≡ true) is last)
-    (λ (l : i < length names).
-    before-trans (getD (m ∷ names) i []) (getD (m ∷ names) (length names) []) n
-    (ascending .in-order i (length names) l (omega arith)) last)
-    (le-or-lt (length names) i)
-  where
-    last : before (getD (m ∷ names) (length names) []) n ≡ true
-    last = subst (λ (z : List ℕ). before z n ≡ true) (last-at m names) e
-
--- one name more, above the last
-ascends-more : (names : List (List ℕ)) (n : List ℕ) → Ascends names → above names n ≡ true → Ascends (names ++ (n ∷ []))
-ascends-more names n ascending e = record { in-order = pair }
-  where
-    all : List (List ℕ)
-    all = names ++ (n ∷ [])
-
-    left : (i : ℕ) → i < length names → getD all i [] ≡ getD names i []
-    left i h = List·getD-append names (n ∷ []) [] i h
-
-    pair : (i j : ℕ) → i < j → j < length all → before (getD all i []) (getD all j []) ≡ true
-    pair i j h k =
-        ⊎-elim
-        (λ (l : length names ≤ j).
-        let is : length names ≡ j = omega (arith, length-append names (n ∷ [])) in
-        rw (left i (omega arith), getD-at names n [] [] j is) (above-all names n ascending e i (omega arith)))
-        (λ (l : j < length names). rw (left i (omega arith), left j l) (ascending .in-order i j h l))
-        (le-or-lt (length names) j)
-
--- names that may come one by one after ascending ones ascend with them
-ascends-on : (names more : List (List ℕ)) → Ascends names → NamesOk names more → Ascends (names ++ more)
-ascends-on names [] ascending ok = subst Ascends (sym (append-nil names)) ascending
-ascends-on names (n ∷ more) ascending ok =
-    subst Ascends (append-assoc names (n ∷ []) more)
-    (ascends-on (names ++ (n ∷ [])) more (ascends-more names n ascending (ok .0 .in-order)) (ok .1))
-
--- so names that were allowed one after the other ascend
-pub names-ascend : (names : List (List ℕ)) → NamesOk [] names → Ascends names
-names-ascend names ok = ascends-on [] names (record { in-order = λ i j h k. let z : ⊥ = omega arith in absurd z }) ok

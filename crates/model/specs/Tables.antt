@@ -45,13 +45,13 @@ fieldBytes mark body = mark ∷ (twoBytes (length body) ++ body)
 unfoldable pub nameFields : List (List ℕ) → List ℕ
 nameFields names = flatMap (fieldBytes name-mark) names
 
--- the fields of the rows, in order
-unfoldable pub rowFields : List (List ℕ) → List ℕ
-rowFields rows = flatMap (fieldBytes row-mark) rows
-
 -- the field of the class
 unfoldable pub classField : Class → List ℕ
 classField c = fieldBytes class-mark (c .kind ∷ (c .first ∷ (c .second ∷ [])))
+
+-- the fields of the rows, in order
+unfoldable pub rowFields : List (List ℕ) → List ℕ
+rowFields rows = flatMap (fieldBytes row-mark) rows
 
 -- the arcs of a state field, three bytes each
 unfoldable pub arcBytes : List Arc → List ℕ

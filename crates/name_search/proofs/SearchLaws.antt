@@ -1,7 +1,6 @@
 -- A search that halves: which places are left after one comparison, and the number where the name is found or no place is left.
 -- Assumes nothing.
-use mathlib.Core.Path.{_≡_, sym, ap, _∙_, subst}
-use mathlib.Core.Logic.{⊎-elim}
+use mathlib.Core.Path.{_≡_, sym, subst}
 use mathlib.Core.Bool.{true}
 use mathlib.Core.List.{List, []}
 use Prim.Native.Nat.{ℕ, _+_, _≤_, _<_}
@@ -29,15 +28,17 @@ module _ (names : List (List ℕ)) (name : List ℕ) where
       let is = between .left (place .0) (place .1) (place .2) in
       let z : ⊥ = omega (arith, is .0, is .1) in absurd z)
 
-  module _ (ascending : Ascends names) (low high middle : ℕ) (inside : middle < length names) where
+  -- the name stands before the one at this place, after it, or there
+  module _ (ascending : Ascends names) (low high middle : ℕ) where
     pub lower-half :
         before name (getD names middle []) ≡ true → Between names name low high → Between names name low middle
     lower-half o between =
         record { left = λ i h e. (between .left i h e .0, places-below names ascending name middle o i h e) }
 
     pub upper-half :
-        before (getD names middle []) name ≡ true → Between names name low high → Between names name (middle + 1) high
-    upper-half o between =
+        {next : ℕ} → middle < length names → next ≤ middle + 1 → before (getD names middle []) name ≡ true →
+        Between names name low high → Between names name next high
+    upper-half inside up o between =
         record {
           left = λ i h e. (omega (arith, places-above names ascending name middle inside o i e), between .left i h e .1);
         }

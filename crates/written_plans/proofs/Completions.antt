@@ -12,7 +12,7 @@ use Rattle.written_plans.proofs.Runs.{run}
 use Rattle.written_plans.proofs.NameRule.{a-name, nameRest, name-rest}
 use Rattle.written_plans.proofs.Elements.{none}
 use Rattle.written_plans.proofs.StepsBack.{by-test}
-use Rattle.written_plans.proofs.WrittenRuns.{run-name, run-more-name, run-empty-end, run-empty, run-due, run-end}
+use Rattle.written_plans.proofs.WrittenRuns.{pass-name, pass-more-name, pass-empty-end, pass-first, pass-empty, pass-due, pass-end}
 
 -- ---- the bytes
 
@@ -108,24 +108,24 @@ begun-run (b ∷ s) q begun = onward (step q b) (begun-step q b) (λ r p. begun-
 run-ends : (around : List (List ℕ)) → run (leave around) (ends around) ≡ go after
 unfolding ends run
 run-ends [] = refl
-run-ends (n ∷ around) = run-end around n none (ends around) ∙ run-ends around
+run-ends (n ∷ around) = pass-end around n none (ends around) .runs ∙ run-ends around
 
 -- and so does the rest of a plan, from each place
 finish-runs : (q : Place) → Begun q → run q (finish q) ≡ go after
 unfolding finish run step afterName afterEnd
-finish-runs before begun = run-empty before [] refl some-name none []
+finish-runs before begun = pass-empty before [] pass-first some-name none [] .runs
 finish-runs (inside n around) begun = run-ends (n ∷ around)
 finish-runs (opened around) begun =
-    run-name around (some-name .bytes) _ (some-name .allowed)
-    ∙ run-empty-end around (some-name .bytes) none (ends around) (some-name .allowed)
+    pass-name around (some-name .bytes) _ (some-name .allowed) .runs
+    ∙ pass-empty-end around (some-name .bytes) none (ends around) (some-name .allowed) .runs
     ∙ run-ends around
 finish-runs (naming around n) begun =
-    run-more-name around n (nameRest n) _ (name-rest n begun)
-    ∙ run-empty-end around (n ++ nameRest n) none (ends around) (name-rest n begun)
+    pass-more-name around n (nameRest n) _ (name-rest n begun) .runs
+    ∙ pass-empty-end around (n ++ nameRest n) none (ends around) (name-rest n begun) .runs
     ∙ run-ends around
 finish-runs (named around n) begun = run-ends around
 finish-runs (emptied around) begun = run-ends around
-finish-runs (closing due around) begun = run-due around due _ ∙ run-ends around
+finish-runs (closing due around) begun = pass-due around due _ .runs ∙ run-ends around
 finish-runs after begun = refl
 
 -- what can be read can be completed

@@ -11,9 +11,19 @@ pub mod Elements
 pub mod StepsBack
 -- Soundness: bytes that can be read to the end are a plan
 pub mod Soundness
--- WrittenRuns: every plan can be read to its end
+-- Steps: one step of reading
+pub mod Steps
+-- MetLaws: the byte where a tag is met
+pub mod MetLaws
+-- Outcomes: what reading comes to
+pub mod Outcomes
+-- TagFaults: what a tag is refused for
+pub mod TagFaults
+-- WrittenRuns: every plan can be read to its end, and the tags met are its tags
 pub mod WrittenRuns
 -- Completions: what can be read can be completed to a plan
 pub mod Completions
 -- Rows: the rows of a plan's tags are its traces
 pub mod Rows
+-- FirstFault: reading tells the first fault of all
+pub mod FirstFault

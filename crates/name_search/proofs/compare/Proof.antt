@@ -1,5 +1,4 @@
 -- `compare` meets its contract. The loop's invariant: from i on, the names stand to each other as the whole do. Assumes nothing.
-use mathlib.Core.Path.{_≡_}
 use mathlib.Core.Logic.{⊎-elim}
 use Prim.Native.Nat.{_≤_, _-_}
 use native.Mathlib.Omega.{arith}

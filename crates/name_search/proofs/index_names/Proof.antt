@@ -6,7 +6,6 @@ use native.Mathlib.Numerals.{add-one}
 use native.Mathlib.Omega.{arith}
 use borrow.Author.Needs.{needs}
 use lib.ListN.{length, getD, length-set}
-use Rattle.base.specs.Limits.{name-limit}
 use Rattle.base.proofs.Fills.{fill-more}
 use Rattle.judging.specs.Offsets.{nextAt, offsetAt}
 use Rattle.judging.proofs.OffsetLaws.{offset-suc, field-within}
