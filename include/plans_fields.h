@@ -1,6 +1,6 @@
 /*
- * Books, tables and lists of names written and read field by field, for C99 and C++. There is nothing to link, nothing is allocated, and no byte
- * outside the buffers that are handed in is read or written.
+ * Books, tables and lists of names written and read field by field, for C99 and C++. There is nothing to link, nothing is allocated, and
+ * no byte outside the buffers that are handed in is read or written.
  *
  * A book is written name by name, then its class, then row by row:
  *
