@@ -73,7 +73,7 @@ pub record Naming (s : List ℕ) (at i : ℕ) : Type 0 where
 
 module _ (s : List ℕ) (at : ℕ) where
   -- the part of the first byte
-  part-first : at < length s → part s at (at + 1) ≡ getD s at 0 ∷ []
+  pub part-first : at < length s → part s at (at + 1) ≡ getD s at 0 ∷ []
   part-first h = part-more s at at (omega arith) h ∙ ap (λ (n : List ℕ). n ++ (getD s at 0 ∷ [])) (part-none s at)
 
   pub naming-start : at < length s → startsName (getD s at 0) ≡ true → Naming s at (at + 1)
@@ -99,7 +99,7 @@ module _ (s : List ℕ) (at : ℕ) where
         names = λ (k : ℕ) (g : at < k) (l : k ≤ i + 1).
             ⊎-elim
             (λ (p : k ≡ i + 1). subst (λ (n : ℕ). nameOk (part s at n) ≡ true) (sym p)
-                (subst (λ (n : List ℕ). nameOk n ≡ true) (sym (part-more s at i (omega arith) h)) name))
+            (subst (λ (n : List ℕ). nameOk n ≡ true) (sym (part-more s at i (omega arith) h)) name))
             (λ (p : k ≡ i + 1 → ⊥). run .names k g (omega arith))
             (eq-dec k (i + 1));
       }
@@ -179,9 +179,9 @@ module _ (s : List ℕ) (from end at : ℕ) where
         passed = λ (k : ℕ) (l : k < i + 1 - at).
             ⊎-elim
             (λ (p : k ≡ i - at).
-                let here : at + k ≡ i = omega arith in
-                let there : from + k ≡ j = omega arith in
-                ap (λ (n : ℕ). getD s n 0) here ∙ e ∙ ap (λ (n : ℕ). getD s n 0) (sym there))
+            let here : at + k ≡ i = omega arith in
+            let there : from + k ≡ j = omega arith in
+            ap (λ (n : ℕ). getD s n 0) here ∙ e ∙ ap (λ (n : ℕ). getD s n 0) (sym there))
             (λ (p : k ≡ i - at → ⊥). run .passed k (omega arith))
             (eq-dec k (i - at));
       }
