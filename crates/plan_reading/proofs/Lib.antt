@@ -5,3 +5,5 @@ pub mod ScanLaws
 pub mod StepLaws
 -- RunLaws: reading over runs of bytes
 pub mod RunLaws
+-- PieceLaws: what each answer of the functions of pieces says
+pub mod PieceLaws
