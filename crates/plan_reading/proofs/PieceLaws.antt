@@ -2,13 +2,13 @@
 -- begins an element. Assumes nothing.
 use mathlib.Core.Path.{_≡_, refl, sym, ap, _∙_, subst}
 use mathlib.Core.Logic.{⊎-elim}
-use mathlib.Core.Bool.{Bool, true, false, _&&_, _||_, cond, true≢false, false≢true}
+use mathlib.Core.Bool.{Bool, true, false, _&&_, _||_, cond, true≢false, false≢true, and-eq-true-iff}
 use mathlib.Core.List.{List, [], _∷_, _++_}
 use Prim.Native.Nat.{ℕ, zero, suc, _+_, _-_, _*_, _≤_, _<_}
 use native.Mathlib.Omega.{arith}
 use lib.Dec.{eqb, ltb, eqb·suc-zero}
 use lib.ListN.{length, getD, drop}
-use borrow.Author.Tests.{eq-eqb, ne-eqb, lt-ltb, ltb-true, ltb-false, not-true}
+use borrow.Author.Tests.{eqb-true, eq-eqb, ne-eqb, lt-ltb, ltb-true, ltb-false, not-true}
 use Rattle.base.specs.Limits.{plan-depth}
 use Rattle.base.proofs.Tests.{le-or-lt, false-or}
 use Rattle.written_plans.specs.Written.{Tag, isWhite, isText, less, slash, greater, ampersand}
@@ -17,10 +17,11 @@ use Rattle.written_plans.specs.Reading.{stop, go, afterName, afterEnd, endBegin
 use Rattle.written_plans.proofs.WrittenRuns.{slash-ends}
 use Rattle.plan_reading.specs.Scanning.{part, Skipped, NameEnds, Agrees}
 use Rattle.plan_reading.specs.Pieces.{openName, openNames, between, placeOf, reads, ReadsOn, Stops, Stacked, closingOf}
-use Rattle.plan_reading.specs.Pieces.{BeforeTag, followsName, NameHere, Passed, Met, PieceFrom, NameFrom}
+use Rattle.plan_reading.specs.Pieces.{BeforeTag, followsName, NameHere, Passed, Met, PieceFrom, NameFrom, CloseFrom}
 use Rattle.plan_reading.specs.declared.pieces.Reached.{Reached}
 use Rattle.plan_reading.specs.declared.pieces.Piece.{Piece}
 use Rattle.plan_reading.specs.declared.pieces.Piece.the-variants as piece
+use Rattle.plan_reading.specs.declared.pieces.Close.the-variants as close
 use Rattle.plan_reading.proofs.ScanLaws.{part-none}
 use Rattle.plan_reading.proofs.StepLaws.{reads-end, reads-stop, reads-go}
 use Rattle.plan_reading.proofs.RunLaws.{skipped-reads, name-read, part-cons, agrees-reads}
@@ -44,51 +45,68 @@ no-follow around n b e =
 
 -- ---- the end of a tag that begins an element
 
-module _ (s : List ℕ) (at next : ℕ) (white : Skipped isWhite s at next) (around : List (List ℕ)) (n : List ℕ) where
-  -- past the white space
-  past-white : ReadsOn s (named around n) at (named around n) next
+module _ (s : List ℕ) (at next : ℕ) (white : Skipped isWhite s at next) where
+  -- past white space
+  past-white : (around : List (List ℕ)) (n : List ℕ) → ReadsOn s (named around n) at (named around n) next
   unfolding step met afterName
-  past-white = skipped-reads isWhite s (named around n) (λ b e. rw (e)) (λ b rest. refl) at next white
+  past-white around n = skipped-reads isWhite s (named around n) (λ b e. rw (e)) (λ b rest. refl) at next white
 
-  pub end-missing : length s ≤ next → Stops s (named around n) at next
+  -- nothing follows
+  pub end-missing : length s ≤ next → CloseFrom s at (close.Bad next)
   unfolding ended
-  end-missing h judge = past-white judge ∙ reads-end judge s (named around n) next h
+  end-missing h around n judge = past-white around n judge ∙ reads-end judge s (named around n) next h
 
   module _ (h : next < length s) where
-    -- `>`
-    pub end-full : getD s next 0 ≡ greater → ReadsOn s (named around n) at (inside n around) (next + 1)
+    -- `>` follows
+    pub end-full : getD s next 0 ≡ greater → CloseFrom s at (close.Full (next + 1))
     unfolding step met afterName
-    end-full e judge =
-        past-white judge ∙ read-byte s (named around n) (inside n around) next h (rw (e)) (λ b rest. refl) judge
+    end-full e =
+        let onward : at ≤ next = white .onward in (
+          λ around n judge.
+              past-white around n judge ∙ read-byte s (named around n) (inside n around) next h (rw (e)) (λ b rest. refl) judge,
+          omega arith,
+          omega arith,
+        )
 
     -- neither `>` nor `/`
-    pub end-other : (getD s next 0 ≡ greater → ⊥) → (getD s next 0 ≡ slash → ⊥) → Stops s (named around n) at next
+    pub end-other : (getD s next 0 ≡ greater → ⊥) → (getD s next 0 ≡ slash → ⊥) → CloseFrom s at (close.Bad next)
     unfolding step afterName
-    end-other g l judge =
+    end-other g l around n judge =
         let other : isWhite (getD s next 0) ≡ false = white .stopped h in
-        past-white judge
+        past-white around n judge
         ∙ reads-stop judge s (named around n) next h (rw (other, ne-eqb (getD s next 0) greater g, ne-eqb (getD s next 0) slash l))
 
     module _ (e : getD s next 0 ≡ slash) where
-      -- past the `/`
-      past-slash : ReadsOn s (named around n) at (emptied around) (next + 1)
+      -- past `/`
+      past-slash : (around : List (List ℕ)) (n : List ℕ) → ReadsOn s (named around n) at (emptied around) (next + 1)
       unfolding step met afterName
-      past-slash judge = past-white judge ∙ read-byte s (named around n) (emptied around) next h (rw (e)) (λ b rest. refl) judge
+      past-slash around n judge =
+          past-white around n judge ∙ read-byte s (named around n) (emptied around) next h (rw (e)) (λ b rest. refl) judge
 
-      pub empty-missing : length s ≤ next + 1 → Stops s (named around n) at (next + 1)
+      -- nothing follows
+      pub empty-missing : length s ≤ next + 1 → CloseFrom s at (close.Bad (next + 1))
       unfolding ended
-      empty-missing g judge = past-slash judge ∙ reads-end judge s (emptied around) (next + 1) g
+      empty-missing g around n judge = past-slash around n judge ∙ reads-end judge s (emptied around) (next + 1) g
 
       module _ (g : next + 1 < length s) where
-        pub empty-other : (getD s (next + 1) 0 ≡ greater → ⊥) → Stops s (named around n) at (next + 1)
+        -- not `>`
+        pub empty-other : (getD s (next + 1) 0 ≡ greater → ⊥) → CloseFrom s at (close.Bad (next + 1))
         unfolding step
-        empty-other l judge =
-            past-slash judge ∙ reads-stop judge s (emptied around) (next + 1) g (rw (ne-eqb (getD s (next + 1) 0) greater l))
+        empty-other l around n judge =
+            past-slash around n judge
+            ∙ reads-stop judge s (emptied around) (next + 1) g (rw (ne-eqb (getD s (next + 1) 0) greater l))
 
-        pub end-empty : getD s (next + 1) 0 ≡ greater → ReadsOn s (named around n) at (leave around) (next + 1 + 1)
+        -- `>` follows
+        pub end-empty : getD s (next + 1) 0 ≡ greater → CloseFrom s at (close.Empty (next + 1 + 1))
         unfolding step met
-        end-empty l judge =
-            past-slash judge ∙ read-byte s (emptied around) (leave around) (next + 1) g (rw (l)) (λ b rest. refl) judge
+        end-empty l =
+            let onward : at ≤ next = white .onward in (
+              λ around n judge.
+                  past-slash around n judge
+                  ∙ read-byte s (emptied around) (leave around) (next + 1) g (rw (l)) (λ b rest. refl) judge,
+              omega arith,
+              omega arith,
+            )
 
 -- ---- the name of a tag that begins an element
 
@@ -118,15 +136,14 @@ module _ (s : List ℕ) (at end : ℕ) (name : NameEnds s at end) where
           let n = part s at end in
           name-read s at end around name some judge
           ∙ reads-stop judge s (naming around n) end h
-              (rw (name .stopped h, name .whole some, no-follow around n (getD s end 0) e))
+          (rw (name .stopped h, name .whole some, no-follow around n (getD s end 0) e))
 
       pub name-found : followsName (getD s end 0) ≡ true → NameFrom s at (piece.Name at end)
-      name-found e =
-          (
-            refl,
-            record { some = some; within = h; allowed = name .whole some; ends = name .stopped h; follows = e },
-            λ around. name-read s at end around name some
-          )
+      name-found e = (
+        refl,
+        record { some = some; within = h; allowed = name .whole some; ends = name .stopped h; follows = e },
+        λ around. name-read s at end around name some,
+      )
 
 -- ---- where reading has come
 
@@ -205,11 +222,11 @@ module _ (s stack : List ℕ) (r : Reached) (sound : Stacked s stack r) (deep : 
   around = openNames s stack top
 
   -- what agree asks for
-  pub name-behind : (from ≤ end) × (end ≤ r .at) × (r .at ≤ length s)
-  name-behind = (sound .forward top (omega arith), sound .behind top (omega arith), sound .within)
+  pub name-behind : (from ≤ end) × ((end ≤ r .at) × (r .at ≤ length s))
+  name-behind = (sound .forward top (omega arith), (sound .behind top (omega arith), sound .within))
 
   end-within : end ≤ length s
-  end-within = let behind : end ≤ r .at = name-behind .1 in let within : r .at ≤ length s = sound .within in omega arith
+  end-within = let behind : end ≤ r .at = name-behind .1 .0 in let within : r .at ≤ length s = sound .within in omega arith
 
   module _ (last : ℕ) (run : Agrees s from end (r .at) last) where
     -- past what agrees
@@ -227,9 +244,9 @@ module _ (s stack : List ℕ) (r : Reached) (sound : Stacked s stack r) (deep : 
         past-agreeing judge
         ∙ ap (λ (n : List ℕ). reads judge s (closing n around) last) front
         ∙ ⊎-elim (λ (g : length s ≤ last). reads-end judge s q last g)
-            (λ (g : last < length s).
-                reads-stop judge s q last g (rw (ne-eqb (getD s last 0) (getD s due 0) (run .stopped short g))))
-            (le-or-lt (length s) last)
+        (λ (g : last < length s).
+        reads-stop judge s q last g (rw (ne-eqb (getD s last 0) (getD s due 0) (run .stopped short g))))
+        (le-or-lt (length s) last)
 
     module _ (whole : end - from ≤ last - r .at) (at : ℕ) (white : Skipped isWhite s last at) where
       -- past the name and white space
@@ -273,7 +290,12 @@ module _ (s stack : List ℕ) (r : Reached) (sound : Stacked s stack r) (deep : 
 
 -- ---- a tag
 
--- an end tag begins only where an element is open
+-- an end tag begins with `/` where an element is open
+pub end-begins : (depth b : ℕ) → (eqb b slash && ltb 0 depth) ≡ true → (b ≡ slash) × (0 < depth)
+end-begins depth b e =
+    let both = and-eq-true-iff (eqb b slash) (ltb 0 depth) .0 e in (eqb-true b slash (both .0), ltb-true 0 depth (both .1))
+
+-- and else it does not
 no-end : (s stack : List ℕ) (depth b : ℕ) → (eqb b slash && ltb 0 depth) ≡ false → endBegins (openNames s stack depth) b ≡ stop
 unfolding openNames endBegins
 no-end s stack zero b e = refl
@@ -330,6 +352,14 @@ module _ (s stack : List ℕ) (r : Reached) where
 -- the byte may stand before a tag
 abbrev mayStand : ℕ → ℕ → Bool
 mayStand depth b = cond (eqb depth 0) (isWhite b) (isText b)
+
+pub before-white : (s : List ℕ) (r : Reached) (e : ℕ) → r .depth ≡ 0 → Skipped isWhite s (r .at) e → BeforeTag s r e
+before-white s r e h run =
+    subst (λ (z : Bool). Skipped (λ (b : ℕ). cond z (isWhite b) (isText b)) s (r .at) e) (sym (eq-eqb (r .depth) 0 h)) run
+
+pub before-text : (s : List ℕ) (r : Reached) (e : ℕ) → (r .depth ≡ 0 → ⊥) → Skipped isText s (r .at) e → BeforeTag s r e
+before-text s r e h run =
+    subst (λ (z : Bool). Skipped (λ (b : ℕ). cond z (isWhite b) (isText b)) s (r .at) e) (sym (ne-eqb (r .depth) 0 h)) run
 
 module _ (s stack : List ℕ) (tags b : ℕ) where
   -- reading stays in its place
@@ -416,18 +446,18 @@ module _ (s stack : List ℕ) (r : Reached) (at : ℕ) (run : BeforeTag s r at) 
     no-tag g judge =
         past-before judge
         ∙ reads-stop judge s (placeOf s stack r) at h
-            (next-stops s stack (r .tags) (getD s at 0) (r .depth) (run .stopped h) (ne-eqb (getD s at 0) less g))
+        (next-stops s stack (r .tags) (getD s at 0) (r .depth) (run .stopped h) (ne-eqb (getD s at 0) less g))
 
     pub second-element : (eqb (r .depth) 0 && ltb 0 (r .tags)) ≡ true → Stops s (placeOf s stack r) (r .at) at
     second-element begun judge =
         past-before judge
         ∙ reads-stop judge s (placeOf s stack r) at h
-            (next-second s stack (r .tags) (getD s at 0) (r .depth) (run .stopped h) begun)
+        (next-second s stack (r .tags) (getD s at 0) (r .depth) (run .stopped h) begun)
 
     pub tag-next : getD s at 0 ≡ less → (eqb (r .depth) 0 && ltb 0 (r .tags)) ≡ false
         → ReadsOn s (placeOf s stack r) (r .at) (opened (openNames s stack (r .depth))) (at + 1)
     tag-next e inner judge =
         past-before judge
         ∙ read-byte s (placeOf s stack r) (opened (openNames s stack (r .depth))) at h
-            (ap (step (placeOf s stack r)) e ∙ next-opens s stack (r .tags) (r .depth) inner)
-            (none-between (openNames s stack (r .depth)) (r .tags)) judge
+        (ap (step (placeOf s stack r)) e ∙ next-opens s stack (r .tags) (r .depth) inner)
+        (none-between (openNames s stack (r .depth)) (r .tags)) judge

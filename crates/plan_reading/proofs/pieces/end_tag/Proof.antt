@@ -1,8 +1,8 @@
+-- `pieces::end_tag` meets its contract. Assumes nothing.
+use Rattle.plan_reading.proofs.PieceLaws.{name-behind, end-unlike, end-cut, end-no-greater, end-passed}
 use borrow.Author.Needs.{needs}
 use Rattle.plan_reading.proofs.pieces.end_tag.Statement.{statement}
 use Rattle.plan_reading.proofs.pieces.end_tag.Tie as tie
-use Rattle.plan_reading.proofs.pieces.end_tag.Reads as reads
-use Rattle.plan_reading.proofs.pieces.end_tag.Lts as lts
 
 sub-top : tie.Need-sub-top
 sub-top c = search needs
@@ -26,7 +26,12 @@ element-copy-out-end : tie.Need-element-copy-out-end
 element-copy-out-end c = search needs
 
 agree-requires : tie.Need-agree-requires
-agree-requires c κs = search needs
+agree-requires c κs =
+    let start = c .before .before .before .before in
+    let s = start .args .plan .now in
+    let stack = start .args .stack .now in
+    let r = start .args .r in
+    name-behind s stack r (start .pre .0) (start .pre .1)
 
 sub-if1 : tie.Need-sub-if1
 sub-if1 c = search needs
@@ -35,19 +40,41 @@ sub-if1-2 : tie.Need-sub-if1-2
 sub-if1-2 c = search needs
 
 returns : tie.Need-returns
-returns c = search needs
+returns c =
+    let start = c .before .before .before .before .before .before .before in
+    let s = start .args .plan .now in
+    let stack = start .args .stack .now in
+    let r = start .args .r in
+    let run = c .before .before .agree in
+    end-unlike s stack r (start .pre .0) (start .pre .1) (run .result) (run .ensures) (c .if1 .taken)
 
 skip-white-requires : tie.Need-skip-white-requires
 skip-white-requires c κs = search needs
 
 returns-2 : tie.Need-returns-2
-returns-2 c = search needs
+returns-2 c =
+    let start = c .before .before .before .before .before .before .before .before .before in
+    let s = start .args .plan .now in
+    let stack = start .args .stack .now in
+    let r = start .args .r in
+    let run = c .before .before .before .before .agree in
+    let white = c .before .skip-white in
+    end-cut s stack r (start .pre .0) (start .pre .1) (run .result) (run .ensures) (c .before .before .if1 .left) (white .result) (white .ensures)
+    (c .if2 .taken)
 
 shared-slice-read-if3 : tie.Need-shared-slice-read-if3
 shared-slice-read-if3 c = search needs
 
 returns-3 : tie.Need-returns-3
-returns-3 c = search needs
+returns-3 c =
+    let start = c .before .before .before .before .before .before .before .before .before .before .before in
+    let s = start .args .plan .now in
+    let stack = start .args .stack .now in
+    let r = start .args .r in
+    let run = c .before .before .before .before .before .before .agree in
+    let white = c .before .before .before .skip-white in
+    end-no-greater s stack r (start .pre .0) (start .pre .1) (run .result) (run .ensures) (c .before .before .before .before .if1 .left) (white .result)
+    (white .ensures) (c .before .before .if2 .left) (c .if3 .taken)
 
 add-t15 : tie.Need-add-t15
 add-t15 c = search needs
@@ -56,7 +83,15 @@ sub-t9 : tie.Need-sub-t9
 sub-t9 c = search needs
 
 returns-4 : tie.Need-returns-4
-returns-4 c = search needs
+returns-4 c =
+    let start = c .before .before .before .before .before .before .before .before .before .before .before .before in
+    let s = start .args .plan .now in
+    let stack = start .args .stack .now in
+    let r = start .args .r in
+    let run = c .before .before .before .before .before .before .before .agree in
+    let white = c .before .before .before .before .skip-white in
+    end-passed s stack r (start .pre .0) (start .pre .1) (run .result) (run .ensures) (c .before .before .before .before .before .if1 .left) (white .result) (white .ensures)
+    (c .before .before .before .if2 .left) (c .before .if3 .left)
 
 pub end-tag-spec : {M : Type 1} → statement M
 end-tag-spec =
