@@ -7,11 +7,12 @@ use mathlib.Core.List.{List, [], _∷_, _++_, append-nil, append-assoc, List·Me
 use mathlib.Core.List.{List·Memᴰ·not-nil, List·Memᴰ·cases-cons}
 use Prim.Native.Nat.{ℕ, suc, _≤_, _<_}
 use native.Mathlib.Omega.{arith}
+use lib.Dec.{eqb, ltb}
 use lib.ListN.{length, getD, length-append, List·getD-append}
 use lib.Seq.{getD-at}
-use Rattle.base.specs.Lists.{before, lastOr}
+use Rattle.base.specs.Lists.{before, same, hasRow, lastOr}
 use Rattle.base.proofs.Tests.{Tells, told-false, tells-itself, tells-eqb, tells-ltb, tells-and, tells-or, tells-same, le-or-lt}
-use Rattle.base.proofs.Tests.{word-dec}
+use Rattle.base.proofs.Tests.{same-tests, tells-hasRow, word-dec}
 use Rattle.base.proofs.Places.{nth-in}
 use Rattle.model.specs.Fields.{Ascends, numberOf, above}
 use Rattle.model.proofs.Books.{NamesOk}
@@ -128,6 +129,12 @@ known-by-number names n low =
 pub name-of-number : (names : List (List ℕ)) (n : List ℕ) → numberOf names n < length names → getD names (numberOf names n) [] ≡ n
 name-of-number names n low = number-of-known names n (known-by-number names n low) .1
 
+-- so a name is told by its number
+pub known-test : (names : List (List ℕ)) (n : List ℕ) → hasRow n names ≡ ltb (numberOf names n) (length names)
+known-test names n =
+    same-tests (tells-hasRow n names) (tells-ltb (numberOf names n) (length names)) (λ m. number-of-known names n m .0)
+    (known-by-number names n)
+
 -- names with one number are equal
 pub equal-numbers :
     (names : List (List ℕ)) (a b : List ℕ) → In a names → In b names → numberOf names a ≡ numberOf names b → a ≡ b
@@ -153,6 +160,14 @@ module _ (names : List (List ℕ)) (ascending : Ascends names) where
       let up : numberOf names (getD names i []) ≤ i = one-place (numberOf names (getD names i [])) i (known .0) h (known .1) in
       let down : i ≤ numberOf names (getD names i []) = one-place i (numberOf names (getD names i [])) h (known .0) (sym (known .1)) in
       omega arith
+
+  -- and no other name has it
+  pub number-only : (i : ℕ) → i < length names → (n : List ℕ) → eqb (numberOf names n) i ≡ same n (getD names i [])
+  number-only i h n =
+      same-tests (tells-eqb (numberOf names n) i) (tells-same n (getD names i []))
+      (λ (e : numberOf names n ≡ i).
+      sym (name-of-number names n (omega arith)) ∙ ap (λ (k : ℕ). getD names k []) e)
+      (λ e. ap (numberOf names) e ∙ number-at-place i h)
 
   -- a name before the one at place j stands at no place from j on
   pub places-below :
