@@ -1,6 +1,10 @@
--- What the proofs of this crate's functions use. Assumes nothing.
--- StepLaws: one byte of a plan, as reading comes to it
+-- Laws that the functions' proofs share. Assumes nothing.
+-- ScanLaws: parts of a plan, and runs of bytes as far as they are read
+pub mod ScanLaws
+-- StepLaws: reading at one offset
 pub mod StepLaws
+-- RunLaws: reading over runs of bytes
+pub mod RunLaws
 -- LogLaws: the entries of the log
 pub mod LogLaws
 -- StackLaws: the open elements, and what a tag is refused for
