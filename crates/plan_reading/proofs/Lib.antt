@@ -7,3 +7,9 @@ pub mod StepLaws
 pub mod RunLaws
 -- PieceLaws: what each answer of the functions of pieces says
 pub mod PieceLaws
+-- LogLaws: the entries of the log
+pub mod LogLaws
+-- StackLaws: the open elements, and what a tag is refused for
+pub mod StackLaws
+-- TurnLaws: one turn of the reader, and a whole plan
+pub mod TurnLaws
