@@ -11,13 +11,13 @@ use lib.ListN.{length, getD, drop}
 use borrow.Author.Tests.{eqb-true, eq-eqb, ne-eqb, lt-ltb, ltb-true, ltb-false, not-true}
 use Rattle.base.specs.Limits.{plan-depth}
 use Rattle.base.proofs.Tests.{le-or-lt, false-or}
-use Rattle.written_plans.specs.Written.{Tag, isWhite, isText, less, slash, greater, ampersand}
+use Rattle.written_plans.specs.Written.{isWhite, isText, less, slash, greater, ampersand}
 use Rattle.written_plans.specs.Reading.{Place, before, inside, opened, naming, named, emptied, closing, after, leave}
 use Rattle.written_plans.specs.Reading.{stop, go, afterName, afterEnd, endBegins, step, met, beginsName, ended}
 use Rattle.written_plans.proofs.WrittenRuns.{slash-ends}
 use Rattle.plan_reading.specs.Scanning.{part, Skipped, NameEnds, Agrees}
 use Rattle.plan_reading.specs.Pieces.{openName, openNames, between, placeOf, reads, ReadsOn, Stops, Stacked, closingOf}
-use Rattle.plan_reading.specs.Pieces.{BeforeTag, followsName, NameHere, Passed, Met, PieceFrom, NameFrom, CloseFrom}
+use Rattle.plan_reading.specs.Pieces.{BeforeTag, followsName, Passed, Met, PieceFrom, NameFrom, CloseFrom}
 use Rattle.plan_reading.specs.declared.pieces.Reached.{Reached}
 use Rattle.plan_reading.specs.declared.pieces.Piece.{Piece}
 use Rattle.plan_reading.specs.declared.pieces.Piece.the-variants as piece
@@ -118,8 +118,8 @@ module _ (s : List ℕ) (at end : ℕ) (name : NameEnds s at end) where
       let none : part s at end ≡ [] = ap (part s at) same ∙ part-none s at in
       let here : getD s end 0 ≡ getD s at 0 = ap (λ (i : ℕ). getD s i 0) same in
       let stopped : beginsName (part s at end ++ (getD s end 0 ∷ [])) ≡ false = name .stopped (omega arith) in
-      let ends : beginsName (getD s at 0 ∷ []) ≡ false =
-      subst (λ z. beginsName (z ++ (getD s at 0 ∷ [])) ≡ false) none (subst (λ z. beginsName (part s at end ++ (z ∷ [])) ≡ false) here stopped) in
+      let same-byte = subst (λ z. beginsName (part s at end ++ (z ∷ [])) ≡ false) here stopped in
+      let ends : beginsName (getD s at 0 ∷ []) ≡ false = subst (λ z. beginsName (z ++ (getD s at 0 ∷ [])) ≡ false) none same-byte in
       reads-stop judge s (opened around) at h (rw (ends, other))
 
   module _ (some : at < end) where
@@ -363,7 +363,8 @@ before-text s r e h run =
 
 module _ (s stack : List ℕ) (tags b : ℕ) where
   -- reading stays in its place
-  next-stays : (depth : ℕ) → mayStand depth b ≡ true → step (between (openNames s stack depth) tags) b ≡ go (between (openNames s stack depth) tags)
+  next-stays : (depth : ℕ) → mayStand depth b ≡ true
+      → step (between (openNames s stack depth) tags) b ≡ go (between (openNames s stack depth) tags)
   unfolding step openNames
   next-stays zero e = outside (eqb tags 0)
     where
