@@ -60,7 +60,8 @@ returns-2 c =
     let s = start .args .plan .now in
     let stack = start .args .stack .now in
     let r = start .args .r in
-    end-cut s stack r (start .pre .0) (start .pre .1) (run .result) (run .ensures) (whole .if1 .left) (white .result) (white .ensures) (c .if2 .taken)
+    end-cut s stack r (start .pre .0) (start .pre .1) (run .result) (run .ensures)
+    (whole .if1 .left) (white .result) (white .ensures) (c .if2 .taken)
 
 shared-slice-read-if3 : tie.Need-shared-slice-read-if3
 shared-slice-read-if3 c = search needs
@@ -75,7 +76,8 @@ returns-3 c =
     let s = start .args .plan .now in
     let stack = start .args .stack .now in
     let r = start .args .r in
-    end-no-greater s stack r (start .pre .0) (start .pre .1) (run .result) (run .ensures) (whole .if1 .left) (white .result) (white .ensures)
+    end-no-greater s stack r (start .pre .0) (start .pre .1) (run .result) (run .ensures)
+    (whole .if1 .left) (white .result) (white .ensures)
     (more .if2 .left) (c .if3 .taken)
 
 add-t15 : tie.Need-add-t15

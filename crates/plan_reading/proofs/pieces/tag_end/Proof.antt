@@ -1,4 +1,5 @@
 -- `pieces::tag_end` meets its contract. Assumes nothing.
+use native.Mathlib.Omega.{arith}
 use Rattle.plan_reading.proofs.PieceLaws.{end-missing, end-full, end-other, empty-missing, empty-other, end-empty}
 use borrow.Author.Needs.{needs}
 use Rattle.plan_reading.proofs.pieces.tag_end.Statement.{statement}
@@ -59,7 +60,7 @@ returns-5 c =
     let white = first .before .skip-white in
     let args = first .before .before .before .args in
     empty-other (args .plan .now) (args .at) (white .result) (white .ensures) (first .if1 .left) (slash .if3 .left)
-    (more .if4 .left) (c .if5 .taken)
+    (more .if4 .left) (λ z. omega (arith, c .if5 .taken))
 
 add-t5 : tie.Need-add-t5
 add-t5 c = search needs
@@ -72,7 +73,7 @@ returns-6 c =
     let white = first .before .skip-white in
     let args = first .before .before .before .args in
     end-empty (args .plan .now) (args .at) (white .result) (white .ensures) (first .if1 .left) (slash .if3 .left)
-    (more .if4 .left) (c .if5 .left)
+    (more .if4 .left) (omega (arith, c .if5 .left))
 
 pub tag-end-spec : {M : Type 1} → statement M
 tag-end-spec =
