@@ -1,7 +1,8 @@
 -- `read_plan` meets its contract. The loop's invariant: reading the whole plan comes to the tags in the log, and then to reading on from
 -- what is reached; what is left of the plan falls. Assumes nothing.
-use mathlib.Core.Path.{_≡_, refl, sym, ap, _∙_, subst}
-use Prim.Native.Nat.{_-_}
+use mathlib.Core.Path.{_≡_, refl, _∙_, subst}
+use mathlib.Core.List.{List}
+use Prim.Native.Nat.{ℕ, _-_}
 use native.Mathlib.Omega.{arith}
 use borrow.Author.Needs.{needs}
 use lib.ListN.{length}
@@ -49,32 +50,46 @@ read-piece-requires c κs =
 enum-known-next : tie.Need-enum-known-next Inv-loop μ-loop
 enum-known-next c = search needs
 
+-- the loop, from where a piece is read; and the stack and the log after that
+abbrev looped : tie.After-read-piece Inv-loop μ-loop → tie.At-loop Inv-loop μ-loop
+looped c = c .before .before .before .before .before .before
+
+abbrev stack-after : tie.After-read-piece Inv-loop μ-loop → List ℕ
+stack-after c = c .read-piece .last .1 .1 .1 .1 .0
+
+abbrev log-after : tie.After-read-piece Inv-loop μ-loop → List ℕ
+log-after c = c .read-piece .last .1 .1 .1 .1 .1 .0
+
+-- what the piece says of its answer
+turned :
+    (c : tie.After-read-piece Inv-loop μ-loop) (t : Turn) → c .read-piece .result ≡ t
+    → let a = start (looped c) .args in let loop = looped c .loop in
+    TurnFrom (namesOf (a .list .now) (a .sought)) (judgeOf (a .list .now) (a .sought)) (a .plan .now) (loop .stack) (stack-after c)
+    (loop .log) (log-after c) (loop .r) t
+turned c t e =
+    let a = start (looped c) .args in
+    let loop = looped c .loop in
+    subst
+    (λ (t : Turn).
+    TurnFrom (namesOf (a .list .now) (a .sought)) (judgeOf (a .list .now) (a .sought)) (a .plan .now) (loop .stack) (stack-after c)
+    (loop .log) (log-after c) (loop .r) t)
+    e (c .read-piece .ensures)
+
 loop-less : tie.Need-loop-less Inv-loop μ-loop
 loop-less c =
-    let read = c .before .before .before .before .before in
-    let at = read .before .before .before .before .before .before in
-    let a = start at .args in
-    let turned = subst
-    (λ (t : Turn).
-    TurnFrom (namesOf (a .list .now) (a .sought)) (judgeOf (a .list .now) (a .sought)) (a .plan .now) (at .loop .stack) _ (at .loop .log) _
-    (at .loop .r) t)
-    (c .before .next .given .1) (read .read-piece .ensures) in
-    omega (arith, turned .further, turned .standing .stacked .within)
+    let goes = turned (c .before .before .before .before .before) _ (c .before .next .given .1) in
+    omega (arith, goes .further, goes .standing .stacked .within)
 
 loop-again : tie.Need-loop-again Inv-loop μ-loop
 loop-again c =
     let read = c .before .before .before .before .before in
-    let at = read .before .before .before .before .before .before in
+    let at = looped read in
     let a = start at .args in
-    let turned = subst
-    (λ (t : Turn).
-    TurnFrom (namesOf (a .list .now) (a .sought)) (judgeOf (a .list .now) (a .sought)) (a .plan .now) (at .loop .stack) _ (at .loop .log) _
-    (at .loop .r) t)
-    (c .before .next .given .1) (read .read-piece .ensures) in
+    let goes = turned read _ (c .before .next .given .1) in
     (
       plan-goes (namesOf (a .list .now) (a .sought)) (chosenOf (a .list .now) (a .sought)) (a .plan .now) (at .loop .stack) (at .loop .log)
-          (at .loop .r) (at .loop .inv .0) _ _ _ turned,
-      turned .same-room ∙ at .loop .inv .1,
+          (at .loop .r) (at .loop .inv .0) (stack-after read) (log-after read) _ goes,
+      goes .same-room ∙ at .loop .inv .1,
     )
 
 enum-known-next-2 : tie.Need-enum-known-next-2 Inv-loop μ-loop
@@ -86,16 +101,11 @@ same-length c = search needs
 returns : tie.Need-returns Inv-loop μ-loop
 returns c =
     let read = c .before .before .before .before .before in
-    let at = read .before .before .before .before .before .before in
+    let at = looped read in
     let a = start at .args in
     (
       plan-refused (namesOf (a .list .now) (a .sought)) (chosenOf (a .list .now) (a .sought)) (a .plan .now) (at .loop .stack)
-          (at .loop .log) (at .loop .r) (at .loop .inv .0) _ _
-          (subst
-          (λ (t : Turn).
-          TurnFrom (namesOf (a .list .now) (a .sought)) (judgeOf (a .list .now) (a .sought)) (a .plan .now) (at .loop .stack) _
-          (at .loop .log) _ (at .loop .r) t)
-          (c .before .next2 .given .1) (read .read-piece .ensures)),
+          (at .loop .log) (at .loop .r) (at .loop .inv .0) _ _ (turned read _ (c .before .next2 .given .1)),
       search needs,
     )
 
