@@ -1,7 +1,7 @@
 -- The stack of the open elements: how many names it holds, what one element more leaves as it was, and what a tag is refused for by the
 -- numbers on it. Assumes nothing.
 use mathlib.Core.Path.{_≡_, refl, sym, ap, ap₂, _∙_}
-use mathlib.Core.Logic.{_≢_}
+use mathlib.Core.Logic.{_≢_, ⊎-elim}
 use mathlib.Core.Bool.{Bool, true, false, _&&_, not}
 use mathlib.Core.List.{List, [], _∷_}
 use Prim.Native.Nat.{ℕ, zero, suc, _+_, _*_, _-_, _≤_, _<_}
@@ -9,9 +9,9 @@ use native.Mathlib.Omega.{arith}
 use lib.Dec.{eqb, ltb, leb}
 use lib.ListN.{length, getD, set, length-set}
 use lib.Seq.{getD-set-same, getD-set-other}
-use Rattle.base.specs.Lists.{same, hasRow}
+use Rattle.base.specs.Lists.{hasRow}
 use Rattle.base.specs.Limits.{plan-depth, too-deep, unknown-child, when, firstOf}
-use Rattle.base.proofs.Tests.{Tells, told-false, tells-eqb, tells-ltb, tells-leb}
+use Rattle.base.proofs.Tests.{told-false, tells-eqb, tells-ltb, tells-leb, le-or-lt}
 use Rattle.model.specs.Fields.{numberOf}
 use Rattle.model.proofs.NameNumbers.{number-only, known-test}
 use Rattle.judging.proofs.OffsetLaws.{length-fields}
@@ -119,6 +119,19 @@ child-test list sought s stack (suc d) named numbered inner =
     sym (number-only (namesOf list sought) (named .ascends) (sought .chosen) some (openName s stack d))
     ∙ ap (λ (k : ℕ). eqb k (sought .chosen)) (sym (numbered d (omega arith)))
     ∙ ap (λ (i : ℕ). eqb (getD stack i 0) (sought .chosen)) place
+
+-- a tag that is not refused does not stand too deep
+pub fine-shallow :
+    (names : List (List ℕ)) (chosen s stack : List ℕ) (depth : ℕ) (name onward : List ℕ)
+    → tagFault names chosen (tag (openNames s stack depth) name onward) ≡ 0 → depth < plan-depth
+fine-shallow names chosen s stack depth name onward e =
+    ⊎-elim
+    (λ (h : plan-depth ≤ depth).
+    let deep : tagFault names chosen (tag (openNames s stack depth) name onward) ≡ too-deep =
+    fault-is names chosen (openNames s stack depth) name onward
+    (ap (leb plan-depth) (open-count s stack depth) ∙ tells-leb plan-depth depth .test h) refl refl in
+    let z : ⊥ = omega arith in absurd z)
+    (λ h. h) (le-or-lt plan-depth depth)
 
 module _ (stack : List ℕ) (depth number : ℕ) (sought : Sought) where
   -- a tag inside fewer elements does not stand too deep
