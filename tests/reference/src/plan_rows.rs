@@ -54,7 +54,7 @@ pub fn read_rows(asked: Asked, lent: Lent) -> Result<PlanRows, Refused> {
 /// Every 14, 15 and 16 of the plan, in any order.
 fn faults(reading: &Reading, names: &[Vec<u8>], chosen: &[u8]) -> Vec<Refused> {
     let mut faults = vec![];
-    faults.extend(reading.impossible.map(|at| Refused { refusal: Refusal::NotAPlan, at }));
+    faults.extend(reading.impossible.map(|at| Refused { refusal: Refusal::BadPlan, at }));
     for (element, depth) in reading.elements.iter().zip(depths(&reading.elements)) {
         if depth >= DEPTH_LIMIT {
             faults.push(Refused { refusal: Refusal::TooDeep, at: element.after_name });

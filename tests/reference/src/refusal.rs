@@ -15,7 +15,7 @@ pub enum Refusal {
     BadState = 11,
     BadNumbering = 12,
     OutputTooShort = 13,
-    NotAPlan = 14,
+    BadPlan = 14,
     TooDeep = 15,
     UnknownChild = 16,
 }

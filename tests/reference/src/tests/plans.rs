@@ -91,9 +91,9 @@ fn sixteen_levels_pass_and_the_seventeenth_is_15() {
 #[test]
 fn the_first_fault_in_the_plan() {
     assert_eq!(fault("<day><soup/>&</day>"), (UnknownChild, 10));
-    assert_eq!(fault("<day>&<soup/></day>"), (NotAPlan, 5));
+    assert_eq!(fault("<day>&<soup/></day>"), (BadPlan, 5));
     assert_eq!(fault(&format!("{}&", "<a>".repeat(17))), (TooDeep, 50));
-    assert_eq!(fault(&format!("{}&{}", "<a>".repeat(16), "<a>".repeat(2))), (NotAPlan, 48));
+    assert_eq!(fault(&format!("{}&{}", "<a>".repeat(16), "<a>".repeat(2))), (BadPlan, 48));
     let deep = nested("a", 15, "<day><lunch/></day>");
     assert_eq!(fault(&format!("<a>{deep}</a>")), (TooDeep, 16 * 3 + 4));
     assert_eq!(fault("<plan><day><soup/></day>"), (UnknownChild, 16));
@@ -102,15 +102,15 @@ fn the_first_fault_in_the_plan() {
 #[test]
 fn the_lower_number_on_a_tie() {
     // 14 and 16: the name ends at a byte that no plan has there
-    assert_eq!(fault("<day><soup"), (NotAPlan, 10));
-    assert_eq!(fault("<day><soup!"), (NotAPlan, 10));
-    assert_eq!(fault("<day><soup<"), (NotAPlan, 10));
+    assert_eq!(fault("<day><soup"), (BadPlan, 10));
+    assert_eq!(fault("<day><soup!"), (BadPlan, 10));
+    assert_eq!(fault("<day><soup<"), (BadPlan, 10));
     // the byte after the name is possible, the next is not
     assert_eq!(fault("<day><soup /x"), (UnknownChild, 10));
     assert_eq!(fault("<day><soup/"), (UnknownChild, 10));
     // 14 and 15
-    assert_eq!(fault(&format!("{}<b", "<a>".repeat(16))), (NotAPlan, 50));
-    assert_eq!(fault(&format!("{}<b=", "<a>".repeat(16))), (NotAPlan, 50));
+    assert_eq!(fault(&format!("{}<b", "<a>".repeat(16))), (BadPlan, 50));
+    assert_eq!(fault(&format!("{}<b=", "<a>".repeat(16))), (BadPlan, 50));
     // 15 and 16
     assert_eq!(fault(&nested("a", 15, "<day><soup/></day>")), (TooDeep, 15 * 3 + 5 + 5));
 }
@@ -120,7 +120,7 @@ fn names_of_32_bytes_pass_and_the_33rd_byte_is_14() {
     let name = "n".repeat(32);
     assert_eq!(impossible(format!("<{name}></{name}>").as_bytes()), None);
     assert_eq!(impossible(format!("<{name}n/>").as_bytes()), Some(33));
-    assert_eq!(fault(&format!("<day><{name}n/>")), (NotAPlan, 5 + 33));
+    assert_eq!(fault(&format!("<day><{name}n/>")), (BadPlan, 5 + 33));
     assert_eq!(fault(&format!("<day><{name}/>")), (UnknownChild, 5 + 33));
 }
 
@@ -201,7 +201,7 @@ fn sizes_come_first() {
     assert_eq!(refusal(&[], &long[1..], WORK_BYTES), Err((Misplaced, 0)));
     assert_eq!(refusal(&long[1..], &list(&["a"]), WORK_BYTES), Err((BadRow, 0)));
     let spaces = Asked { plan: &long[1..], names: &list(&["a"]), chosen: 0 };
-    assert_eq!(read_rows(spaces, ENOUGH), Err(Refused { refusal: NotAPlan, at: INPUT_LIMIT }));
+    assert_eq!(read_rows(spaces, ENOUGH), Err(Refused { refusal: BadPlan, at: INPUT_LIMIT }));
 }
 
 #[test]
@@ -222,7 +222,7 @@ fn then_the_list_and_the_chosen_number() {
     assert_eq!(refusal(&with(NAME, b"a"), 9), NameOrder);
     assert_eq!(refusal(&list(&many), 0), TooMany);
     assert_eq!(refusal(&list(&many[..64]), 64), BadRow);
-    assert_eq!(refusal(&list(&many[..64]), 63), NotAPlan);
+    assert_eq!(refusal(&list(&many[..64]), 63), BadPlan);
     assert_eq!(refusal(&list(&["a"]), 255), BadRow);
 }
 
@@ -235,7 +235,7 @@ fn last_come_7_then_9_then_13_over_the_whole_plan() {
     assert_eq!(rows(&plan(&long.replacen("<lunch/>", "", 1)))[0].len(), 64);
     assert_eq!(fault(&plan(&long)), (BadRow, 0));
     assert_eq!(fault(&plan(&format!("{long}{}", "<day/>".repeat(256)))), (TooMany, 0));
-    assert_eq!(fault(&format!("<plan>{long}&")), (NotAPlan, 6 + long.len()));
+    assert_eq!(fault(&format!("<plan>{long}&")), (BadPlan, 6 + long.len()));
     let lent = |plan: &str, output| {
         let asked = Asked { plan: plan.as_bytes(), names: &list(&["day", "lunch"]), chosen: 0 };
         read_rows(asked, Lent { output, ..ENOUGH }).map(|read| read.bytes.len()).map_err(|refused| refused.refusal)
