@@ -3,7 +3,7 @@
 use crate::drawing::draw_names;
 use reference::fields::{NAME, NAMES_LIMIT, NAME_LENGTH_LIMIT};
 use reference::plan::is_white;
-use reference::plan_rows::{Asked, DEPTH_LIMIT};
+use reference::plan_rows::{Asked, LEVELS_LIMIT};
 use reference::random::Random;
 use reference::table::write_field;
 
@@ -18,10 +18,10 @@ pub enum Text {
 
 /// How large a plan may be.
 #[derive(Clone, Copy, Debug)]
-pub struct Shape {
-    pub elements: usize,
-    pub depth: usize,
-    pub text: Text,
+struct Shape {
+    elements: usize,
+    levels: usize,
+    text: Text,
 }
 
 /// A plan with the list of names that it is read with.
@@ -34,7 +34,11 @@ pub struct Plan {
 
 impl Plan {
     pub fn list(&self) -> Vec<u8> {
-        list_of(&self.names)
+        let mut bytes = vec![];
+        for name in &self.names {
+            write_field(&mut bytes, NAME, name);
+        }
+        bytes
     }
 
     /// These bytes, read with a list and this plan's chosen number.
@@ -43,22 +47,20 @@ impl Plan {
     }
 }
 
-pub fn list_of(names: &[Vec<u8>]) -> Vec<u8> {
-    let mut bytes = vec![];
-    for name in names {
-        write_field(&mut bytes, NAME, name);
-    }
-    bytes
-}
-
 /// A plan of few elements with short texts.
 pub fn draw_small_plan(random: &mut Random, text: Text) -> Plan {
-    let shape = Shape { elements: random.between(1, 6), depth: random.between(1, 4), text };
-    draw_plan(random, shape)
+    let shape = Shape { elements: random.between(1, 6), levels: random.between(1, 4), text };
+    draw_shape(random, shape)
 }
 
-/// A plan without a fault that the shape leaves room for: children of the chosen element are in the list.
-pub fn draw_plan(random: &mut Random, shape: Shape) -> Plan {
+/// A plan of up to so many elements, on up to sixteen levels.
+pub fn draw_plan(random: &mut Random, elements: usize, text: Text) -> Plan {
+    let shape = Shape { elements: random.between(1, elements), levels: random.between(1, LEVELS_LIMIT), text };
+    draw_shape(random, shape)
+}
+
+/// A plan without 14, 15 and 16: the chosen element's children are in the list.
+fn draw_shape(random: &mut Random, shape: Shape) -> Plan {
     let most = if random.once_in(20) { NAMES_LIMIT } else { 5 };
     let count = random.between(1, most);
     let names = draw_names(random, count);
@@ -97,8 +99,8 @@ struct Drawing<'a> {
 }
 
 impl Drawing<'_> {
-    /// An element with all that is in it, at a depth that counts itself.
-    fn element(&mut self, parent: Option<&[u8]>, depth: usize) {
+    /// An element with all that is in it, on this level.
+    fn element(&mut self, parent: Option<&[u8]>, level: usize) {
         self.left -= 1;
         let name = self.name(parent);
         self.bytes.push(b'<');
@@ -110,8 +112,8 @@ impl Drawing<'_> {
         }
         self.bytes.push(b'>');
         self.text();
-        while self.left > 0 && depth < self.shape.depth && !self.random.once_in(5) {
-            self.element(Some(&name), depth + 1);
+        while self.left > 0 && level < self.shape.levels && !self.random.once_in(5) {
+            self.element(Some(&name), level + 1);
             self.text();
         }
         self.bytes.extend(b"</");
@@ -192,6 +194,3 @@ pub fn element(name: &[u8], inside: &[u8]) -> Vec<u8> {
 pub fn empty(name: &[u8]) -> Vec<u8> {
     [b"<", name, b"/>"].concat()
 }
-
-/// How deep plans are drawn that are to pass.
-pub const DEEPEST: usize = DEPTH_LIMIT;

@@ -6,8 +6,8 @@ use crate::refusal::Refusal;
 use crate::table::write_field;
 use crate::{check_sizes, Lent};
 
-/// An element may stand inside fewer others than this.
-pub const DEPTH_LIMIT: usize = 16;
+/// Elements may stand on so many levels, the outermost on the first.
+pub const LEVELS_LIMIT: usize = 16;
 
 /// What is handed in: a plan, a list of name fields and the number of one of the names.
 #[derive(Clone, Copy, Debug)]
@@ -56,7 +56,7 @@ fn faults(reading: &Reading, names: &[Vec<u8>], chosen: &[u8]) -> Vec<Refused> {
     let mut faults = vec![];
     faults.extend(reading.impossible.map(|at| Refused { refusal: Refusal::BadPlan, at }));
     for (element, depth) in reading.elements.iter().zip(depths(&reading.elements)) {
-        if depth >= DEPTH_LIMIT {
+        if depth >= LEVELS_LIMIT {
             faults.push(Refused { refusal: Refusal::TooDeep, at: element.after_name });
         }
         let is_under_chosen = element.parent.is_some_and(|parent| reading.elements[parent].name == chosen);

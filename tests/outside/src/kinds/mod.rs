@@ -54,6 +54,7 @@ pub const KINDS: &[Kind] = &[
     kind("plans cut at every length", 80, plans::cut),
     kind("beginnings of plans with every ending of up to three of seven bytes", 80, plans::endings),
     kind("plans with 14, 15 and 16 planted before and behind one another", 60, plans::planted),
+    kind("plans with markup and bytes that other XML has, or only plans have", 20, plans::foreign),
     kind("tags at fault at the byte after their names, with every byte there", 40, plans::ties),
     kind("plans with lists damaged, cut and moved, and every chosen number", 60, plans::lists),
     kind("plans with outputs of each length from 0 to one more than the rows", 60, plan_sizes::outputs),

@@ -2,7 +2,7 @@
 
 use crate::comparing::{Mismatch, Run};
 use crate::expat::{tags, Tag};
-use crate::planning::{draw_plan, draw_small_plan, is_plain, Plan, Shape, Text, DEEPEST};
+use crate::planning::{draw_plan, draw_small_plan, is_plain, Plan, Text};
 use reference::fields::{is_in_name, NAME_LENGTH_LIMIT, ROW};
 use reference::plan::read;
 use reference::plan_rows::PlanRows;
@@ -11,8 +11,7 @@ use reference::table::write_field;
 /// Plans of few and of many elements: expat accepts them, and its tags give the same rows.
 pub fn accepted(run: &mut Run) -> Result<(), Mismatch> {
     let most = if run.random.once_in(20) { 2000 } else { 40 };
-    let shape = Shape { elements: run.random.between(1, most), depth: run.random.between(1, DEEPEST), text: Text::Plain };
-    let plan = draw_plan(&mut run.random, shape);
+    let plan = draw_plan(&mut run.random, most, Text::Plain);
     let list = plan.list();
     match run.compare_rows(plan.ask(&plan.bytes, &list))? {
         Some(read) => same_rows(&plan, &plan.bytes, &read),

@@ -3,18 +3,16 @@
 use crate::comparing::{Mismatch, Run};
 use crate::damage::any_bytes;
 use crate::drawing::{draw_name, draw_names};
-use crate::planning::{
-    draw_plan, draw_small_plan, draw_text_byte, element, empty, list_of, near_names, nested, Plan, Shape, Text, DEEPEST,
-};
-use reference::fields::{NAME, NAMES_LIMIT, NAME_LENGTH_LIMIT, ROWS_LIMIT, ROW_LIMIT};
+use crate::planning::{draw_plan, draw_small_plan, draw_text_byte, element, empty, near_names, nested, Plan, Text};
+use reference::fields::{CLASS, NAME, NAMES_LIMIT, NAME_LENGTH_LIMIT, ROW, ROWS_LIMIT, ROW_LIMIT};
+use reference::plan_rows::LEVELS_LIMIT;
 use reference::random::Random;
 use reference::table::write_field;
 use reference::{Lent, INPUT_LIMIT, WORK_BYTES};
 
 /// Outputs of each length from 0 to one more than the rows.
 pub fn outputs(run: &mut Run) -> Result<(), Mismatch> {
-    let shape = Shape { elements: run.random.between(1, 60), depth: run.random.between(1, DEEPEST), text: Text::Any };
-    let plan = draw_plan(&mut run.random, shape);
+    let plan = draw_plan(&mut run.random, 60, Text::Any);
     let list = plan.list();
     let needed = run.compare_rows(plan.ask(&plan.bytes, &list))?.map_or(0, |read| read.bytes.len());
     for output in 0..=needed + 1 {
@@ -119,7 +117,7 @@ fn with_name(names: &[Vec<u8>], name: &[u8]) -> Vec<Vec<u8>> {
 pub fn depths(run: &mut Run) -> Result<(), Mismatch> {
     let plan = draw_small_plan(&mut run.random, Text::Any);
     let list = plan.list();
-    for depth in DEEPEST - 2..=DEEPEST + 2 {
+    for depth in LEVELS_LIMIT - 2..=LEVELS_LIMIT + 2 {
         for inside in [&b""[..], b"x", b"&"] {
             run.compare_rows(plan.ask(&nested(&plan.names[plan.chosen], depth, inside), &list))?;
             let mixed = draw_levels(&mut run.random, &plan, depth, inside);
@@ -179,7 +177,7 @@ fn draw_days(random: &mut Random, plan: &Plan, rows: usize, entries: usize) -> V
     bytes
 }
 
-/// 64 and 65 names in the list, with every one of them in a row.
+/// Lists of up to 65 names, with 64 of them in a row; and behind 64 names a field that is refused, or passes but for its number.
 pub fn name_counts(run: &mut Run) -> Result<(), Mismatch> {
     for count in [1, 2, NAMES_LIMIT - 1, NAMES_LIMIT, NAMES_LIMIT + 1] {
         let names = draw_names(&mut run.random, count);
@@ -189,8 +187,21 @@ pub fn name_counts(run: &mut Run) -> Result<(), Mismatch> {
         for chosen in [0, count - 1, count, 255] {
             let day = element(&names[chosen.min(count - 1)], &children.concat());
             let plan = Plan { bytes: day, names: names.clone(), chosen };
-            run.compare_rows(plan.ask(&plan.bytes, &list_of(&names)))?;
+            run.compare_rows(plan.ask(&plan.bytes, &plan.list()))?;
         }
+    }
+    after_64_names(run)
+}
+
+fn after_64_names(run: &mut Run) -> Result<(), Mismatch> {
+    let names = draw_names(&mut run.random, NAMES_LIMIT);
+    let plan = Plan { bytes: empty(&names[0]), names, chosen: 0 };
+    for (mark, bytes) in [(NAME, &b"zzzzz"[..]), (NAME, b"A"), (NAME, b""), (NAME, b"1"), (CLASS, &[1, 0, 0]), (ROW, &[0])] {
+        let mut list = plan.list();
+        write_field(&mut list, mark, bytes);
+        run.compare_rows(plan.ask(&plan.bytes, &list))?;
+        list.pop();
+        run.compare_rows(plan.ask(&plan.bytes, &list))?;
     }
     Ok(())
 }

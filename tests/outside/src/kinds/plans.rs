@@ -2,15 +2,15 @@
 
 use crate::comparing::{Mismatch, Run, Task};
 use crate::damage::{damaged_at, damaged_everywhere, moved_fields};
-use crate::planning::{draw_plan, draw_small_plan, empty, near_names, nested, places_inside, Plan, Shape, Text, DEEPEST};
+use crate::planning::{draw_plan, draw_small_plan, empty, near_names, nested, places_inside, Plan, Text};
 use reference::fields::read_book;
+use reference::plan_rows::LEVELS_LIMIT;
 use reference::random::Random;
 
 /// Plans of few and of many elements, flat and deep. List and rows together are a book that reads back as these rows.
 pub fn valid(run: &mut Run) -> Result<(), Mismatch> {
     let most = if run.random.once_in(20) { 2000 } else { 40 };
-    let shape = Shape { elements: run.random.between(1, most), depth: run.random.between(1, DEEPEST), text: Text::Any };
-    let plan = draw_plan(&mut run.random, shape);
+    let plan = draw_plan(&mut run.random, most, Text::Any);
     let list = plan.list();
     for chosen in 0..plan.names.len().min(8) {
         let plan = Plan { chosen, ..plan.clone() };
@@ -65,8 +65,7 @@ pub fn every_byte(run: &mut Run) -> Result<(), Mismatch> {
 }
 
 pub fn cut(run: &mut Run) -> Result<(), Mismatch> {
-    let shape = Shape { elements: run.random.between(1, 12), depth: run.random.between(1, DEEPEST), text: Text::Any };
-    let plan = draw_plan(&mut run.random, shape);
+    let plan = draw_plan(&mut run.random, 12, Text::Any);
     let list = plan.list();
     for length in 0..plan.bytes.len() {
         run.compare_rows(plan.ask(&plan.bytes[..length], &list))?;
@@ -94,8 +93,7 @@ pub fn endings(run: &mut Run) -> Result<(), Mismatch> {
 
 /// Faults of one kind or several put into a valid plan, at any places, so that each comes before and behind each other.
 pub fn planted(run: &mut Run) -> Result<(), Mismatch> {
-    let shape = Shape { elements: run.random.between(2, 15), depth: run.random.between(2, DEEPEST), text: Text::Any };
-    let plan = draw_plan(&mut run.random, shape);
+    let plan = draw_plan(&mut run.random, 15, Text::Any);
     let list = plan.list();
     for _ in 0..40 {
         let mut bytes = plan.bytes.clone();
@@ -119,9 +117,34 @@ fn draw_fault(random: &mut Random, plan: &Plan) -> Vec<u8> {
     match random.below(5) {
         0 | 1 => IMPOSSIBLE[random.below(IMPOSSIBLE.len())].to_vec(),
         2 => empty(other),
-        3 => nested(chosen, random.between(1, DEEPEST), &empty(other)),
-        _ => nested(other, random.between(1, DEEPEST), &empty(chosen)),
+        3 => nested(chosen, random.between(1, LEVELS_LIMIT), &empty(other)),
+        _ => nested(other, random.between(1, LEVELS_LIMIT), &empty(chosen)),
     }
+}
+
+/// What XML has and plans do not, and what texts of plans may hold and XML's may not, at the front, inside and at the end of a plan.
+pub fn foreign(run: &mut Run) -> Result<(), Mismatch> {
+    const MARKUP: &[&[u8]] = &[
+        b"<?xml version=\"1.0\"?>",
+        b"<!DOCTYPE a>",
+        b"<!-- -->",
+        b"<![CDATA[x]]>",
+        b"&amp;",
+        b"&#32;",
+        b"<a b=''/>",
+        b"<a b/>",
+    ];
+    const BYTES: &[&[u8]] =
+        &[b"\xEF\xBB\xBF", b"\xFE\xFF", b"]]>", b"\0", b"\x0B", b"\x0C", b"\x7F", b"\xC2\x85", b"\xFF", b">", b"/>"];
+    let plan = draw_small_plan(&mut run.random, Text::Any);
+    let list = plan.list();
+    let inside = run.random.choose(&places_inside(&plan.bytes)).copied();
+    for piece in MARKUP.iter().chain(BYTES) {
+        for place in [Some(0), inside, Some(plan.bytes.len())].into_iter().flatten() {
+            run.compare_rows(plan.ask(&put_in(&plan.bytes, place, piece), &list))?;
+        }
+    }
+    Ok(())
 }
 
 /// Tags that are a fault at the byte after their names, with each byte there, and with the end there: 14 comes before 15 and 16,
@@ -130,7 +153,7 @@ pub fn ties(run: &mut Run) -> Result<(), Mismatch> {
     let plan = draw_small_plan(&mut run.random, Text::Any);
     let list = plan.list();
     let others = near_names(&mut run.random, &plan.names);
-    let depth = run.random.between(DEEPEST - 2, DEEPEST);
+    let depth = run.random.between(LEVELS_LIMIT - 2, LEVELS_LIMIT);
     let chosen = &plan.names[plan.chosen];
     for name in [&others[0], &others[others.len() - 1], &plan.names[0]] {
         let outer = [b"<", &others[0][..], b">"].concat().repeat(depth - 1);
