@@ -21,10 +21,14 @@ fn main() {
 /// The compiler gives the path of a library that it finds, and the bare name of one that it does not.
 fn link_expat() {
     println!("cargo:rustc-check-cfg=cfg(expat)");
-    let Ok(found) = Command::new("gcc").arg("-print-file-name=libexpat.so").output() else {
+    let Ok(told) = Command::new("gcc").arg("-print-file-name=libexpat.so").output() else {
         return;
     };
-    if Path::new(String::from_utf8_lossy(&found.stdout).trim()).is_absolute() {
+    let told = String::from_utf8_lossy(&told.stdout);
+    let found = Path::new(told.trim());
+    // a bare name is no file, so that expat is looked for again
+    println!("cargo:rerun-if-changed={}", found.display());
+    if found.is_absolute() {
         println!("cargo:rustc-cfg=expat");
         println!("cargo:rustc-link-lib=dylib=expat");
     }

@@ -10,7 +10,8 @@ use reference::random::Random;
 /// Plans of few and of many elements, flat and deep. List and rows together are a book that reads back as these rows.
 pub fn valid(run: &mut Run) -> Result<(), Mismatch> {
     let most = if run.random.once_in(20) { 2000 } else { 40 };
-    let plan = draw_plan(&mut run.random, most, Text::Any);
+    let text = if run.random.once_in(4) { Text::Plain } else { Text::Any };
+    let plan = draw_plan(&mut run.random, most, text);
     let list = plan.list();
     for chosen in 0..plan.names.len().min(8) {
         let plan = Plan { chosen, ..plan.clone() };
