@@ -1,0 +1,49 @@
+-- A search that halves: which places are left after one comparison, and the number where the name is found or no place is left.
+-- Assumes nothing.
+use mathlib.Core.Path.{_≡_, sym, subst}
+use mathlib.Core.Bool.{true}
+use mathlib.Core.List.{List, []}
+use Prim.Native.Nat.{ℕ, _+_, _≤_, _<_}
+use native.Mathlib.Omega.{arith}
+use lib.ListN.{length, getD}
+use Rattle.base.specs.Lists.{before}
+use Rattle.base.proofs.Places.{place-of}
+use Rattle.model.specs.Fields.{Ascends, numberOf}
+use Rattle.model.proofs.NameNumbers.{number-of-unknown, number-at-place, places-below, places-above}
+
+-- a name stands at no place below low, nor from high on
+pub record Between (names : List (List ℕ)) (name : List ℕ) (low high : ℕ) : Type 0 where
+  pub left : (i : ℕ) → i < length names → getD names i [] ≡ name → (low ≤ i) × (i < high)
+
+module _ (names : List (List ℕ)) (name : List ℕ) where
+  pub between-all : (count : ℕ) → length names ≡ count → Between names name 0 count
+  between-all count size = record { left = λ i h e. (omega arith, omega arith) }
+
+  -- no place is left
+  pub none-left : (low high : ℕ) → high ≤ low → Between names name low high → numberOf names name ≡ length names
+  none-left low high h between =
+      number-of-unknown names name
+      (λ m.
+      let place = place-of [] names name m in
+      let is = between .left (place .0) (place .1) (place .2) in
+      let z : ⊥ = omega (arith, is .0, is .1) in absurd z)
+
+  -- the name stands before the one at this place, after it, or there
+  module _ (ascending : Ascends names) (low high middle : ℕ) where
+    pub lower-half :
+        before name (getD names middle []) ≡ true → Between names name low high → Between names name low middle
+    lower-half o between =
+        record { left = λ i h e. (between .left i h e .0, places-below names ascending name middle o i h e) }
+
+    pub upper-half :
+        {next : ℕ} → middle < length names → next ≤ middle + 1 → before (getD names middle []) name ≡ true →
+        Between names name low high → Between names name next high
+    upper-half inside up o between =
+        record {
+          left = λ i h e. (omega (arith, places-above names ascending name middle inside o i e), between .left i h e .1);
+        }
+
+  pub found-at :
+      Ascends names → (middle : ℕ) → middle < length names → name ≡ getD names middle [] → numberOf names name ≡ middle
+  found-at ascending middle inside e =
+      subst (λ (z : List ℕ). numberOf names z ≡ middle) (sym e) (number-at-place names ascending middle inside)

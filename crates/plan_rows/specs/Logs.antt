@@ -1,0 +1,41 @@
+-- The log of a plan's tags: two bytes a tag, the number of its name and how many elements are around it; and what measuring the rows in
+-- it answers. Assumes nothing.
+use mathlib.Core.Path.{_≡_}
+use mathlib.Core.List.{List, [], _∷_}
+use Prim.Native.Nat.{ℕ, zero, suc, _+_, _≤_}
+use lib.ListN.{length, getD}
+use Rattle.base.specs.Limits.{input-limit}
+use Rattle.model.specs.Calls.{Refuses}
+use Rattle.model.specs.Tables.{rowFields}
+use Rattle.written_plans.specs.Reading.{Entry, rowsIn, rowsFault}
+use Rattle.plan_rows.specs.declared.Measured.{Measured}
+use Rattle.plan_rows.specs.declared.Measured.the-variants as measured
+
+-- the entry at this number
+abbrev pub entryAt : List ℕ → ℕ → Entry
+entryAt log i = record { number = getD log (i + i) 0; depth = getD log (i + i + 1) 0 }
+
+-- n entries of a log, the first of them number i
+unfoldable pub entriesAt : List ℕ → ℕ → ℕ → List Entry
+entriesAt log i zero = []
+entriesAt log i (suc n) = entryAt log i ∷ entriesAt log (suc i) n
+
+-- the rows of the chosen number in a log of so many entries
+abbrev pub logRows : List ℕ → ℕ → ℕ → List (List ℕ)
+logRows log count chosen = rowsIn chosen (entriesAt log 0 count)
+
+-- a log holds so many entries, no more than a plan has tags
+pub record Held (log : List ℕ) (count : ℕ) : Type 0 where
+  pub within : count + count ≤ length log
+  pub few : count ≤ input-limit
+
+-- the rows are not refused; so many they are, and so many bytes their fields have
+pub record MeasuredAs (rows : List (List ℕ)) (count bytes : ℕ) : Type 0 where
+  pub no-fault : rowsFault rows ≡ 0
+  pub rows-are : count ≡ length rows
+  pub bytes-are : bytes ≡ length (rowFields rows)
+
+-- the rows measured, or refused
+abbrev pub Measures : List (List ℕ) → Measured → Type 0
+Measures rows (measured.Fits count bytes) = MeasuredAs rows count bytes
+Measures rows (measured.Refused k) = Refuses (rowsFault rows) k
