@@ -1,5 +1,6 @@
--- The kind of file that the code's stands for; the file that a place of the reader stands for; what holds of every place that the reader reaches; and what the answers of the
--- reader say: of one field judged, of one field read, and of a whole file. Assumes nothing.
+-- The kind of file that the code's stands for; the file that a place of the reader stands for; what holds of every place that the
+-- reader reaches; and what the answers of the reader say: of one field judged, of one field read, and of a whole file. Assumes
+-- nothing.
 use mathlib.Core.Path.{_≡_}
 use mathlib.Core.List.{List, []}
 use Prim.Native.Nat.{ℕ, suc, _+_, _≤_, _<_}

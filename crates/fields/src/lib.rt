@@ -1,5 +1,5 @@
-// The reader of books, tables and lists of names: fields in file order, each judged by the refusals that concern it, nothing copied. What is accepted
-// stays where it is, and a Place says where: specs/Places has the file that a place stands for.
+// The reader of books, tables and lists of names: fields in file order, each judged by the refusals that concern it, nothing copied.
+// What is accepted stays where it is, and a Place says where: specs/Places has the file that a place stands for.
 use base::limits::CLASS_MARK;
 use base::limits::CLASS_MET;
 use base::limits::CONTEXT_KIND;

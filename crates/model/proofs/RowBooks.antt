@@ -3,17 +3,16 @@
 use mathlib.Core.Path.{_≡_, refl, sym, ap, _∙_, subst}
 use mathlib.Core.Bool.{Bool, true, false, cond, false≢true}
 use mathlib.Core.List.{List, [], _∷_, _++_, append-assoc}
-use Prim.Native.Nat.{ℕ, zero, suc, _+_, _*_, _≤_, _<_}
+use Prim.Native.Nat.{ℕ, zero, suc, _+_, _*_, _≤_}
 use native.Mathlib.Omega.{arith}
 use lib.Dec.{eqb}
 use lib.ListN.{length, length-append}
 use borrow.Author.Tests.{eqb-true}
 use Rattle.base.specs.Limits.{names-met, unfinished}
-use Rattle.model.specs.Fields.{Class, ClassOk, Settings, standard, File, file, FileKind, book, name-list, Read, refused}
-use Rattle.model.specs.Fields.{accepted-file, readFrom, readWith, readNames, readBook, fieldFault, withField}
+use Rattle.model.specs.Fields.{Class, Settings, standard, File, file, FileKind, book, name-list, Read, refused}
+use Rattle.model.specs.Fields.{accepted-file, readFrom, readWith, readNames, readBook, withField}
 use Rattle.model.specs.Tables.{classField, rowFields}
-use Rattle.model.specs.Classes.{Word}
-use Rattle.model.specs.Claims.{namesOf, RowsOk, Rows-make-books}
+use Rattle.model.specs.Claims.{namesOf, Rows-make-books}
 use Rattle.model.proofs.FieldLaws.{NameFits, Fitting, a-name, a-class, a-row, a-state, fitting}
 use Rattle.model.proofs.Turns.{Turn, ended, failed, went, turn, one-field}
 use Rattle.model.proofs.ReadBack.{ReadsTo, name-passes, reads-class, reads-rows}

@@ -12,15 +12,15 @@ use Rattle.model.specs.Fields.{Ascends, numberOf}
 use Rattle.model.proofs.NameNumbers.{number-of-unknown, number-at-place, places-below, places-above}
 
 -- a name stands at no place below low, nor from high on
-pub record Between (names : List (List ℕ)) (name : List ℕ) (low high : ℕ) : Type 0 where
+pub record PlacesLeft (names : List (List ℕ)) (name : List ℕ) (low high : ℕ) : Type 0 where
   pub left : (i : ℕ) → i < length names → getD names i [] ≡ name → (low ≤ i) × (i < high)
 
 module _ (names : List (List ℕ)) (name : List ℕ) where
-  pub between-all : (count : ℕ) → length names ≡ count → Between names name 0 count
-  between-all count size = record { left = λ i h e. (omega arith, omega arith) }
+  pub all-left : (count : ℕ) → length names ≡ count → PlacesLeft names name 0 count
+  all-left count size = record { left = λ i h e. (omega arith, omega arith) }
 
   -- no place is left
-  pub none-left : (low high : ℕ) → high ≤ low → Between names name low high → numberOf names name ≡ length names
+  pub none-left : (low high : ℕ) → high ≤ low → PlacesLeft names name low high → numberOf names name ≡ length names
   none-left low high h between =
       number-of-unknown names name
       (λ m.
@@ -31,13 +31,13 @@ module _ (names : List (List ℕ)) (name : List ℕ) where
   -- the name stands before the one at this place, after it, or there
   module _ (ascending : Ascends names) (low high middle : ℕ) where
     pub lower-half :
-        before name (getD names middle []) ≡ true → Between names name low high → Between names name low middle
+        before name (getD names middle []) ≡ true → PlacesLeft names name low high → PlacesLeft names name low middle
     lower-half o between =
         record { left = λ i h e. (between .left i h e .0, places-below names ascending name middle o i h e) }
 
     pub upper-half :
         {next : ℕ} → middle < length names → next ≤ middle + 1 → before (getD names middle []) name ≡ true →
-        Between names name low high → Between names name next high
+        PlacesLeft names name low high → PlacesLeft names name next high
     upper-half inside up o between =
         record {
           left = λ i h e. (omega (arith, places-above names ascending name middle inside o i e), between .left i h e .1);

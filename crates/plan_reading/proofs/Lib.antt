@@ -1,1 +1,3 @@
--- Assumes nothing.
+-- Laws that the functions' proofs share. Assumes nothing.
+-- ScanLaws: parts of a plan, and runs of bytes as far as they are read
+pub mod ScanLaws

@@ -2,23 +2,31 @@
 -- it answers. Assumes nothing.
 use mathlib.Core.Path.{_≡_}
 use mathlib.Core.List.{List, [], _∷_}
-use Prim.Native.Nat.{ℕ, zero, suc, _+_, _≤_}
+use Prim.Native.Nat.{ℕ, zero, suc, _+_, _-_, _*_, _≤_}
 use lib.ListN.{length, getD}
 use Rattle.base.specs.Limits.{input-limit}
 use Rattle.model.specs.Calls.{Refuses}
 use Rattle.model.specs.Tables.{rowFields}
-use Rattle.written_plans.specs.Reading.{Entry, rowsIn, rowsFault}
+use Rattle.written_plans.specs.Reading.{Entry, rowAfter, rowsIn, rowsFault}
 use Rattle.plan_rows.specs.declared.Measured.{Measured}
 use Rattle.plan_rows.specs.declared.Measured.the-variants as measured
 
 -- the entry at this number
 abbrev pub entryAt : List ℕ → ℕ → Entry
-entryAt log i = record { number = getD log (i + i) 0; depth = getD log (i + i + 1) 0 }
+entryAt log i = record { number = getD log (2 * i) 0; depth = getD log (2 * i + 1) 0 }
 
 -- n entries of a log, the first of them number i
 unfoldable pub entriesAt : List ℕ → ℕ → ℕ → List Entry
 entriesAt log i zero = []
 entriesAt log i (suc n) = entryAt log i ∷ entriesAt log (suc i) n
+
+-- of so many entries of a log, those from number i on
+unfoldable pub entriesFrom : List ℕ → ℕ → ℕ → List Entry
+entriesFrom log count i = entriesAt log i (count - i)
+
+-- the row of the element at entry i
+unfoldable pub rowAt : List ℕ → ℕ → ℕ → List ℕ
+rowAt log count i = rowAfter (entryAt log i .depth) (entriesFrom log count (i + 1))
 
 -- the rows of the chosen number in a log of so many entries
 abbrev pub logRows : List ℕ → ℕ → ℕ → List (List ℕ)
@@ -26,7 +34,7 @@ logRows log count chosen = rowsIn chosen (entriesAt log 0 count)
 
 -- a log holds so many entries, no more than a plan has tags
 pub record Held (log : List ℕ) (count : ℕ) : Type 0 where
-  pub within : count + count ≤ length log
+  pub within : 2 * count ≤ length log
   pub few : count ≤ input-limit
 
 -- the rows are not refused; so many they are, and so many bytes their fields have

@@ -1,5 +1,5 @@
 // The rows of a plan, made from the log of its tags: two bytes a tag, the number of its name and how many elements are around it. The row
-// of an element are the tags one deeper, up to the first tag that is not inside it.
+// of an element has the numbers of the tags one deeper, up to the first tag that is not inside it.
 use base::limits::BAD_ROW;
 use base::limits::BOOK_ROWS;
 use base::limits::ROW_LIMIT;
@@ -9,12 +9,12 @@ use writing::put_byte;
 use writing::put_head;
 ghost use mathlib.Core.Path.{_≡_};
 ghost use lib.ListN.{length};
-ghost use Prim.Native.Nat.{_+_, _<_};
+ghost use Prim.Native.Nat.{_≤_, _<_};
 ghost use Rattle.model.specs.Tables.{fieldBytes, rowFields};
-ghost use Rattle.base.specs.Limits.{row-mark};
-ghost use Rattle.written_plans.specs.Reading.{rowsIn, rowAfter, rowsFault};
+ghost use Rattle.base.specs.Limits.{row-limit, row-mark};
+ghost use Rattle.written_plans.specs.Reading.{rowsFault};
 ghost use Rattle.writing.specs.Writing.{Fits, Put};
-ghost use Rattle.plan_rows.specs.Logs.{Held, entriesAt, logRows, Measures};
+ghost use Rattle.plan_rows.specs.Logs.{Held, rowAt, logRows, Measures};
 
 // The rows measured: how many there are and how many bytes their fields have, or their refusal.
 pub enum Measured {
@@ -23,7 +23,10 @@ pub enum Measured {
 }
 
 // How many of the entries have the chosen number.
-fn count_rows(log: &[u8], count: usize, chosen: u8) -> usize {
+fn count_rows(log: &[u8], count: usize, chosen: u8) -> usize
+    requires { ⌜ Held (now log) count ⌝ }
+    ensures { λ r. ⌜ r ≡ length (logRows (now (log .entry)) count chosen) ⌝ }
+{
     let mut rows = 0;
     let mut i = 0;
     while i < count {
@@ -36,16 +39,20 @@ fn count_rows(log: &[u8], count: usize, chosen: u8) -> usize {
 }
 
 // How many entries the row of the element at entry i has.
-fn row_len(log: &[u8], count: usize, i: usize) -> usize {
+fn row_len(log: &[u8], count: usize, i: usize) -> usize
+    requires { ⌜ Held (now log) count ⌝ }
+    requires { ⌜ i < count ⌝ }
+    ensures { λ r. ⌜ r ≡ length (rowAt (now (log .entry)) count i) ⌝ }
+{
     let depth = log[2 * i + 1];
     let mut length = 0;
     let mut j = i + 1;
     while j < count {
-        let at = log[2 * j + 1];
-        if at <= depth {
+        let deep = log[2 * j + 1];
+        if deep <= depth {
             return length;
         }
-        if at == depth + 1 {
+        if deep == depth + 1 {
             length += 1;
         }
         j += 1;
@@ -78,7 +85,12 @@ pub fn measure_rows(log: &[u8], count: usize, chosen: u8) -> Measured
 }
 
 // The entries of the row of the element at entry i.
-fn put_entries(log: &[u8], count: usize, i: usize, out: &mut [u8], at: usize) -> usize {
+fn put_entries(log: &[u8], count: usize, i: usize, out: &mut [u8], at: usize) -> usize
+    requires { ⌜ Held (now log) count ⌝ }
+    requires { ⌜ i < count ⌝ }
+    requires { ⌜ Fits (now out) at (rowAt (now log) count i) ⌝ }
+    ensures { λ r. ⌜ Put (now (out .entry)) (now (out .exit)) at (rowAt (now (log .entry)) count i) r ⌝ }
+{
     let depth = log[2 * i + 1];
     let mut next = at;
     let mut j = i + 1;
@@ -95,11 +107,18 @@ fn put_entries(log: &[u8], count: usize, i: usize, out: &mut [u8], at: usize) ->
     next
 }
 
-// The row field of the element at entry i.
-fn put_row(log: &[u8], count: usize, i: usize, out: &mut [u8], at: usize) -> usize {
-    let length = row_len(log, count, i);
-    let next = put_head(out, at, ROW_MARK, length);
-    put_entries(log, count, i, out, next)
+// The row field of the element at entry i: the entries, and then the head in front of them, whose length is known from where they end.
+fn put_row(log: &[u8], count: usize, i: usize, out: &mut [u8], at: usize) -> usize
+    requires { ⌜ Held (now log) count ⌝ }
+    requires { ⌜ i < count ⌝ }
+    requires { ⌜ length (rowAt (now log) count i) ≤ row-limit ⌝ }
+    requires { ⌜ Fits (now out) at (fieldBytes row-mark (rowAt (now log) count i)) ⌝ }
+    ensures { λ r. ⌜ Put (now (out .entry)) (now (out .exit)) at (fieldBytes row-mark (rowAt (now (log .entry)) count i)) r ⌝ }
+{
+    let start = at + 3;
+    let end = put_entries(log, count, i, out, start);
+    put_head(out, at, ROW_MARK, end - start);
+    end
 }
 
 // The row fields of the chosen number, at the front of the output.

@@ -213,7 +213,7 @@ reading-tells names chosen s =
       is-plan = λ none. run-plan s (outcome-none s names chosen o none .0);
       faultless = λ none. let h = outcome-none s names chosen o none in none-faultless s names chosen (h .0) (h .2);
       tags-are = λ none plan e. outcome-none s names chosen o none .1 ∙ ap (tagsFrom before) (sym e) ∙ plan-tags plan;
-      accepts = λ plan e free.
+      accepts = λ free.
           ⊎-elim (λ (few : number ≤ 0). omega arith) (λ (some : 0 < number). absurd (free number _ (told some .fault)))
           (le-or-lt number 0);
     }

@@ -27,3 +27,5 @@ pub mod Completions
 pub mod Rows
 -- FirstFault: reading tells the first fault of all
 pub mod FirstFault
+-- KnownChildren: where a plan has no fault, the children of chosen elements are among the names
+pub mod KnownChildren

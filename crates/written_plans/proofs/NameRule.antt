@@ -1,8 +1,10 @@
--- The rule of names, in the laws that the theory of plans uses: no other file of this crate opens nameOk or beginsName. Assumes nothing.
+-- The rule of names, in the laws that the theory of plans uses, and in those of a name read byte by byte: no other file of this crate or of
+-- plan_reading opens nameOk or beginsName. Assumes nothing.
 use mathlib.Core.Path.{_≡_, refl, sym, _∙_, subst}
+use mathlib.Core.Logic.{⊎-elim}
 use mathlib.Core.Bool.{true, false, false≢true}
 use mathlib.Core.List.{List, [], _∷_, _++_, append-nil, List·Memᴰ as In, List·Memᴰ·head as here}
-use mathlib.Core.List.{Memᴰ·append-left, Memᴰ·append-right}
+use mathlib.Core.List.{Memᴰ·append-left, Memᴰ·append-right, List·Memᴰ·append-cases, List·Memᴰ·eq-of-singleton, List·Memᴰ·not-nil}
 use Prim.Native.Nat.{ℕ, _≤_, _<_}
 use native.Mathlib.Omega.{arith}
 use lib.Dec.{eqb}
@@ -77,3 +79,43 @@ name-slash n m b ok = other n m b slash ok refl
 -- nor does `>`
 pub name-greater : (n m : List ℕ) (b : ℕ) → nameOk (n ++ (b ∷ m)) ≡ true → eqb b greater ≡ false
 name-greater n m b ok = other n m b greater ok refl
+
+-- ---- names byte by byte: what the first byte and each further one make of a name
+
+-- what is a name begins one
+pub name-begun : (n : List ℕ) → nameOk n ≡ true → beginsName n ≡ true
+unfolding beginsName
+name-begun n ok = ok
+
+-- a byte that may start a name is one
+pub name-first : (b : ℕ) → startsName b ≡ true → nameOk (b ∷ []) ≡ true
+name-first b starts = tells-name b [] .test (omega arith, (starts, λ x among. absurd (List·Memᴰ·not-nil among)))
+
+-- no name begins with a byte that may not
+pub name-not-first : (b : ℕ) → startsName b ≡ false → beginsName (b ∷ []) ≡ false
+unfolding beginsName
+name-not-first b e = told-false (tells-name b []) (λ is. false≢true (sym e ∙ is .1 .0))
+
+-- a name that is not of the greatest length goes on with a byte that may stand in a name after its first
+pub name-more : (n : List ℕ) (b : ℕ) → nameOk n ≡ true → length n < name-bytes → continuesName b ≡ true → nameOk (n ++ (b ∷ [])) ≡ true
+name-more [] b ok short goes-on = absurd (false≢true (sym name-not-empty ∙ ok))
+name-more (a ∷ n) b ok short goes-on =
+    let is = tells-name a n .fact ok in
+    let all-go-on : (x : ℕ) → In x (n ++ (b ∷ [])) → continuesName x ≡ true =
+    λ x among. ⊎-elim (λ (m : In x n). is .1 .1 x m)
+    (λ (m : In x (b ∷ [])). subst (λ z. continuesName z ≡ true) (sym (List·Memᴰ·eq-of-singleton m)) goes-on)
+    (List·Memᴰ·append-cases n among) in
+    tells-name a (n ++ (b ∷ [])) .test (omega (arith, length-append n (b ∷ [])), (is .1 .0, all-go-on))
+
+-- no name goes on with another byte
+pub name-not-more : (n : List ℕ) (b : ℕ) → continuesName b ≡ false → beginsName (n ++ (b ∷ [])) ≡ false
+unfolding beginsName
+name-not-more n b e = told-false (tells-itself (nameOk (n ++ (b ∷ [])))) (λ ok. false≢true (sym e ∙ continues n [] b ok))
+
+-- nor does a name of the greatest length go on at all
+pub name-full : (n : List ℕ) (b : ℕ) → name-bytes ≤ length n → beginsName (n ++ (b ∷ [])) ≡ false
+unfolding beginsName
+name-full [] b full = let z : ⊥ = omega arith in absurd z
+name-full (a ∷ n) b full =
+    told-false (tells-name a (n ++ (b ∷ [])))
+    (λ (is : NameIs a (n ++ (b ∷ []))). let z : ⊥ = omega (arith, length-append n (b ∷ []), is .0) in z)

@@ -1,7 +1,7 @@
 -- What is proved of the reading of plans: a refusal told is the first fault of all; bytes are accepted exactly where they are a plan
 -- without a fault; and the rows are then the plan's traces. Assumes nothing.
 use mathlib.Core.Path.{_≡_}
-use mathlib.Core.List.{List, map}
+use mathlib.Core.List.{List, map, List·Memᴰ as In}
 use Prim.Native.Nat.{ℕ, _<_}
 use lib.Dec.{eqb}
 use Rattle.base.specs.Lists.{same}
@@ -23,8 +23,8 @@ pub record ReadingTells (names : List (List ℕ)) (chosen s : List ℕ) : Type 0
   pub faultless : readPlan names chosen s .number ≡ 0 → Faultless names chosen s
   pub tags-are : readPlan names chosen s .number ≡ 0 → (plan : Plan) → planBytes plan ≡ s
       → readPlan names chosen s .met-tags ≡ planTags plan
-  -- a plan without a fault is not refused
-  pub accepts : (plan : Plan) → planBytes plan ≡ s → Faultless names chosen s → readPlan names chosen s .number ≡ 0
+  -- what has no fault is not refused, which is then a plan
+  pub accepts : Faultless names chosen s → readPlan names chosen s .number ≡ 0
 
 -- this number is that of the chosen name, and of no other
 abbrev pub NumberOnly : List (List ℕ) → ℕ → List ℕ → Type 0
@@ -35,3 +35,13 @@ abbrev pub RowsAreTraces : Type 0
 RowsAreTraces =
     (names : List (List ℕ)) (number : ℕ) (chosen : List ℕ) → NumberOnly names number chosen → (plan : Plan)
     → rowsIn number (map (entryOf names) (planTags plan)) ≡ map (map (numberOf names)) (traces chosen (plan .element))
+
+-- every name in these rows is among the names
+abbrev pub Known : List (List ℕ) → List (List (List ℕ)) → Type 0
+Known names rows = (row : List (List ℕ)) → In row rows → (n : List ℕ) → In n row → In n names
+
+-- where a plan has no fault, every child of a chosen element is among the names
+abbrev pub ChildrenKnown : Type 0
+ChildrenKnown =
+    (names : List (List ℕ)) (chosen : List ℕ) (plan : Plan) → Faultless names chosen (planBytes plan)
+    → Known names (traces chosen (plan .element))

@@ -11,12 +11,12 @@ use Rattle.judging.proofs.OffsetLaws.{field-within, field-at, length-fields}
 use Rattle.name_search.specs.Search.{Ordered}
 use Rattle.name_search.specs.declared.Order.{Order}
 use Rattle.name_search.specs.declared.Order.the-variants as order
-use Rattle.name_search.proofs.SearchLaws.{Between, between-all, none-left, lower-half, upper-half, found-at}
+use Rattle.name_search.proofs.SearchLaws.{PlacesLeft, all-left, none-left, lower-half, upper-half, found-at}
 use Rattle.name_search.proofs.number_of.Statement.{statement}
 use Rattle.name_search.proofs.number_of.Tie as tie
 
 abbrev Inv-loop : tie.InvT-loop
-Inv-loop list starts count name low₀ high₀ low high = (high ≤ count) × Between (fieldsAt list 0 count) name low high
+Inv-loop list starts count name low₀ high₀ low high = (high ≤ count) × PlacesLeft (fieldsAt list 0 count) name low high
 
 abbrev μ-loop : tie.MeasureT-loop
 μ-loop list starts count name low₀ high₀ low high = high - low
@@ -67,7 +67,7 @@ loop-holds : tie.Need-loop-holds Inv-loop μ-loop
 loop-holds c =
     let args = c .before .before .args in
     let list = args .list .now in
-    (omega arith, between-all (fieldsAt list 0 (args .count)) (args .name .now) (args .count) (length-fields list 0 (args .count)))
+    (omega arith, all-left (fieldsAt list 0 (args .count)) (args .name .now) (args .count) (length-fields list 0 (args .count)))
 
 add-middle : tie.Need-add-middle Inv-loop μ-loop
 add-middle c = omega (arith, c .before .loop .inv .0, halfway c .1)
