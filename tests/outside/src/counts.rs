@@ -10,9 +10,9 @@ use std::collections::BTreeMap;
 #[derive(Clone, Debug, Default)]
 pub struct Counts {
     pub inputs: usize,
-    /// How often each refusal was given, by its number; at 0, how many calls were accepted.
-    pub refused: [usize; 17],
-    /// The same for rows read from plans alone.
+    /// How often each refusal was given, by its number, to a book, a table or a walk; at 0, how many calls were accepted.
+    pub refused: [usize; 14],
+    /// The same for plans.
     pub plans_refused: [usize; 17],
     /// How many walks had each outcome, by its number.
     pub outcomes: [usize; 4],
@@ -56,9 +56,7 @@ impl Counts {
 
     pub fn count_rows(&mut self, read: &Result<PlanRows, Refused>) {
         self.inputs += 1;
-        let number = read.as_ref().map_or_else(|refused| usize::from(refused.refusal.number()), |_| 0);
-        self.refused[number] += 1;
-        self.plans_refused[number] += 1;
+        self.plans_refused[read.as_ref().map_or_else(|refused| usize::from(refused.refusal.number()), |_| 0)] += 1;
     }
 
     pub fn add(&mut self, more: &Counts) {

@@ -1,6 +1,6 @@
 //! Compares plans_build, plans_rewrite, plans_walk, plans_list and plans_read_rows of the static library with the reference, over
-//! generated inputs. The same seed and count give the same inputs; --seconds goes on with fresh seeds. A mismatch names its seed: --seed gives it again. The
-//! last line is `N passed, M failed`, N and M counting kinds of checks.
+//! generated inputs. The same seed and count give the same inputs; --seconds goes on with fresh seeds. A mismatch names its seed:
+//! --seed gives it again. The last line is `N passed, M failed`, N and M counting kinds of checks.
 
 mod buffers;
 mod comparing;
@@ -37,6 +37,9 @@ const LATER_ROUNDS: usize = 20;
 
 /// How many classes there are: 36 of contexts, the seen set, 9 of last names.
 const CLASSES: usize = 46;
+
+/// The refusals of plans, and 0 for those that are accepted.
+const PLAN_REFUSALS: [usize; 13] = [0, 1, 2, 3, 4, 5, 6, 7, 9, 13, 14, 15, 16];
 
 /// What has come of one kind of check.
 #[derive(Default)]
@@ -129,9 +132,8 @@ fn report(options: &Options, tallies: Vec<Tally>) -> ExitCode {
 /// Whether the inputs were enough, and of all sorts. Says what each came to.
 fn coverage(options: &Options, all: &Counts) -> Vec<(&'static str, Option<String>)> {
     let least_joined = all.joined.values().min().unwrap_or(&0);
-    println!("accepted: {}; refusals 1 to 16: {:?}", all.refused[0], &all.refused[1..]);
-    println!("of plans: accepted: {}; refusals 1 to 16: {:?}", all.plans_refused[0], &all.plans_refused[1..]);
-    let plan_refusals = [0, 1, 2, 3, 4, 5, 6, 7, 9, 13, 14, 15, 16];
+    println!("accepted: {}; refusals 1 to 13: {:?}", all.refused[0], &all.refused[1..]);
+    println!("plans accepted: {}; refusals 1 to 16: {:?}", all.plans_refused[0], &all.plans_refused[1..]);
     #[cfg(not(expat))]
     println!("this machine has no expat: plans are not compared with it");
     println!("walks admitted, on the way, stopped: {:?}", &all.outcomes[1..]);
@@ -143,7 +145,7 @@ fn coverage(options: &Options, all: &Counts) -> Vec<(&'static str, Option<String
         ("every refusal is given", says(all.refused.contains(&0), "one is not")),
         (
             "every refusal of a plan is given",
-            says(plan_refusals.iter().any(|&number| all.plans_refused[number] == 0), "one is not"),
+            says(PLAN_REFUSALS.iter().any(|&refusal| all.plans_refused[refusal] == 0), "one is not"),
         ),
         ("every outcome is given", says(all.outcomes[1..].contains(&0), "one is not")),
         ("every class has builds that joined states", says(all.joined.len() < CLASSES, "one has none")),
