@@ -160,7 +160,7 @@ pub fn draw_text_byte(random: &mut Random, text: Text) -> u8 {
 }
 
 /// An ASCII character that XML 1.0 allows in any text.
-pub fn is_plain(byte: u8) -> bool {
+fn is_plain(byte: u8) -> bool {
     byte != b']' && (is_white(byte) || (0x20..=0x7E).contains(&byte))
 }
 

@@ -2,7 +2,7 @@
 
 use crate::comparing::{Mismatch, Run};
 use crate::expat::{tags, Tag};
-use crate::planning::{draw_plan, draw_small_plan, is_plain, Plan, Text};
+use crate::planning::{draw_plan, draw_small_plan, Plan, Text};
 use reference::fields::{is_in_name, NAME_LENGTH_LIMIT, ROW};
 use reference::plan::read;
 use reference::plan_rows::PlanRows;
@@ -40,10 +40,13 @@ pub fn judged(run: &mut Run) -> Result<(), Mismatch> {
     Ok(())
 }
 
-/// The bytes hold what may begin an attribute, a reference, a comment or a declaration, or what may be too long a name.
+/// The bytes hold what may be a reference, a comment, a declaration, an attribute or too long a name.
 fn is_beyond(bytes: &[u8]) -> bool {
-    bytes.iter().any(|byte| b"=&!?'\"".contains(byte) || !is_plain(*byte))
-        || bytes.split(|&byte| !is_in_name(byte)).any(|run| run.len() > NAME_LENGTH_LIMIT)
+    let holds = |some: &[u8]| bytes.iter().any(|byte| some.contains(byte));
+    holds(b"&")
+        || bytes.windows(2).any(|pair| pair == b"<!" || pair == b"<?")
+        || (holds(b"=") && holds(b"'\""))
+        || bytes.split(|&byte| !is_in_name(byte)).any(|name| name.len() > NAME_LENGTH_LIMIT)
 }
 
 /// Expat accepts exactly what is a plan, whatever its depth and its names.
