@@ -38,6 +38,7 @@ pub mod Turns
 pub mod StateBodies
 pub mod Books
 pub mod NameNumbers
+pub mod LowNumbers
 pub mod ReadBack
 pub mod WrittenLengths
 pub mod Rewriting

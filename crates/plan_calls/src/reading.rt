@@ -23,7 +23,7 @@ ghost use Rattle.model.specs.Calls.{Gives};
 ghost use Rattle.judging.specs.Offsets.{offsetAt};
 ghost use Rattle.written_plans.specs.Reading.{readPlan};
 ghost use Rattle.plan_reading.specs.Turns.{Named, Room, namesOf, chosenOf};
-ghost use Rattle.plan_rows.specs.Logs.{Held, logRows};
+ghost use Rattle.plan_rows.specs.LoggedRows.{Held, logRows};
 ghost use Rattle.results.specs.Says.{readingRows};
 ghost use Rattle.plan_calls.specs.Parts.{writingRows, rowsWith};
 

@@ -68,27 +68,28 @@ module _ (test : ℕ → Bool) (s : List ℕ) (at : ℕ) where
 
 -- ---- a name
 
--- the bytes from `at` to `i` are a name, and so are their beginnings
+-- the bytes from `at` to `i` are a name
 pub record Naming (s : List ℕ) (at i : ℕ) : Type 0 where
   pub some : at < i
   pub within : i ≤ length s
-  pub names : (k : ℕ) → at < k → k ≤ i → nameOk (part s at k) ≡ true
+  pub begun : (k : ℕ) → at < k → k ≤ i → beginsName (part s at k) ≡ true
+  pub whole : nameOk (part s at i) ≡ true
 
 module _ (s : List ℕ) (at : ℕ) where
-  -- the part of the first byte
-  part-first : at < length s → part s at (at + 1) ≡ getD s at 0 ∷ []
-  part-first h = part-more s at at (omega arith) h ∙ ap (λ (n : List ℕ). n ++ (getD s at 0 ∷ [])) (part-none s at)
-
   -- the first byte starts a name
   pub naming-start : at < length s → startsName (getD s at 0) ≡ true → Naming s at (at + 1)
   naming-start h e =
+      let first : part s at (at + 1) ≡ getD s at 0 ∷ [] =
+      part-more s at at (omega arith) h ∙ ap (λ (n : List ℕ). n ++ (getD s at 0 ∷ [])) (part-none s at) in
+      let name : nameOk (part s at (at + 1)) ≡ true =
+      subst (λ (n : List ℕ). nameOk n ≡ true) (sym first) (name-first (getD s at 0) e) in
       record {
         some = omega arith;
         within = omega arith;
-        names = λ (k : ℕ) (g : at < k) (l : k ≤ at + 1).
+        begun = λ (k : ℕ) (g : at < k) (l : k ≤ at + 1).
             let one : at + 1 ≡ k = omega arith in
-            subst (λ (n : ℕ). nameOk (part s at n) ≡ true) one
-            (subst (λ (n : List ℕ). nameOk n ≡ true) (sym (part-first h)) (name-first (getD s at 0) e));
+            subst (λ (n : ℕ). beginsName (part s at n) ≡ true) one (name-begun (part s at (at + 1)) name);
+        whole = name;
       }
 
   -- one byte more goes on with it
@@ -97,16 +98,17 @@ module _ (s : List ℕ) (at : ℕ) where
   naming-more i run h short e =
       let before : at < i = run .some in
       let few : length (part s at i) < name-bytes = omega (arith, length-part s at i (run .within)) in
-      let longer : nameOk (part s at (i + 1)) ≡ true =
+      let name : nameOk (part s at (i + 1)) ≡ true =
       subst (λ (n : List ℕ). nameOk n ≡ true) (sym (part-more s at i (omega arith) h))
-      (name-more (part s at i) (getD s i 0) (run .names i before (omega arith)) few e) in
+      (name-more (part s at i) (getD s i 0) (run .whole) few e) in
       record {
         some = omega arith;
         within = omega arith;
-        names = λ (k : ℕ) (g : at < k) (l : k ≤ i + 1).
-            ⊎-elim (λ (p : k ≡ i + 1). subst (λ (n : ℕ). nameOk (part s at n) ≡ true) (sym p) longer)
-            (λ (p : k ≡ i + 1 → ⊥). run .names k g (omega arith))
+        begun = λ (k : ℕ) (g : at < k) (l : k ≤ i + 1).
+            ⊎-elim (λ (p : k ≡ i + 1). subst (λ (n : ℕ). beginsName (part s at n) ≡ true) (sym p) (name-begun (part s at (i + 1)) name))
+            (λ (p : k ≡ i + 1 → ⊥). run .begun k g (omega arith))
             (eq-dec k (i + 1));
+        whole = name;
       }
 
   -- no name begins with these bytes and the one at `i`, if there is one
@@ -117,8 +119,8 @@ module _ (s : List ℕ) (at : ℕ) where
       record {
         onward = omega arith;
         within = run .within;
-        begun = λ (k : ℕ) (g : at < k) (l : k ≤ i). name-begun (part s at k) (run .names k g l);
-        whole = λ (g : at < i). run .names i g (omega arith);
+        begun = run .begun;
+        whole = λ (g : at < i). run .whole;
         stopped = stops;
       }
 

@@ -7,7 +7,8 @@ use native.Mathlib.Numerals.{add-one}
 use native.Mathlib.Omega.{arith}
 use borrow.Author.Tests.{le-leb, lt-leb, eq-eqb, ne-eqb}
 use Rattle.written_plans.specs.Reading.{rowAfter, rowsIn}
-use Rattle.plan_rows.specs.Logs.{entryAt, entriesAt, entriesFrom, rowAt}
+use Rattle.written_plans.specs.Logs.{entryAt, entriesAt}
+use Rattle.plan_rows.specs.LoggedRows.{entriesFrom, rowAt}
 
 -- all entries
 pub entries-all : (log : List ℕ) (count : ℕ) → entriesFrom log count 0 ≡ entriesAt log 0 count

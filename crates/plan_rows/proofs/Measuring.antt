@@ -9,7 +9,7 @@ use Rattle.base.specs.Lists.{all}
 use Rattle.model.specs.Calls.{Refuses}
 use Rattle.model.specs.Tables.{rowFields}
 use Rattle.written_plans.specs.Reading.{rowsFault}
-use Rattle.plan_rows.specs.Logs.{MeasuredAs}
+use Rattle.plan_rows.specs.LoggedRows.{MeasuredAs}
 use Rattle.plan_rows.proofs.Faults.{shortRows, short-next, short-not, row-too-long, rows-pass}
 use Rattle.plan_rows.proofs.Lengths.{row-fields-none, row-fields-length}
 

@@ -1,3 +1,3 @@
--- What the contracts cite beside the definitions of written_plans: the log of a plan's tags as bytes, and the rows measured. Assumes
+-- What the contracts cite beside the definitions of written_plans: the rows in a log, and these measured. Assumes
 -- nothing.
-pub mod Logs
+pub mod LoggedRows

@@ -14,7 +14,7 @@ ghost use Rattle.model.specs.Tables.{fieldBytes, rowFields};
 ghost use Rattle.base.specs.Limits.{row-limit, row-mark};
 ghost use Rattle.written_plans.specs.Reading.{rowsFault};
 ghost use Rattle.writing.specs.Writing.{Fits, Put};
-ghost use Rattle.plan_rows.specs.Logs.{Held, rowAt, logRows, Measures};
+ghost use Rattle.plan_rows.specs.LoggedRows.{Held, rowAt, logRows, Measures};
 
 // The rows measured: how many there are and how many bytes their fields have, or their refusal.
 pub enum Measured {

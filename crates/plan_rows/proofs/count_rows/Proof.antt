@@ -5,7 +5,7 @@ use Prim.Native.Nat.{_+_, _-_, _≤_}
 use native.Mathlib.Omega.{arith}
 use lib.ListN.{length}
 use Rattle.written_plans.specs.Reading.{rowsIn}
-use Rattle.plan_rows.specs.Logs.{entriesFrom, logRows}
+use Rattle.plan_rows.specs.LoggedRows.{entriesFrom, logRows}
 use Rattle.plan_rows.proofs.LogLaws.{entries-all, rows-chosen, rows-other, rows-end}
 use Rattle.plan_rows.proofs.count_rows.Statement.{statement}
 use Rattle.plan_rows.proofs.count_rows.Tie as tie

@@ -6,7 +6,7 @@ use Prim.Native.Nat.{ℕ, _+_, _-_, _*_, _≤_}
 use native.Mathlib.Omega.{arith}
 use Rattle.base.specs.Limits.{row-limit}
 use Rattle.written_plans.specs.Reading.{rowsIn}
-use Rattle.plan_rows.specs.Logs.{entriesFrom, rowAt, logRows}
+use Rattle.plan_rows.specs.LoggedRows.{entriesFrom, rowAt, logRows}
 use Rattle.plan_rows.proofs.LogLaws.{entries-all, rows-chosen, rows-other, rows-end}
 use Rattle.plan_rows.proofs.Faults.{rows-too-many}
 use Rattle.plan_rows.proofs.Measuring.{Passed, passed-none, passed-more, passed-long, passed-all}

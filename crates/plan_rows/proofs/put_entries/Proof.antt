@@ -6,7 +6,8 @@ use Prim.Native.Nat.{ℕ, _+_, _-_, _*_, _≤_}
 use native.Mathlib.Omega.{arith}
 use Rattle.written_plans.specs.Reading.{rowAfter}
 use Rattle.writing.proofs.TextLaws.{Writing, begins, keeps-length, room, goes, finishes}
-use Rattle.plan_rows.specs.Logs.{entryAt, entriesFrom, rowAt}
+use Rattle.written_plans.specs.Logs.{entryAt}
+use Rattle.plan_rows.specs.LoggedRows.{entriesFrom, rowAt}
 use Rattle.plan_rows.proofs.LogLaws.{row-stops, row-takes, row-passes, row-ends}
 use Rattle.plan_rows.proofs.put_entries.Statement.{statement}
 use Rattle.plan_rows.proofs.put_entries.Tie as tie

@@ -8,7 +8,7 @@ use Rattle.base.specs.Limits.{row-mark}
 use Rattle.model.specs.Tables.{fieldBytes}
 use Rattle.writing.specs.Writing.{Put, fieldHead}
 use Rattle.writing.proofs.WritingLaws.{put-before}
-use Rattle.plan_rows.specs.Logs.{rowAt}
+use Rattle.plan_rows.specs.LoggedRows.{rowAt}
 use Rattle.plan_rows.proofs.Lengths.{row-field-length}
 use Rattle.plan_rows.proofs.put_row.Statement.{statement}
 use Rattle.plan_rows.proofs.put_row.Tie as tie

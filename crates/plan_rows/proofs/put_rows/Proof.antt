@@ -11,7 +11,7 @@ use Rattle.base.specs.Limits.{row-limit, row-mark}
 use Rattle.model.specs.Tables.{fieldBytes, rowFields}
 use Rattle.written_plans.specs.Reading.{rowsIn}
 use Rattle.writing.proofs.TextLaws.{Writing, begins, keeps-length, room, goes, finishes}
-use Rattle.plan_rows.specs.Logs.{entriesFrom, rowAt, logRows}
+use Rattle.plan_rows.specs.LoggedRows.{entriesFrom, rowAt, logRows}
 use Rattle.plan_rows.proofs.LogLaws.{entries-all, rows-chosen, rows-other, rows-end}
 use Rattle.plan_rows.proofs.Faults.{shortRows, short-first, short-next, rows-passed}
 use Rattle.plan_rows.proofs.Lengths.{row-fields-next, row-fields-none}

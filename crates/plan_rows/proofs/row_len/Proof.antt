@@ -6,7 +6,8 @@ use Prim.Native.Nat.{_+_, _-_, _*_, _≤_}
 use native.Mathlib.Omega.{arith}
 use lib.ListN.{length}
 use Rattle.written_plans.specs.Reading.{rowAfter}
-use Rattle.plan_rows.specs.Logs.{entryAt, entriesFrom, rowAt}
+use Rattle.written_plans.specs.Logs.{entryAt}
+use Rattle.plan_rows.specs.LoggedRows.{entriesFrom, rowAt}
 use Rattle.plan_rows.proofs.LogLaws.{row-stops, row-takes, row-passes, row-ends}
 use Rattle.plan_rows.proofs.row_len.Statement.{statement}
 use Rattle.plan_rows.proofs.row_len.Tie as tie

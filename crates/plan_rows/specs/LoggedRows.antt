@@ -1,24 +1,15 @@
--- The log of a plan's tags: two bytes a tag, the number of its name and how many elements are around it; and what measuring the rows in
--- it answers. Assumes nothing.
+-- The rows in a log of a plan's tags, and what measuring them answers. Assumes nothing.
 use mathlib.Core.Path.{_≡_}
-use mathlib.Core.List.{List, [], _∷_}
-use Prim.Native.Nat.{ℕ, zero, suc, _+_, _-_, _*_, _≤_}
-use lib.ListN.{length, getD}
+use mathlib.Core.List.{List}
+use Prim.Native.Nat.{ℕ, _+_, _-_, _*_, _≤_}
+use lib.ListN.{length}
 use Rattle.base.specs.Limits.{input-limit}
 use Rattle.model.specs.Calls.{Refuses}
 use Rattle.model.specs.Tables.{rowFields}
 use Rattle.written_plans.specs.Reading.{Entry, rowAfter, rowsIn, rowsFault}
+use Rattle.written_plans.specs.Logs.{entryAt, entriesAt}
 use Rattle.plan_rows.specs.declared.Measured.{Measured}
 use Rattle.plan_rows.specs.declared.Measured.the-variants as measured
-
--- the entry at this number
-abbrev pub entryAt : List ℕ → ℕ → Entry
-entryAt log i = record { number = getD log (2 * i) 0; depth = getD log (2 * i + 1) 0 }
-
--- n entries of a log, the first of them number i
-unfoldable pub entriesAt : List ℕ → ℕ → ℕ → List Entry
-entriesAt log i zero = []
-entriesAt log i (suc n) = entryAt log i ∷ entriesAt log (suc i) n
 
 -- of so many entries of a log, those from number i on
 unfoldable pub entriesFrom : List ℕ → ℕ → ℕ → List Entry
