@@ -112,7 +112,8 @@ static int is_outermost(const uint8_t *plan, const uint8_t *names, uint8_t chose
     length = names[2];
     while (*plan != '<')
         plan++;
-    return memcmp(plan + 1, names + 3, length) == 0 && strchr(" \t\r\n/>", plan[1 + length]) != NULL;
+    /* a `>` comes before the plan's end, and is in no name */
+    return strncmp((const char *)plan + 1, (const char *)names + 3, length) == 0 && strchr(" \t\r\n/>", plan[1 + length]) != NULL;
 }
 
 /* Puts the first row behind the others. */
