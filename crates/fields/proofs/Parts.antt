@@ -7,7 +7,7 @@ use native.Mathlib.Omega.{arith}
 use lib.ListN.{length}
 use Rattle.base.specs.Limits.{name-limit, names-met}
 use Rattle.model.specs.Fields.{Settings, standard, File, FileKind, name-list, Read, readWith, readNames}
-use Rattle.model.specs.Claims.{namesOf}
+use Rattle.model.specs.Calls.{namesOf}
 use Rattle.judging.specs.Offsets.{offsetAt, fieldsAt}
 use Rattle.fields.specs.Places.{fileOf, Sound, ReadAs, NamesReadAs}
 use Rattle.fields.specs.declared.Place.{Place}

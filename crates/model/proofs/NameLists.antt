@@ -9,7 +9,7 @@ use lib.ListN.{length, getD}
 use Rattle.base.specs.Limits.{name-limit}
 use Rattle.base.specs.Lists.{before, lastOr}
 use Rattle.model.specs.Fields.{standard, unread, name-list, Ascends, above, readNames, readWith}
-use Rattle.model.specs.Claims.{namesOf}
+use Rattle.model.specs.Calls.{namesOf}
 use Rattle.base.proofs.Lists.{lastOr-snoc}
 use Rattle.base.proofs.Tests.{before-trans}
 use Rattle.model.proofs.FieldLaws.{fitting}

@@ -7,9 +7,11 @@ use mathlib.Core.List.{List, [], _∷_, List·Memᴰ as In}
 use mathlib.Core.List.{List·Memᴰ·head as here, List·Memᴰ·tail as there, List·Memᴰ·not-nil, List·Memᴰ·cases-cons}
 use Prim.Native.Nat.{ℕ, suc, _≤_, _<_}
 use native.Mathlib.Omega.{arith}
+use lib.Dec.{eqb, ltb}
 use lib.ListN.{length, getD}
-use Rattle.base.specs.Lists.{before}
-use Rattle.base.proofs.Tests.{told-false, tells-same, le-or-lt, word-dec, before-self, before-trans}
+use Rattle.base.specs.Lists.{same, before, hasRow}
+use Rattle.base.proofs.Tests.{told-false, same-tests, tells-eqb, tells-ltb, tells-same, tells-hasRow, le-or-lt, word-dec, before-self}
+use Rattle.base.proofs.Tests.{before-trans}
 use Rattle.base.proofs.Places.{nth-in}
 use Rattle.model.specs.Fields.{Ascends, numberOf}
 
@@ -81,6 +83,12 @@ equal-numbers names a b m k e =
 
 -- ---- ascending names
 
+-- so a name is told by its number
+pub known-test : (names : List (List ℕ)) (n : List ℕ) → hasRow n names ≡ ltb (numberOf names n) (length names)
+known-test names n =
+    same-tests (tells-hasRow n names) (tells-ltb (numberOf names n) (length names)) (λ m. number-of-known names n m .0)
+    (known-by-number names n)
+
 module _ (names : List (List ℕ)) (ascending : Ascends names) where
   -- a name stands before none that has a lower place, nor before itself
   not-before : (i j : ℕ) → i ≤ j → j < length names → before (getD names j []) (getD names i []) ≡ true → ⊥
@@ -128,3 +136,11 @@ module _ (names : List (List ℕ)) (ascending : Ascends names) where
       let low : n ≤ i = same-place n i (known .0) (known .1) in
       let high : i ≤ n = same-place i n h (sym (known .1)) in
       omega arith
+
+  -- and no other name has it
+  pub number-only : (i : ℕ) → i < length names → (n : List ℕ) → eqb (numberOf names n) i ≡ same n (getD names i [])
+  number-only i h n =
+      same-tests (tells-eqb (numberOf names n) i) (tells-same n (getD names i []))
+      (λ (e : numberOf names n ≡ i).
+      sym (name-of-number names n (omega arith)) ∙ ap (λ (k : ℕ). getD names k []) e)
+      (λ e. ap (numberOf names) e ∙ number-at-place i h)

@@ -12,7 +12,8 @@ use Rattle.base.specs.Limits.{names-met, unfinished}
 use Rattle.model.specs.Fields.{Class, Settings, standard, File, file, FileKind, book, name-list, Read, refused}
 use Rattle.model.specs.Fields.{accepted-file, readFrom, readWith, readNames, readBook, withField}
 use Rattle.model.specs.Tables.{classField, rowFields}
-use Rattle.model.specs.Claims.{namesOf, Rows-make-books}
+use Rattle.model.specs.Calls.{namesOf}
+use Rattle.model.specs.Claims.{Rows-make-books}
 use Rattle.model.proofs.FieldLaws.{NameFits, Fitting, a-name, a-class, a-row, a-state, fitting}
 use Rattle.model.proofs.Turns.{Turn, ended, failed, went, turn, one-field}
 use Rattle.model.proofs.ReadBack.{ReadsTo, name-passes, reads-class, reads-rows}

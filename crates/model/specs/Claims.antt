@@ -12,7 +12,7 @@ use Rattle.model.specs.Tables.{classField, rowFields, admits}
 use Rattle.model.specs.Classes.{Word, InClass}
 use Rattle.model.specs.Joinings.{Step, treeOf, apart, isFullJoining, afterSteps, joinedGroups}
 use Rattle.model.specs.Quotients.{bookStates, bookTable, tableAfter}
-use Rattle.model.specs.Calls.{bookFault, bookOf, tableFault, tableStates, rewritten}
+use Rattle.model.specs.Calls.{bookFault, bookOf, tableFault, tableStates, rewritten, namesOf}
 
 -- a book is accepted: read without a fault, and its prefix tree has at most 512 states
 abbrev pub Accepted : Settings → List ℕ → Type 0
@@ -76,10 +76,6 @@ AllBytes s = (i : ℕ) → i < length s → getD s i 0 < 256
 -- an accepted table is rewritten to the same bytes
 pub record Same-bytes : Type 0 where
   pub rewrites : (s work : List ℕ) → AllBytes s → tableFault s work ≡ 0 → rewritten s ≡ s
-
--- the names of a list of names
-abbrev pub namesOf : List ℕ → List (List ℕ)
-namesOf s = readNames s .file-is .names
 
 -- rows that a book with these names may have: 1 to 256, each of at most so many entries, and each entry a name's number
 pub record RowsOk (names : List (List ℕ)) (rows : List Word) : Type 0 where

@@ -6,8 +6,7 @@ use lib.Dec.{leb}
 use lib.ListN.{length, getD}
 use Rattle.base.specs.Limits.{bad-row, when, firstOf}
 use Rattle.model.specs.Fields.{readNames}
-use Rattle.model.specs.Claims.{namesOf}
-use Rattle.model.specs.Calls.{sizesFault}
+use Rattle.model.specs.Calls.{sizesFault, namesOf}
 use Rattle.written_plans.specs.Reading.{Reading, readPlan, entryOf, rowsIn, rowsFault}
 
 -- the chosen name

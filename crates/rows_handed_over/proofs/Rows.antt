@@ -1,0 +1,264 @@
+-- What holds of a plan's rows as calls give them: `rows-handed-over`. First of a call's refusal and place, then of what it wrote. Assumes
+-- nothing.
+use mathlib.Core.Path.{_≡_, refl, sym, ap, ap₂, _∙_, subst}
+use mathlib.Core.Bool.{Bool, true, false, _&&_, not}
+use mathlib.Core.List.{List, [], _∷_, _++_, map, List·Memᴰ as In, List·Memᴰ·head as here, List·Memᴰ·tail as there}
+use Prim.Native.Nat.{ℕ, zero, suc, _≤_, _<_}
+use native.Mathlib.Omega.{arith}
+use borrow.Author.Tests.{le-ltb, lt-ltb, le-leb, lt-leb, leb-false}
+use lib.Dec.{ltb, leb}
+use lib.ListN.{length}
+use Rattle.base.specs.Limits.{book-rows, row-limit, rows-bytes, bad-sizes, too-many, bad-row, output-too-short, bad-plan, when, firstOf}
+use Rattle.base.specs.Lists.{all}
+use Rattle.base.proofs.Lists.{map-in}
+use Rattle.base.proofs.Tests.{tells-all, tells-itself}
+use Rattle.model.specs.Fields.{Settings, standard, name-list, readNames, readBook, numberOf, allBelow, rowOk}
+use Rattle.model.specs.Tables.{classField, rowFields}
+use Rattle.model.specs.Calls.{namesOf, sizesFault, tooShort, faultWith}
+use Rattle.model.specs.Claims.{RowsOk}
+use Rattle.model.proofs.FieldLaws.{first-of, when-none}
+use Rattle.model.proofs.CallLaws.{SizesBad, refusal-is, answer-by, answered, one-wrote, short-is, FrontOf, front-of, refuses-none}
+use Rattle.model.proofs.LowNumbers.{when-low, first-low, fields-low}
+use Rattle.model.proofs.NameLists.{accepted-names}
+use Rattle.model.proofs.NameNumbers.{number-only, number-of-known}
+use Rattle.model.proofs.RowBooks.{rows-make-books}
+use Rattle.written_plans.specs.Written.{Plan, planBytes, First}
+use Rattle.written_plans.specs.Reading.{entryOf, rowsIn, rowsFault}
+use Rattle.written_plans.specs.Calls.{chosenName, planReading, planRows, askedFault, planFault}
+use Rattle.written_plans.specs.Claims.{ReadingTells, Faultless, Known}
+use Rattle.written_plans.proofs.FirstFault.{reading-tells}
+use Rattle.written_plans.proofs.Rows.{rows-are-traces}
+use Rattle.written_plans.proofs.KnownChildren.{children-are-known}
+use Rattle.plan_rows.proofs.Faults.{rows-passed, shortRows}
+use Rattle.plan_rows.proofs.Lengths.{rows-length}
+use Rattle.results.specs.declared.PlanRows.{PlanRows}
+use Rattle.results.specs.Says.{plan-rows, readingRows}
+use Rattle.rows_handed_over.specs.Rows.{RowsCall, rowsWritten, tracesIn, rowsOf, NoFault, Traced, MakesBook, RowsHandedOver}
+
+-- ---- numbers of refusals
+
+-- what is judged before the plan and after it has numbers below 14
+asked-low : (plan list : List ℕ) (chosen : ℕ) (work : List ℕ) → askedFault plan list chosen work < bad-plan
+unfolding askedFault sizesFault
+asked-low plan list chosen work =
+    first-low (sizesFault plan work) _ (when-low (SizesBad plan work) bad-sizes (omega arith))
+    (first-low (sizesFault list work) _ (when-low (SizesBad list work) bad-sizes (omega arith))
+    (first-low (readNames list .number) _ (fields-low standard name-list list)
+    (when-low (leb (length (namesOf list)) chosen) bad-row (omega arith))))
+
+rows-low : (rows : List (List ℕ)) → rowsFault rows < bad-plan
+unfolding rowsFault
+rows-low rows =
+    first-low (when (ltb book-rows (length rows)) too-many) _ (when-low (ltb book-rows (length rows)) too-many (omega arith))
+    (when-low (not (all (λ (row : List ℕ). leb (length row) row-limit) rows)) bad-row (omega arith))
+
+-- where the first of three refusals has a number of 14 or more and only the second can, it is the second
+the-second : (a b c d : ℕ) → a < bad-plan → c < bad-plan → d < bad-plan → bad-plan ≤ firstOf (firstOf a (firstOf b c)) d
+    → firstOf (firstOf a (firstOf b c)) d ≡ b
+the-second zero zero zero d low c-low d-low high = let z : ⊥ = omega arith in absurd z
+the-second zero zero (suc c) d low c-low d-low high = let z : ⊥ = omega arith in absurd z
+the-second zero (suc b) c d low c-low d-low high = refl
+the-second (suc a) b c d low c-low d-low high = let z : ⊥ = omega arith in absurd z
+
+-- ---- rows that a book may have
+
+-- numbers of names that are there are below their number
+entries-below : (names row : List (List ℕ)) → ((n : List ℕ) → In n row → In n names)
+    → allBelow (length names) (map (numberOf names) row) ≡ true
+unfolding allBelow
+entries-below names [] all-in = refl
+entries-below names (n ∷ row) all-in =
+    ap₂ (λ (a b : Bool). a && b) (lt-ltb (numberOf names n) (length names) (number-of-known names n (all-in n (here refl)) .0))
+    (entries-below names row (λ m i. all-in m (there i)))
+
+-- rows that nothing refuses are short
+short-row : (rows : List (List ℕ)) → rowsFault rows ≡ 0 → (row : List ℕ) → In row rows → leb (length row) row-limit ≡ true
+unfolding shortRows
+short-row rows none row m =
+    tells-all (λ (r : List ℕ). tells-itself (leb (length r) row-limit)) rows .fact (rows-passed rows none .1) row m
+
+module _ (c : RowsCall) where
+  abbrev names : List (List ℕ)
+  names = namesOf (c .list)
+
+  abbrev chosen : List ℕ
+  chosen = chosenName (c .list) (c .chosen)
+
+  told : ReadingTells names chosen (c .plan)
+  told = reading-tells names chosen (c .plan)
+
+  abbrev fault : ℕ
+  fault = faultWith (readingRows (c .plan) (c .list) (c .chosen) (c .work)) (c .out ∷ [])
+
+  refusal : c .result .refusal ≡ fault
+  unfolding readingRows
+  refusal = refusal-is (c .says .gives) (λ (r : PlanRows). r .refusal) (λ k. refl) refl
+
+  abbrev rows : List (List ℕ)
+  rows = planRows (c .plan) (c .list) (c .chosen)
+
+  -- ---- refusals of the plan
+
+  abbrev number : ℕ
+  number = planReading (c .plan) (c .list) (c .chosen) .number
+
+  abbrev place : ℕ
+  place = planReading (c .plan) (c .list) (c .chosen) .place
+
+  -- a refusal from 14 on is the plan's
+  plan-refuses : bad-plan ≤ c .result .refusal → c .result .refusal ≡ number
+  unfolding readingRows planFault
+  plan-refuses high =
+      let short = when-low (tooShort (rowFields rows ∷ []) (c .out ∷ [])) output-too-short (omega arith) in
+      let big : bad-plan ≤ fault = omega (arith, refusal) in
+      refusal
+      ∙ the-second (askedFault (c .plan) (c .list) (c .chosen) (c .work)) number (rowsFault rows) _
+      (asked-low (c .plan) (c .list) (c .chosen) (c .work)) (rows-low rows) short big
+
+  -- and comes with its place; other refusals come with 0
+  place-is : c .result .at ≡ when (leb bad-plan (c .result .refusal)) place
+  unfolding readingRows
+  place-is =
+      answer-by (c .says .gives) (λ (r : PlanRows). r .at ≡ when (leb bad-plan (r .refusal)) place) (λ k. refl) (λ e. refl)
+
+  is-first : bad-plan ≤ c .result .refusal → First names chosen (c .plan) (c .result .refusal) (c .result .at)
+  unfolding planReading
+  is-first high =
+      let same-number = plan-refuses high in
+      let at-place : c .result .at ≡ place = place-is ∙ ap (λ b. when b place) (le-leb bad-plan (c .result .refusal) high) in
+      subst (λ z. First names chosen (c .plan) (c .result .refusal) z) (sym at-place)
+      (subst (λ z. First names chosen (c .plan) z place) (sym same-number) (told .first (omega (arith, same-number, high))))
+
+  no-place : c .result .refusal < bad-plan → c .result .at ≡ 0
+  no-place low = place-is ∙ ap (λ b. when b place) (lt-leb bad-plan (c .result .refusal) low)
+
+  -- ---- what was asked, and the rows
+
+  -- the list is accepted, and the chosen number one of its names
+  asked :
+      askedFault (c .plan) (c .list) (c .chosen) (c .work) ≡ 0 → (readNames (c .list) .number ≡ 0) × (c .chosen < length names)
+  unfolding askedFault
+  asked fine =
+      let sizes = first-of (sizesFault (c .plan) (c .work)) _ fine .1 in
+      let fields = first-of (sizesFault (c .list) (c .work)) _ sizes .1 in
+      let list = first-of (readNames (c .list) .number) _ fields in
+      (list .0, leb-false (length names) (c .chosen) (when-none (leb (length names) (c .chosen)) bad-row (omega arith) (list .1)))
+
+  -- the rows of a plan that is read are its traces
+  traces-read :
+      askedFault (c .plan) (c .list) (c .chosen) (c .work) ≡ 0 → number ≡ 0 → (plan : Plan) → planBytes plan ≡ c .plan →
+      rows ≡ rowsOf c plan
+  unfolding planRows planReading
+  traces-read fine read plan bytes =
+      let list = asked fine in
+      ap (λ ts. rowsIn (c .chosen) (map (entryOf names) ts)) (told .tags-are read plan bytes)
+      ∙ rows-are-traces names (c .chosen) chosen
+      (number-only names (accepted-names (c .list) (list .0) .ascending) (c .chosen) (list .1)) plan
+
+  -- ---- nothing refused
+
+  module _ (accepted : c .result .refusal ≡ 0) where
+    none : fault ≡ 0
+    none = sym refusal ∙ accepted
+
+    parts :
+        (askedFault (c .plan) (c .list) (c .chosen) (c .work) ≡ 0) × (number ≡ 0) × (rowsFault rows ≡ 0)
+    unfolding readingRows planFault
+    parts =
+        let whole = first-of (planFault (c .plan) (c .list) (c .chosen) (c .work)) _ none .0 in
+        let first = first-of (askedFault (c .plan) (c .list) (c .chosen) (c .work)) _ whole in
+        let second = first-of number (rowsFault rows) (first .1) in
+        (first .0, second .0, second .1)
+
+    no-fault : NoFault c
+    unfolding planReading
+    no-fault = told .faultless (parts .1)
+
+    is-plan : (plan : Plan) × (planBytes plan ≡ c .plan)
+    unfolding planReading
+    is-plan = told .is-plan (parts .1)
+
+    answer-is : c .result ≡ plan-rows 0 (length (rowFields rows)) (length rows) 0
+    unfolding readingRows
+    answer-is = answered (c .says .gives) none
+
+    front : FrontOf (rowFields rows) (c .out′) (c .result .length)
+    unfolding readingRows
+    front =
+        let call = readingRows (c .plan) (c .list) (c .chosen) (c .work) in
+        let wrote = one-wrote call (rowFields rows) (c .out) refl (c .out′) (c .result) (c .says .gives) none in
+        front-of (rowFields rows) (c .out) (c .out′) (c .result .length) wrote (ap (λ (r : PlanRows). r .length) answer-is)
+
+    short : c .result .length ≤ rows-bytes
+    short =
+        omega (arith, ap (λ (r : PlanRows). r .length) answer-is, rows-length rows (parts .2))
+
+    module _ (plan : Plan) (bytes : planBytes plan ≡ c .plan) where
+      rows-traced : rows ≡ rowsOf c plan
+      rows-traced = traces-read (parts .0) (parts .1) plan bytes
+
+      known : Known names (tracesIn c plan)
+      known = children-are-known names chosen plan (subst (λ z. Faultless names chosen z) (sym bytes) no-fault)
+
+      traced : Traced c plan
+      traced =
+          record {
+            bytes-are = front .bytes-are ∙ ap rowFields rows-traced;
+            rows-are = ap (λ (r : PlanRows). r .rows) answer-is ∙ ap length rows-traced;
+            known = known;
+          }
+
+      -- each row is one that a book may have
+      row-fits : (row : List ℕ) → In row (rowsOf c plan) → rowOk (length names) row ≡ true
+      row-fits row m =
+          let from = map-in (map (numberOf names)) (tracesIn c plan) m in
+          let below = subst (λ z. allBelow (length names) z ≡ true) (sym (from .2)) (entries-below names (from .0) (known (from .0) (from .1))) in
+          ap₂ (λ (a b : Bool). a && b) (short-row (rowsOf c plan) (subst (λ z. rowsFault z ≡ 0) rows-traced (parts .2)) row m) below
+
+      makes-book : 1 ≤ c .result .rows → (settings : Settings) → MakesBook c plan settings
+      makes-book some settings =
+          let counted = ap (λ (r : PlanRows). r .rows) answer-is ∙ ap length rows-traced in
+          let few = rows-passed (rowsOf c plan) (subst (λ z. rowsFault z ≡ 0) rows-traced (parts .2)) .0 in
+          let rows-ok : RowsOk names (rowsOf c plan) = record { some = omega arith; few = few; each = row-fits } in
+          let books = rows-make-books settings in
+          let wrote = traced .bytes-are in
+          record {
+            without-class =
+                ap (λ (z : List ℕ). readBook settings (c .list ++ z)) wrote
+                ∙ books .without-class (c .list) (rowsOf c plan) (asked (parts .0) .0) rows-ok;
+            with-class = λ class ok.
+                ap (λ (z : List ℕ). readBook settings (c .list ++ (classField class ++ z))) wrote
+                ∙ books .with-class (c .list) class (rowsOf c plan) (asked (parts .0) .0) ok rows-ok;
+          }
+
+  -- ---- when nothing is refused
+
+  accepts :
+      askedFault (c .plan) (c .list) (c .chosen) (c .work) ≡ 0 → NoFault c → (plan : Plan) → planBytes plan ≡ c .plan →
+      rowsFault (rowsOf c plan) ≡ 0 → length (rowFields (rowsOf c plan)) ≤ length (c .out) → c .result .refusal ≡ 0
+  unfolding readingRows planFault planReading
+  accepts asked-none free plan bytes rows-none room =
+      let read-none : number ≡ 0 = told .accepts free in
+      let traced : rows ≡ rowsOf c plan = traces-read asked-none read-none plan bytes in
+      let fits : rowsFault rows ≡ 0 = subst (λ z. rowsFault z ≡ 0) (sym traced) rows-none in
+      let space : length (rowFields rows) ≤ length (c .out) = subst (λ z. length (rowFields z) ≤ length (c .out)) (sym traced) room in
+      let call = readingRows (c .plan) (c .list) (c .chosen) (c .work) in
+      let long : tooShort (rowFields rows ∷ []) (c .out ∷ []) ≡ false =
+      short-is call (rowFields rows) (c .out) refl ∙ le-ltb (length (c .out)) (length (rowFields rows)) space in
+      refusal
+      ∙ refuses-none (refuses-none asked-none (refuses-none read-none fits)) (ap (λ b. when b output-too-short) long)
+
+-- ---- all of it
+
+pub rows-handed-over : RowsHandedOver
+rows-handed-over =
+    record {
+      first = is-first;
+      no-place = no-place;
+      is-plan = is-plan;
+      no-fault = no-fault;
+      traced = traced;
+      short = short;
+      makes-book = λ c accepted some plan bytes settings. makes-book c accepted plan bytes some settings;
+      accepts = accepts;
+    }
