@@ -1,0 +1,48 @@
+//! Expat, a parser of XML in C: whether it accepts a document, and the tags it met.
+
+use std::ffi::{c_char, c_int, c_void, CStr};
+
+/// A tag that expat tells of; it tells of an empty element as of a start and an end.
+#[derive(Clone, Debug, PartialEq, Eq)]
+pub enum Tag {
+    Start(Vec<u8>),
+    End,
+}
+
+type Parser = *mut c_void;
+type StartHandler = unsafe extern "C" fn(*mut c_void, *const c_char, *const *const c_char);
+type EndHandler = unsafe extern "C" fn(*mut c_void, *const c_char);
+
+extern "C" {
+    fn XML_ParserCreate(encoding: *const c_char) -> Parser;
+    fn XML_SetUserData(parser: Parser, data: *mut c_void);
+    fn XML_SetElementHandler(parser: Parser, start: StartHandler, end: EndHandler);
+    fn XML_Parse(parser: Parser, bytes: *const c_char, length: c_int, is_last: c_int) -> c_int;
+    fn XML_ParserFree(parser: Parser);
+}
+
+/// `data` is the vector of tags that `tags` handed to expat.
+unsafe extern "C" fn on_start(data: *mut c_void, name: *const c_char, _attributes: *const *const c_char) {
+    let (tags, name) = unsafe { (&mut *data.cast::<Vec<Tag>>(), CStr::from_ptr(name)) };
+    tags.push(Tag::Start(name.to_bytes().to_vec()));
+}
+
+unsafe extern "C" fn on_end(data: *mut c_void, _name: *const c_char) {
+    unsafe { &mut *data.cast::<Vec<Tag>>() }.push(Tag::End);
+}
+
+/// The tags of a document in their order; none where expat does not accept it.
+pub fn tags(document: &[u8]) -> Option<Vec<Tag>> {
+    let mut tags: Vec<Tag> = vec![];
+    // SAFETY: expat reads the document within its length, and hands `tags`, which outlives the parser, to the handlers alone
+    let accepted = unsafe {
+        let parser = XML_ParserCreate(std::ptr::null());
+        assert!(!parser.is_null(), "expat has no memory");
+        XML_SetUserData(parser, (&raw mut tags).cast());
+        XML_SetElementHandler(parser, on_start, on_end);
+        let status = XML_Parse(parser, document.as_ptr().cast(), document.len() as c_int, 1);
+        XML_ParserFree(parser);
+        status == 1
+    };
+    accepted.then_some(tags)
+}
