@@ -19,7 +19,7 @@ use Rattle.written_plans.specs.Written.{tag}
 use Rattle.written_plans.specs.Reading.{isChild, tagFault}
 use Rattle.plan_reading.specs.Scanning.{part}
 use Rattle.plan_reading.specs.Pieces.{openName, openNames}
-use Rattle.plan_reading.specs.Turns.{namesOf, chosenOf, judgeOf, Named, Numbered, TagJudged}
+use Rattle.plan_reading.specs.Turns.{namesOf, chosenOf, Named, Numbered, TagJudged}
 use Rattle.plan_reading.specs.declared.Sought.{Sought}
 
 -- ---- the names of the open elements

@@ -16,7 +16,7 @@ use Rattle.written_plans.specs.Reading.{Place, before, inside, named, after, le
 use Rattle.written_plans.specs.Reading.{readPlan, Entry, entryOf}
 use Rattle.written_plans.specs.Logs.{entriesAt}
 use Rattle.plan_reading.specs.Scanning.{part}
-use Rattle.plan_reading.specs.Pieces.{openName, openNames, between, placeOf, reads, ReadsOn, Stops, Stacked, NameHere, Passed, Met}
+use Rattle.plan_reading.specs.Pieces.{openName, openNames, between, placeOf, reads, ReadsOn, Stops, NameHere, Passed, Met}
 use Rattle.plan_reading.specs.Turns.{Numbered, Standing, Begun, ElementFrom, entry, Turned, RefusedAs, TurnFrom, Logged}
 use Rattle.plan_reading.specs.declared.Turn.{Turn}
 use Rattle.plan_reading.specs.declared.Turn.the-variants as turn
@@ -287,7 +287,9 @@ module _ (names : List (List ℕ)) (chosen s : List ℕ) where
     module _ (at-end : length s ≤ r .at) where
       -- what reading comes to at the plan's end
       comes-to : readPlan names chosen s ≡ withTags (so-far .met-tags) (ended (placeOf s stack r) (r .at))
-      comes-to = so-far .reads-on ∙ ap (withTags (so-far .met-tags)) (reads-end (tagFault names chosen) s (placeOf s stack r) (r .at) at-end)
+      comes-to =
+          so-far .reads-on
+          ∙ ap (withTags (so-far .met-tags)) (reads-end (tagFault names chosen) s (placeOf s stack r) (r .at) at-end)
 
       -- the test of a plan that is done
       tells-done : Tells (eqb (r .depth) 0 && ltb 0 (r .tags)) ((r .depth ≡ 0) × (0 < r .tags))

@@ -60,8 +60,7 @@ returns-4 c =
     let r = start .args .r in
     let run = c .before .before .before .before .before .before .before .before-tag in
     let onward : r .at ≤ run .result = run .ensures .onward in
-    let first = tag-next s stack r (run .result) (run .ensures) (c .before .before .before .before .before .before .if1 .left) (c .before .before .before .before .if2 .left) (c .before .if3 .left) in
-    (
+    let first = tag-next s stack r (run .result) (run .ensures) (c .before .before .before .before .before .before .if1 .left) (c .before .before .before .before .if2 .left) (c .before .if3 .left) in (
       piece-after s stack _ (r .at) r _ _ first (omega arith) (c .tag-at .result) (c .tag-at .ensures),
       after-less s stack _ (run .result + 1) r _ (omega arith) (c .tag-at .result) (c .tag-at .ensures),
     )
