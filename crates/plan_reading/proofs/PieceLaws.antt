@@ -11,13 +11,13 @@ use lib.ListN.{length, getD, drop}
 use borrow.Author.Tests.{eqb-true, eq-eqb, ne-eqb, lt-ltb, ltb-true, ltb-false, not-true}
 use Rattle.base.specs.Limits.{plan-depth}
 use Rattle.base.proofs.Tests.{le-or-lt, false-or}
-use Rattle.written_plans.specs.Written.{Tag, isWhite, isText, less, slash, greater, ampersand}
+use Rattle.written_plans.specs.Written.{isWhite, isText, less, slash, greater, ampersand}
 use Rattle.written_plans.specs.Reading.{Place, before, inside, opened, naming, named, emptied, closing, after, leave}
 use Rattle.written_plans.specs.Reading.{stop, go, afterName, afterEnd, endBegins, step, met, beginsName, ended}
 use Rattle.written_plans.proofs.WrittenRuns.{slash-ends}
 use Rattle.plan_reading.specs.Scanning.{part, Skipped, NameEnds, Agrees}
 use Rattle.plan_reading.specs.Pieces.{openName, openNames, between, placeOf, reads, ReadsOn, Stops, Stacked, closingOf}
-use Rattle.plan_reading.specs.Pieces.{BeforeTag, followsName, NameHere, Passed, Met, PieceFrom, AfterLess, NameFrom, CloseFrom}
+use Rattle.plan_reading.specs.Pieces.{BeforeTag, followsName, Passed, Met, PieceFrom, AfterLess, NameFrom, CloseFrom}
 use Rattle.plan_reading.specs.declared.pieces.Reached.{Reached}
 use Rattle.plan_reading.specs.declared.pieces.Piece.{Piece}
 use Rattle.plan_reading.specs.declared.pieces.Piece.the-variants as piece
@@ -118,8 +118,8 @@ module _ (s : List ℕ) (at end : ℕ) (name : NameEnds s at end) where
       let none : part s at end ≡ [] = ap (part s at) same ∙ part-none s at in
       let here : getD s end 0 ≡ getD s at 0 = ap (λ (i : ℕ). getD s i 0) same in
       let stopped : beginsName (part s at end ++ (getD s end 0 ∷ [])) ≡ false = name .stopped (omega arith) in
-      let ends : beginsName (getD s at 0 ∷ []) ≡ false =
-      subst (λ z. beginsName (z ++ (getD s at 0 ∷ [])) ≡ false) none (subst (λ z. beginsName (part s at end ++ (z ∷ [])) ≡ false) here stopped) in
+      let same-byte = subst (λ z. beginsName (part s at end ++ (z ∷ [])) ≡ false) here stopped in
+      let ends : beginsName (getD s at 0 ∷ []) ≡ false = subst (λ z. beginsName (z ++ (getD s at 0 ∷ [])) ≡ false) none same-byte in
       reads-stop judge s (opened around) at h (rw (ends, other))
 
   module _ (some : at < end) where
@@ -138,6 +138,7 @@ module _ (s : List ℕ) (at end : ℕ) (name : NameEnds s at end) where
           ∙ reads-stop judge s (naming around n) end h
           (rw (name .stopped h, name .whole some, no-follow around n (getD s end 0) e))
 
+      -- a byte follows it that may
       pub name-found : followsName (getD s end 0) ≡ true → NameFrom s at (piece.Name at end)
       name-found e = (
         refl,
@@ -151,6 +152,7 @@ module _ (s : List ℕ) (at end : ℕ) (name : NameEnds s at end) where
 abbrev pub moved : Reached → ℕ → Reached
 moved r at = record { at = at; depth = r .depth; tags = r .tags }
 
+-- what holds of a place holds further on
 pub stacked-on : (s stack : List ℕ) (r : Reached) (at : ℕ) → Stacked s stack r → r .at ≤ at → at ≤ length s → Stacked s stack (moved r at)
 stacked-on s stack r at sound h within =
     let few : 3 * r .tags ≤ r .at = sound .few in
@@ -165,7 +167,7 @@ stacked-on s stack r at sound h within =
       few = omega arith;
     }
 
--- one element fewer is open
+-- and where one element fewer is open
 stacked-out : (s stack : List ℕ) (r : Reached) (at : ℕ) → Stacked s stack r → r .at ≤ at → at ≤ length s
     → Stacked s stack (record { at = at; depth = r .depth - 1; tags = r .tags })
 stacked-out s stack r at sound h within =
@@ -216,16 +218,19 @@ after-less s stack q i r t h (piece.Bad p) stops = tt
 -- ---- an end tag
 
 module _ (s stack : List ℕ) (r : Reached) (sound : Stacked s stack r) (deep : 0 < r .depth) where
-  -- the innermost open element, and those around it
+  -- the depth of the innermost open element
   abbrev top : ℕ
   top = r .depth - 1
 
+  -- where its name begins
   abbrev from : ℕ
   from = getD stack (3 * top) 0
 
+  -- where it ends
   abbrev end : ℕ
   end = getD stack (3 * top + 1) 0
 
+  -- the names of the elements around it
   abbrev around : List (List ℕ)
   around = openNames s stack top
 
@@ -233,6 +238,7 @@ module _ (s stack : List ℕ) (r : Reached) (sound : Stacked s stack r) (deep : 
   pub name-behind : (from ≤ end) × ((end ≤ r .at) × (r .at ≤ length s))
   name-behind = (sound .forward top (omega arith), (sound .behind top (omega arith), sound .within))
 
+  -- the name lies within the plan
   end-within : end ≤ length s
   end-within = let behind : end ≤ r .at = name-behind .1 .0 in let within : r .at ≤ length s = sound .within in omega arith
 
@@ -269,16 +275,19 @@ module _ (s stack : List ℕ) (r : Reached) (sound : Stacked s stack r) (deep : 
           ∙ ap (λ (n : List ℕ). reads judge s (closing n around) last) none
           ∙ skipped-reads isWhite s (closing [] around) (λ b e. rw (e)) (λ b rest. refl) last at white judge
 
+      -- nothing follows
       pub end-cut : length s ≤ at → Stops s (closingOf s stack r) (r .at) at
       unfolding ended
       end-cut h judge = past-name judge ∙ reads-end judge s (closing [] around) at h
 
+      -- not `>`
       pub end-no-greater : at < length s → (getD s at 0 ≡ greater → ⊥) → Stops s (closingOf s stack r) (r .at) at
       unfolding step afterEnd
       end-no-greater h g judge =
           past-name judge
           ∙ reads-stop judge s (closing [] around) at h (rw (white .stopped h, ne-eqb (getD s at 0) greater g))
 
+      -- `>` follows
       pub end-passed : at < length s → getD s at 0 ≡ greater
           → Passed s stack (closingOf s stack r) (r .at) r (record { at = at + 1; depth = r .depth - 1; tags = r .tags })
       unfolding step met afterEnd
@@ -362,17 +371,20 @@ module _ (s stack : List ℕ) (r : Reached) where
 abbrev mayStand : ℕ → ℕ → Bool
 mayStand depth b = cond (eqb depth 0) (isWhite b) (isText b)
 
+-- outside the outermost element it is white space
 pub before-white : (s : List ℕ) (r : Reached) (e : ℕ) → r .depth ≡ 0 → Skipped isWhite s (r .at) e → BeforeTag s r e
 before-white s r e h run =
     subst (λ (z : Bool). Skipped (λ (b : ℕ). cond z (isWhite b) (isText b)) s (r .at) e) (sym (eq-eqb (r .depth) 0 h)) run
 
+-- inside it is text
 pub before-text : (s : List ℕ) (r : Reached) (e : ℕ) → (r .depth ≡ 0 → ⊥) → Skipped isText s (r .at) e → BeforeTag s r e
 before-text s r e h run =
     subst (λ (z : Bool). Skipped (λ (b : ℕ). cond z (isWhite b) (isText b)) s (r .at) e) (sym (ne-eqb (r .depth) 0 h)) run
 
 module _ (s stack : List ℕ) (tags b : ℕ) where
   -- reading stays in its place
-  next-stays : (depth : ℕ) → mayStand depth b ≡ true → step (between (openNames s stack depth) tags) b ≡ go (between (openNames s stack depth) tags)
+  next-stays : (depth : ℕ) → mayStand depth b ≡ true
+      → step (between (openNames s stack depth) tags) b ≡ go (between (openNames s stack depth) tags)
   unfolding step openNames
   next-stays zero e = outside (eqb tags 0)
     where
@@ -452,18 +464,21 @@ module _ (s stack : List ℕ) (r : Reached) (at : ℕ) (run : BeforeTag s r at) 
       }
 
   module _ (h : at < length s) where
+    -- a byte that begins no tag
     pub no-tag : (getD s at 0 ≡ less → ⊥) → Stops s (placeOf s stack r) (r .at) at
     no-tag g judge =
         past-before judge
         ∙ reads-stop judge s (placeOf s stack r) at h
         (next-stops s stack (r .tags) (getD s at 0) (r .depth) (run .stopped h) (ne-eqb (getD s at 0) less g))
 
+    -- after the outermost element
     pub second-element : (eqb (r .depth) 0 && ltb 0 (r .tags)) ≡ true → Stops s (placeOf s stack r) (r .at) at
     second-element begun judge =
         past-before judge
         ∙ reads-stop judge s (placeOf s stack r) at h
         (next-second s stack (r .tags) (getD s at 0) (r .depth) (run .stopped h) begun)
 
+    -- the `<` of a tag
     pub tag-next : getD s at 0 ≡ less → (eqb (r .depth) 0 && ltb 0 (r .tags)) ≡ false
         → ReadsOn s (placeOf s stack r) (r .at) (opened (openNames s stack (r .depth))) (at + 1)
     tag-next e inner judge =

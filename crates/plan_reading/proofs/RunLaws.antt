@@ -12,8 +12,16 @@ use Rattle.written_plans.specs.Written.{Tag}
 use Rattle.written_plans.specs.Reading.{Place, opened, naming, closing, go, beginsName, step, met}
 use Rattle.plan_reading.specs.Scanning.{part, Skipped, NameEnds, Agrees}
 use Rattle.plan_reading.specs.Pieces.{reads, ReadsOn}
-use Rattle.plan_reading.proofs.ScanLaws.{part-more, part-first}
+use Rattle.plan_reading.proofs.ScanLaws.{part-none, part-more}
 use Rattle.plan_reading.proofs.StepLaws.{reads-go}
+
+-- ---- parts
+
+-- a part by its first byte
+pub part-cons : (s : List ℕ) (a e : ℕ) → a < e → e ≤ length s → part s a e ≡ getD s a 0 ∷ part s (suc a) e
+part-cons s a e h within =
+    let more : e - a ≡ suc (e - suc a) = omega arith in
+    ap (λ (n : ℕ). take n (drop a s)) more ∙ ap (take (suc (e - suc a))) (drop-cons s a 0 (omega arith))
 
 -- ---- bytes at which reading stays in its place
 
@@ -62,8 +70,8 @@ module _ (s : List ℕ) (at e : ℕ) (around : List (List ℕ)) (name : NameEnds
   unfolding step met
   name-read some judge =
       let within : e ≤ length s = name .within in
-      let next : suc at ≡ at + 1 = omega arith in
-      let first : part s at (suc at) ≡ getD s at 0 ∷ [] = ap (part s at) next ∙ part-first s at (omega arith) in
+      let first : part s at (suc at) ≡ getD s at 0 ∷ [] =
+      part-cons s at (suc at) (omega arith) (omega arith) ∙ ap (λ (n : List ℕ). getD s at 0 ∷ n) (part-none s (suc at)) in
       let begins : beginsName (getD s at 0 ∷ []) ≡ true =
       subst (λ z. beginsName z ≡ true) first (name .begun (suc at) (omega arith) (omega arith)) in
       reads-go judge s (opened around) at (omega arith) _ (rw (begins)) refl
@@ -71,12 +79,6 @@ module _ (s : List ℕ) (at e : ℕ) (around : List (List ℕ)) (name : NameEnds
       ∙ name-from judge (e - suc at) (suc at) (omega arith) (omega arith)
 
 -- ---- an end tag's name
-
--- a part by its first byte
-pub part-cons : (s : List ℕ) (a e : ℕ) → a < e → e ≤ length s → part s a e ≡ getD s a 0 ∷ part s (suc a) e
-part-cons s a e h within =
-    let more : e - a ≡ suc (e - suc a) = omega arith in
-    ap (λ (n : ℕ). take n (drop a s)) more ∙ ap (take (suc (e - suc a))) (drop-cons s a 0 (omega arith))
 
 module _ (s : List ℕ) (from end at stop : ℕ) (around : List (List ℕ)) (within : end ≤ length s) (run : Agrees s from end at stop) where
   -- the place where this many bytes are read

@@ -1,6 +1,6 @@
 -- Parts of a list of bytes, one byte longer each time; and runs as far as they are read, each with its start, one byte more, and its end.
 -- Assumes nothing.
-use mathlib.Core.Path.{_≡_, refl, sym, ap, ap₂, _∙_, subst}
+use mathlib.Core.Path.{_≡_, sym, ap, _∙_, subst}
 use mathlib.Core.Logic.{⊎-elim}
 use mathlib.Core.Bool.{Bool, true, false}
 use mathlib.Core.List.{List, [], _∷_, _++_}
@@ -44,10 +44,12 @@ pub record Passing (test : ℕ → Bool) (s : List ℕ) (at i : ℕ) : Type 0 wh
   pub passed : (k : ℕ) → at ≤ k → k < i → test (getD s k 0) ≡ true
 
 module _ (test : ℕ → Bool) (s : List ℕ) (at : ℕ) where
+  -- no byte is read yet
   pub passing-start : at ≤ length s → Passing test s at at
   passing-start h =
       record { onward = omega arith; within = h; passed = λ (k : ℕ) (g : at ≤ k) (l : k < at). let z : ⊥ = omega arith in absurd z }
 
+  -- one byte more passes
   pub passing-more : (i : ℕ) → Passing test s at i → i < length s → test (getD s i 0) ≡ true → Passing test s at (i + 1)
   passing-more i run h e =
       let before : at ≤ i = run .onward in
@@ -60,51 +62,56 @@ module _ (test : ℕ → Bool) (s : List ℕ) (at : ℕ) where
             (eq-dec k i);
       }
 
+  -- the byte at `i`, if there is one, does not pass
   pub passing-end : (i : ℕ) → Passing test s at i → (i < length s → test (getD s i 0) ≡ false) → Skipped test s at i
   passing-end i run stops = record { onward = run .onward; within = run .within; passed = run .passed; stopped = stops }
 
 -- ---- a name
 
--- the bytes from `at` to `i` are a name, and so are their beginnings
+-- the bytes from `at` to `i` are a name
 pub record Naming (s : List ℕ) (at i : ℕ) : Type 0 where
   pub some : at < i
   pub within : i ≤ length s
-  pub names : (k : ℕ) → at < k → k ≤ i → nameOk (part s at k) ≡ true
+  pub begun : (k : ℕ) → at < k → k ≤ i → beginsName (part s at k) ≡ true
+  pub whole : nameOk (part s at i) ≡ true
 
 module _ (s : List ℕ) (at : ℕ) where
-  -- the part of the first byte
-  pub part-first : at < length s → part s at (at + 1) ≡ getD s at 0 ∷ []
-  part-first h = part-more s at at (omega arith) h ∙ ap (λ (n : List ℕ). n ++ (getD s at 0 ∷ [])) (part-none s at)
-
+  -- the first byte starts a name
   pub naming-start : at < length s → startsName (getD s at 0) ≡ true → Naming s at (at + 1)
   naming-start h e =
+      let first : part s at (at + 1) ≡ getD s at 0 ∷ [] =
+      part-more s at at (omega arith) h ∙ ap (λ (n : List ℕ). n ++ (getD s at 0 ∷ [])) (part-none s at) in
+      let name : nameOk (part s at (at + 1)) ≡ true =
+      subst (λ (n : List ℕ). nameOk n ≡ true) (sym first) (name-first (getD s at 0) e) in
       record {
         some = omega arith;
         within = omega arith;
-        names = λ (k : ℕ) (g : at < k) (l : k ≤ at + 1).
+        begun = λ (k : ℕ) (g : at < k) (l : k ≤ at + 1).
             let one : at + 1 ≡ k = omega arith in
-            subst (λ (n : ℕ). nameOk (part s at n) ≡ true) one
-            (subst (λ (n : List ℕ). nameOk n ≡ true) (sym (part-first h)) (name-first (getD s at 0) e));
+            subst (λ (n : ℕ). beginsName (part s at n) ≡ true) one (name-begun (part s at (at + 1)) name);
+        whole = name;
       }
 
+  -- one byte more goes on with it
   pub naming-more :
       (i : ℕ) → Naming s at i → i < length s → i - at < name-bytes → continuesName (getD s i 0) ≡ true → Naming s at (i + 1)
   naming-more i run h short e =
       let before : at < i = run .some in
       let few : length (part s at i) < name-bytes = omega (arith, length-part s at i (run .within)) in
-      let name = name-more (part s at i) (getD s i 0) (run .names i before (omega arith)) few e in
+      let name : nameOk (part s at (i + 1)) ≡ true =
+      subst (λ (n : List ℕ). nameOk n ≡ true) (sym (part-more s at i (omega arith) h))
+      (name-more (part s at i) (getD s i 0) (run .whole) few e) in
       record {
         some = omega arith;
         within = omega arith;
-        names = λ (k : ℕ) (g : at < k) (l : k ≤ i + 1).
-            ⊎-elim
-            (λ (p : k ≡ i + 1). subst (λ (n : ℕ). nameOk (part s at n) ≡ true) (sym p)
-            (subst (λ (n : List ℕ). nameOk n ≡ true) (sym (part-more s at i (omega arith) h)) name))
-            (λ (p : k ≡ i + 1 → ⊥). run .names k g (omega arith))
+        begun = λ (k : ℕ) (g : at < k) (l : k ≤ i + 1).
+            ⊎-elim (λ (p : k ≡ i + 1). subst (λ (n : ℕ). beginsName (part s at n) ≡ true) (sym p) (name-begun (part s at (i + 1)) name))
+            (λ (p : k ≡ i + 1 → ⊥). run .begun k g (omega arith))
             (eq-dec k (i + 1));
+        whole = name;
       }
 
-  -- a name that the byte at `i`, if there is one, does not go on with
+  -- no name begins with these bytes and the one at `i`, if there is one
   naming-end :
       (i : ℕ) → Naming s at i → (i < length s → beginsName (part s at i ++ (getD s i 0 ∷ [])) ≡ false) → NameEnds s at i
   naming-end i run stops =
@@ -112,22 +119,22 @@ module _ (s : List ℕ) (at : ℕ) where
       record {
         onward = omega arith;
         within = run .within;
-        begun = λ (k : ℕ) (g : at < k) (l : k ≤ i). name-begun (part s at k) (run .names k g l);
-        whole = λ (g : at < i). run .names i g (omega arith);
+        begun = run .begun;
+        whole = λ (g : at < i). run .whole;
         stopped = stops;
       }
 
-  -- the end of the bytes
+  -- no byte follows
   pub naming-all : (i : ℕ) → Naming s at i → length s ≤ i → NameEnds s at i
   naming-all i run h = naming-end i run (λ (g : i < length s). let z : ⊥ = omega arith in absurd z)
 
-  -- a name of the greatest length
+  -- the name has the greatest length
   pub naming-full : (i : ℕ) → Naming s at i → name-bytes ≤ i - at → NameEnds s at i
   naming-full i run full =
       let many : name-bytes ≤ length (part s at i) = omega (arith, length-part s at i (run .within)) in
       naming-end i run (λ (g : i < length s). name-full (part s at i) (getD s i 0) many)
 
-  -- a byte that may not stand in a name
+  -- the byte that follows stands in no name
   pub naming-stop : (i : ℕ) → Naming s at i → continuesName (getD s i 0) ≡ false → NameEnds s at i
   naming-stop i run e = naming-end i run (λ (g : i < length s). name-not-more (part s at i) (getD s i 0) e)
 
@@ -155,6 +162,7 @@ pub record Agreeing (s : List ℕ) (from end at i j : ℕ) : Type 0 where
   pub passed : (k : ℕ) → k < i - at → getD s (at + k) 0 ≡ getD s (from + k) 0
 
 module _ (s : List ℕ) (from end at : ℕ) where
+  -- no byte is read yet
   pub agreeing-start : from ≤ end → at ≤ length s → Agreeing s from end at at from
   agreeing-start h g =
       record {
@@ -165,27 +173,28 @@ module _ (s : List ℕ) (from end at : ℕ) where
         passed = λ (k : ℕ) (l : k < at - at). let z : ⊥ = omega arith in absurd z;
       }
 
+  -- one byte more agrees
   pub agreeing-more :
       (i j : ℕ) → Agreeing s from end at i j → j < end → i < length s → getD s i 0 ≡ getD s j 0 →
       Agreeing s from end at (i + 1) (j + 1)
   agreeing-more i j run h g e =
       let before : at ≤ i = run .onward in
       let beside : from + (i - at) ≡ j = run .beside in
+      let here : at + (i - at) ≡ i = omega arith in
+      let agrees : getD s (at + (i - at)) 0 ≡ getD s (from + (i - at)) 0 =
+      ap (λ (n : ℕ). getD s n 0) here ∙ e ∙ ap (λ (n : ℕ). getD s n 0) (sym beside) in
       record {
         onward = omega arith;
         within = omega arith;
         beside = omega arith;
         not-beyond = omega arith;
         passed = λ (k : ℕ) (l : k < i + 1 - at).
-            ⊎-elim
-            (λ (p : k ≡ i - at).
-            let here : at + k ≡ i = omega arith in
-            let there : from + k ≡ j = omega arith in
-            ap (λ (n : ℕ). getD s n 0) here ∙ e ∙ ap (λ (n : ℕ). getD s n 0) (sym there))
+            ⊎-elim (λ (p : k ≡ i - at). subst (λ (n : ℕ). getD s (at + n) 0 ≡ getD s (from + n) 0) (sym p) agrees)
             (λ (p : k ≡ i - at → ⊥). run .passed k (omega arith))
             (eq-dec k (i - at));
       }
 
+  -- all bytes agree, or the one at `i`, if there is one, does not
   pub agreeing-end :
       (i j : ℕ) → Agreeing s from end at i j → (j < end → i < length s → getD s i 0 ≡ getD s j 0 → ⊥) → Agrees s from end at i
   agreeing-end i j run stops =

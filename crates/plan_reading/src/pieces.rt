@@ -83,7 +83,8 @@ fn tag_name(plan: &[u8], at: usize) -> Piece
 fn end_tag(plan: &[u8], stack: &[usize; STACK], r: Reached) -> Piece
     requires { ⌜ Stacked (now plan) (now stack) r ⌝ }
     requires { ⌜ 0 < r .depth ⌝ }
-    ensures { λ t. ⌜ PieceFrom (now (plan .entry)) (now (stack .entry)) (closingOf (now (plan .entry)) (now (stack .entry)) r) (r .at) r t ⌝ }
+    ensures { λ t. ⌜ PieceFrom (now (plan .entry)) (now (stack .entry))
+        (closingOf (now (plan .entry)) (now (stack .entry)) r) (r .at) r t ⌝ }
 {
     let top = 3 * (r.depth - 1);
     let from = stack[top];

@@ -101,15 +101,11 @@ pub name-more : (n : List ℕ) (b : ℕ) → nameOk n ≡ true → length n < na
 name-more [] b ok short goes-on = absurd (false≢true (sym name-not-empty ∙ ok))
 name-more (a ∷ n) b ok short goes-on =
     let is = tells-name a n .fact ok in
-    tells-name a (n ++ (b ∷ [])) .test (
-      omega (arith, length-append n (b ∷ [])),
-      (
-        is .1 .0,
-        λ x among. ⊎-elim (λ (m : In x n). is .1 .1 x m)
-            (λ (m : In x (b ∷ [])). subst (λ z. continuesName z ≡ true) (sym (List·Memᴰ·eq-of-singleton m)) goes-on)
-            (List·Memᴰ·append-cases n among),
-      ),
-    )
+    let all-go-on : (x : ℕ) → In x (n ++ (b ∷ [])) → continuesName x ≡ true =
+    λ x among. ⊎-elim (λ (m : In x n). is .1 .1 x m)
+    (λ (m : In x (b ∷ [])). subst (λ z. continuesName z ≡ true) (sym (List·Memᴰ·eq-of-singleton m)) goes-on)
+    (List·Memᴰ·append-cases n among) in
+    tells-name a (n ++ (b ∷ [])) .test (omega (arith, length-append n (b ∷ [])), (is .1 .0, all-go-on))
 
 -- no name goes on with another byte
 pub name-not-more : (n : List ℕ) (b : ℕ) → continuesName b ≡ false → beginsName (n ++ (b ∷ [])) ≡ false

@@ -41,11 +41,11 @@ sub-if1-2 c = search needs
 
 returns : tie.Need-returns
 returns c =
+    let run = c .before .before .agree in
     let start = c .before .before .before .before .before .before .before in
     let s = start .args .plan .now in
     let stack = start .args .stack .now in
     let r = start .args .r in
-    let run = c .before .before .agree in
     end-unlike s stack r (start .pre .0) (start .pre .1) (run .result) (run .ensures) (c .if1 .taken)
 
 skip-white-requires : tie.Need-skip-white-requires
@@ -53,28 +53,32 @@ skip-white-requires c κs = search needs
 
 returns-2 : tie.Need-returns-2
 returns-2 c =
-    let start = c .before .before .before .before .before .before .before .before .before in
+    let white = c .before .skip-white in
+    let whole = c .before .before in
+    let run = whole .before .before .agree in
+    let start = whole .before .before .before .before .before .before .before in
     let s = start .args .plan .now in
     let stack = start .args .stack .now in
     let r = start .args .r in
-    let run = c .before .before .before .before .agree in
-    let white = c .before .skip-white in
-    end-cut s stack r (start .pre .0) (start .pre .1) (run .result) (run .ensures) (c .before .before .if1 .left) (white .result) (white .ensures)
-    (c .if2 .taken)
+    end-cut s stack r (start .pre .0) (start .pre .1) (run .result) (run .ensures)
+    (whole .if1 .left) (white .result) (white .ensures) (c .if2 .taken)
 
 shared-slice-read-if3 : tie.Need-shared-slice-read-if3
 shared-slice-read-if3 c = search needs
 
 returns-3 : tie.Need-returns-3
 returns-3 c =
-    let start = c .before .before .before .before .before .before .before .before .before .before .before in
+    let more = c .before .before in
+    let white = more .before .skip-white in
+    let whole = more .before .before in
+    let run = whole .before .before .agree in
+    let start = whole .before .before .before .before .before .before .before in
     let s = start .args .plan .now in
     let stack = start .args .stack .now in
     let r = start .args .r in
-    let run = c .before .before .before .before .before .before .agree in
-    let white = c .before .before .before .skip-white in
-    end-no-greater s stack r (start .pre .0) (start .pre .1) (run .result) (run .ensures) (c .before .before .before .before .if1 .left) (white .result)
-    (white .ensures) (c .before .before .if2 .left) (c .if3 .taken)
+    end-no-greater s stack r (start .pre .0) (start .pre .1) (run .result) (run .ensures)
+    (whole .if1 .left) (white .result) (white .ensures)
+    (more .if2 .left) (c .if3 .taken)
 
 add-t15 : tie.Need-add-t15
 add-t15 c = search needs
@@ -84,14 +88,16 @@ sub-t9 c = search needs
 
 returns-4 : tie.Need-returns-4
 returns-4 c =
-    let start = c .before .before .before .before .before .before .before .before .before .before .before .before in
+    let more = c .before .before .before in
+    let white = more .before .skip-white in
+    let whole = more .before .before in
+    let run = whole .before .before .agree in
+    let start = whole .before .before .before .before .before .before .before in
     let s = start .args .plan .now in
     let stack = start .args .stack .now in
     let r = start .args .r in
-    let run = c .before .before .before .before .before .before .before .agree in
-    let white = c .before .before .before .before .skip-white in
-    end-passed s stack r (start .pre .0) (start .pre .1) (run .result) (run .ensures) (c .before .before .before .before .before .if1 .left) (white .result) (white .ensures)
-    (c .before .before .before .if2 .left) (c .before .if3 .left)
+    end-passed s stack r (start .pre .0) (start .pre .1) (run .result) (run .ensures) (whole .if1 .left) (white .result) (white .ensures)
+    (more .if2 .left) (c .before .if3 .left)
 
 pub end-tag-spec : {M : Type 1} → statement M
 end-tag-spec =

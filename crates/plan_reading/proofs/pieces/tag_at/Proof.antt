@@ -1,7 +1,7 @@
 -- `pieces::tag_at` meets its contract. Assumes nothing.
 use native.Mathlib.Omega.{arith}
 use lib.ListN.{getD}
-use Rattle.plan_reading.proofs.PieceLaws.{stacked-on, piece-after, end-begins, tag-cut, tag-slash, tag-named}
+use Rattle.plan_reading.proofs.PieceLaws.{stacked-on, piece-after, tag-cut, end-begins, tag-slash, tag-named}
 use borrow.Author.Needs.{needs}
 use Rattle.plan_reading.proofs.pieces.tag_at.Statement.{statement}
 use Rattle.plan_reading.proofs.pieces.tag_at.Tie as tie
@@ -26,8 +26,8 @@ end-tag-requires c κs =
     let s = start .args .plan .now in
     let stack = start .args .stack .now in
     let r = start .args .r in
-    let both = end-begins (r .depth) (getD s (r .at) 0) (c .if2 .taken) in
-    (stacked-on s stack r _ (start .pre) (omega arith) (omega arith), both .1)
+    let begins = end-begins (r .depth) (getD s (r .at) 0) (c .if2 .taken) in
+    (stacked-on s stack r _ (start .pre) (omega arith) (omega arith), begins .1)
 
 returns-2 : tie.Need-returns-2
 returns-2 c =
@@ -35,8 +35,8 @@ returns-2 c =
     let s = start .args .plan .now in
     let stack = start .args .stack .now in
     let r = start .args .r in
-    let both = end-begins (r .depth) (getD s (r .at) 0) (c .before .if2 .taken) in
-    let first = tag-slash s stack r (c .before .before .before .before .if1 .left) (both .0) (both .1) in
+    let begins = end-begins (r .depth) (getD s (r .at) 0) (c .before .if2 .taken) in
+    let first = tag-slash s stack r (c .before .before .before .before .if1 .left) (begins .0) (begins .1) in
     piece-after s stack _ (r .at) r _ _ first (omega arith) (c .end-tag .result) (c .end-tag .ensures)
 
 tag-name-requires : tie.Need-tag-name-requires

@@ -1,4 +1,5 @@
 -- `pieces::tag_end` meets its contract. Assumes nothing.
+use native.Mathlib.Omega.{arith}
 use Rattle.plan_reading.proofs.PieceLaws.{end-missing, end-full, end-other, empty-missing, empty-other, end-empty}
 use borrow.Author.Needs.{needs}
 use Rattle.plan_reading.proofs.pieces.tag_end.Statement.{statement}
@@ -9,8 +10,8 @@ skip-white-requires c κs = search needs
 
 returns : tie.Need-returns
 returns c =
-    let args = c .before .before .before .args in
     let white = c .before .skip-white in
+    let args = c .before .before .before .args in
     end-missing (args .plan .now) (args .at) (white .result) (white .ensures) (c .if1 .taken)
 
 shared-slice-read-if2 : tie.Need-shared-slice-read-if2
@@ -21,45 +22,58 @@ add-t9 c = search needs
 
 returns-2 : tie.Need-returns-2
 returns-2 c =
-    let args = c .before .before .before .before .before .args in
-    let white = c .before .before .before .skip-white in
-    end-full (args .plan .now) (args .at) (white .result) (white .ensures) (c .before .before .if1 .left) (c .if2 .taken)
+    let first = c .before .before in
+    let white = first .before .skip-white in
+    let args = first .before .before .before .args in
+    end-full (args .plan .now) (args .at) (white .result) (white .ensures) (first .if1 .left) (c .if2 .taken)
 
 shared-slice-read-if3 : tie.Need-shared-slice-read-if3
 shared-slice-read-if3 c = search needs
 
 returns-3 : tie.Need-returns-3
 returns-3 c =
-    let args = c .before .before .before .before .before .before .before .args in
-    let white = c .before .before .before .before .before .skip-white in
-    end-other (args .plan .now) (args .at) (white .result) (white .ensures) (c .before .before .before .before .if1 .left) (c .before .before .if2 .left) (c .if3 .taken)
+    let other = c .before .before in
+    let first = other .before .before in
+    let white = first .before .skip-white in
+    let args = first .before .before .before .args in
+    end-other (args .plan .now) (args .at) (white .result) (white .ensures) (first .if1 .left) (other .if2 .left) (c .if3 .taken)
 
 add-last : tie.Need-add-last
 add-last c = search needs
 
 returns-4 : tie.Need-returns-4
 returns-4 c =
-    let args = c .before .before .before .before .before .before .before .before .args in
-    let white = c .before .before .before .before .before .before .skip-white in
-    empty-missing (args .plan .now) (args .at) (white .result) (white .ensures) (c .before .before .before .before .before .if1 .left) (c .before .if3 .left) (c .if4 .taken)
+    let slash = c .before in
+    let first = slash .before .before .before .before in
+    let white = first .before .skip-white in
+    let args = first .before .before .before .args in
+    empty-missing (args .plan .now) (args .at) (white .result) (white .ensures) (first .if1 .left) (slash .if3 .left) (c .if4 .taken)
 
 shared-slice-read-if5 : tie.Need-shared-slice-read-if5
 shared-slice-read-if5 c = search needs
 
 returns-5 : tie.Need-returns-5
 returns-5 c =
-    let args = c .before .before .before .before .before .before .before .before .before .before .args in
-    let white = c .before .before .before .before .before .before .before .before .skip-white in
-    empty-other (args .plan .now) (args .at) (white .result) (white .ensures) (c .before .before .before .before .before .before .before .if1 .left) (c .before .before .before .if3 .left) (c .before .before .if4 .left) (c .if5 .taken)
+    let more = c .before .before in
+    let slash = more .before in
+    let first = slash .before .before .before .before in
+    let white = first .before .skip-white in
+    let args = first .before .before .before .args in
+    empty-other (args .plan .now) (args .at) (white .result) (white .ensures) (first .if1 .left) (slash .if3 .left)
+    (more .if4 .left) (λ z. omega (arith, c .if5 .taken))
 
 add-t5 : tie.Need-add-t5
 add-t5 c = search needs
 
 returns-6 : tie.Need-returns-6
 returns-6 c =
-    let args = c .before .before .before .before .before .before .before .before .before .before .args in
-    let white = c .before .before .before .before .before .before .before .before .skip-white in
-    end-empty (args .plan .now) (args .at) (white .result) (white .ensures) (c .before .before .before .before .before .before .before .if1 .left) (c .before .before .before .if3 .left) (c .before .before .if4 .left) (c .if5 .left)
+    let more = c .before .before in
+    let slash = more .before in
+    let first = slash .before .before .before .before in
+    let white = first .before .skip-white in
+    let args = first .before .before .before .args in
+    end-empty (args .plan .now) (args .at) (white .result) (white .ensures) (first .if1 .left) (slash .if3 .left)
+    (more .if4 .left) (omega (arith, c .if5 .left))
 
 pub tag-end-spec : {M : Type 1} → statement M
 tag-end-spec =

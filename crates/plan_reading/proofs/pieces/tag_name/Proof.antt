@@ -1,6 +1,6 @@
 -- `pieces::tag_name` meets its contract. Assumes nothing.
 use mathlib.Core.Path.{sym, _∙_}
-use Prim.Native.Nat.{_≤_}
+use Prim.Native.Nat.{_≤_, _<_}
 use native.Mathlib.Omega.{arith}
 use borrow.Author.Tests.{not-true, not-false}
 use Rattle.plan_reading.proofs.PieceLaws.{no-name, name-cut, name-other, name-found}
@@ -13,14 +13,14 @@ name-end-requires c κs = search needs
 
 returns : tie.Need-returns
 returns c =
-    let start = c .before .before .before in
     let name = c .before .name-end in
-    no-name (start .args .plan .now) (start .args .at) (name .result) (name .ensures) (start .pre) (c .if1 .taken)
+    let start = c .before .before .before in
+    no-name (start .args .plan .now) (start .args .at) (name .result) (name .ensures) (start .pre) (omega (arith, c .if1 .taken))
 
 returns-2 : tie.Need-returns-2
 returns-2 c =
-    let args = c .before .before .before .before .args in
     let name = c .before .before .name-end in
+    let args = c .before .before .before .before .args in
     let onward : args .at ≤ name .result = name .ensures .onward in
     name-cut (args .plan .now) (args .at) (name .result) (name .ensures) (omega (arith, c .before .if1 .left)) (c .if2 .taken)
 
@@ -32,20 +32,24 @@ follows-name-requires c κs = search needs
 
 returns-3 : tie.Need-returns-3
 returns-3 c =
-    let args = c .before .before .before .before .before .before .before .args in
-    let name = c .before .before .before .before .before .name-end in
-    let onward : args .at ≤ name .result = name .ensures .onward in
     let test = c .before .follows-name in
-    name-other (args .plan .now) (args .at) (name .result) (name .ensures) (omega (arith, c .before .before .before .before .if1 .left)) (c .before .before .before .if2 .left)
+    let whole = c .before .before .before in
+    let name = whole .before .before .name-end in
+    let args = whole .before .before .before .before .args in
+    let onward : args .at ≤ name .result = name .ensures .onward in
+    let some : args .at < name .result = omega (arith, whole .before .if1 .left) in
+    name-other (args .plan .now) (args .at) (name .result) (name .ensures) some (whole .if2 .left)
     (sym (test .ensures) ∙ not-true (test .result) (c .if3 .taken))
 
 returns-4 : tie.Need-returns-4
 returns-4 c =
-    let args = c .before .before .before .before .before .before .before .args in
-    let name = c .before .before .before .before .before .name-end in
-    let onward : args .at ≤ name .result = name .ensures .onward in
     let test = c .before .follows-name in
-    name-found (args .plan .now) (args .at) (name .result) (name .ensures) (omega (arith, c .before .before .before .before .if1 .left)) (c .before .before .before .if2 .left)
+    let whole = c .before .before .before in
+    let name = whole .before .before .name-end in
+    let args = whole .before .before .before .before .args in
+    let onward : args .at ≤ name .result = name .ensures .onward in
+    let some : args .at < name .result = omega (arith, whole .before .if1 .left) in
+    name-found (args .plan .now) (args .at) (name .result) (name .ensures) some (whole .if2 .left)
     (sym (test .ensures) ∙ not-false (test .result) (c .if3 .left))
 
 pub tag-name-spec : {M : Type 1} → statement M
