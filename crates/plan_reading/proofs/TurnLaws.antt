@@ -74,9 +74,11 @@ module _ (names : List (List ℕ)) (s stack : List ℕ) (r : Reached) (from end 
     has-room : 3 * r .depth + 2 < length stack
     has-room = omega (arith, stands .stacked .room)
 
+    -- where its name begins on it
     from-is : getD after-push (3 * r .depth) 0 ≡ from
     from-is = pushed-from stack (r .depth) from end number has-room
 
+    -- and where it ends
     end-is : getD after-push (3 * r .depth + 1) 0 ≡ end
     end-is = pushed-end stack (r .depth) from end number has-room
 
@@ -96,6 +98,7 @@ module _ (names : List (List ℕ)) (s stack : List ℕ) (r : Reached) (from end 
         ap (openNames s after-push) one-more
         ∙ ap₂ (λ (n : List ℕ) (ns : List (List ℕ)). n ∷ ns) new-name (names-kept s stack after-push (r .depth) kept)
 
+    -- the number of each stands beside it
     new-numbers : Numbered names s after-push (r .depth + 1)
     new-numbers =
         by-depth (λ (d : ℕ). getD after-push (3 * d + 2) 0 ≡ numberOf names (openName s after-push d)) (r .depth)
