@@ -16,7 +16,7 @@ use Rattle.written_plans.specs.Reading.{Place, before, inside, named, after, le
 use Rattle.written_plans.specs.Reading.{readPlan, Entry, entryOf}
 use Rattle.written_plans.specs.Logs.{entriesAt}
 use Rattle.plan_reading.specs.Scanning.{part}
-use Rattle.plan_reading.specs.Pieces.{openName, openNames, between, placeOf, reads, ReadsOn, Stops, Stacked, NameHere, Passed, Met}
+use Rattle.plan_reading.specs.Pieces.{openName, openNames, between, placeOf, reads, ReadsOn, Stops, NameHere, Passed, Met}
 use Rattle.plan_reading.specs.Turns.{Numbered, Standing, Begun, ElementFrom, entry, Turned, RefusedAs, TurnFrom, Logged}
 use Rattle.plan_reading.specs.declared.Turn.{Turn}
 use Rattle.plan_reading.specs.declared.Turn.the-variants as turn
@@ -74,9 +74,11 @@ module _ (names : List (List ℕ)) (s stack : List ℕ) (r : Reached) (from end 
     has-room : 3 * r .depth + 2 < length stack
     has-room = omega (arith, stands .stacked .room)
 
+    -- where its name begins on it
     from-is : getD after-push (3 * r .depth) 0 ≡ from
     from-is = pushed-from stack (r .depth) from end number has-room
 
+    -- and where it ends
     end-is : getD after-push (3 * r .depth + 1) 0 ≡ end
     end-is = pushed-end stack (r .depth) from end number has-room
 
@@ -96,6 +98,7 @@ module _ (names : List (List ℕ)) (s stack : List ℕ) (r : Reached) (from end 
         ap (openNames s after-push) one-more
         ∙ ap₂ (λ (n : List ℕ) (ns : List (List ℕ)). n ∷ ns) new-name (names-kept s stack after-push (r .depth) kept)
 
+    -- the number of each stands beside it
     new-numbers : Numbered names s after-push (r .depth + 1)
     new-numbers =
         by-depth (λ (d : ℕ). getD after-push (3 * d + 2) 0 ≡ numberOf names (openName s after-push d)) (r .depth)
@@ -287,7 +290,9 @@ module _ (names : List (List ℕ)) (chosen s : List ℕ) where
     module _ (at-end : length s ≤ r .at) where
       -- what reading comes to at the plan's end
       comes-to : readPlan names chosen s ≡ withTags (so-far .met-tags) (ended (placeOf s stack r) (r .at))
-      comes-to = so-far .reads-on ∙ ap (withTags (so-far .met-tags)) (reads-end (tagFault names chosen) s (placeOf s stack r) (r .at) at-end)
+      comes-to =
+          so-far .reads-on
+          ∙ ap (withTags (so-far .met-tags)) (reads-end (tagFault names chosen) s (placeOf s stack r) (r .at) at-end)
 
       -- the test of a plan that is done
       tells-done : Tells (eqb (r .depth) 0 && ltb 0 (r .tags)) ((r .depth ≡ 0) × (0 < r .tags))

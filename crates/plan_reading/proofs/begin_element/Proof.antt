@@ -1,8 +1,6 @@
 -- `begin_element` meets its contract, answer by answer. Assumes nothing.
-use mathlib.Core.Path.{refl, _∙_, subst}
-use native.Mathlib.Omega.{arith}
+use mathlib.Core.Path.{_≡_, refl, _∙_, subst}
 use borrow.Author.Needs.{needs}
-use lib.ListN.{length-set}
 use Rattle.plan_reading.specs.Scanning.{part}
 use Rattle.plan_reading.specs.Pieces.{openNames, CloseFrom}
 use Rattle.plan_reading.specs.declared.pieces.Close.{Close}
@@ -61,51 +59,54 @@ add-t23 c = search needs
 enum-known-close-3 : tie.Need-enum-known-close-3
 enum-known-close-3 c = search needs
 
+-- the entry, from where the end of the tag is known
+abbrev start : tie.After-tag-end → tie.Start
+start c = c .before .before
+
+-- what that says of its answer
+closed : (c : tie.After-tag-end) (r : Close) → c .tag-end .result ≡ r → CloseFrom (start c .args .plan .now) (start c .args .end) r
+closed c r e = subst (λ (r : Close). CloseFrom (start c .args .plan .now) (start c .args .end) r) e (c .tag-end .ensures)
+
 -- a start tag
 returns : tie.Need-returns
 returns c =
     let ended = c .before .before .before .before .before .before .before in
-    let start = ended .before .before in
-    let a = start .args in
+    let begun = start ended in
+    let a = begun .args in
     let s = a .plan .now in
     let stack = a .stack .now in
-    let met = c .before .before .before .before .before .close .given in
     let wide = c .before .before .wide8 in
-    let closed = subst (λ (r : Close). CloseFrom s (a .end) r) (met .1) (ended .tag-end .ensures) in
+    let full = closed ended _ (c .before .before .before .before .before .close .given .1) in
     record {
       is = λ names stands is-number.
-          element-opened names s stack (a .r) (a .from) (a .end) (met .0 .0) (start .pre .0) (start .pre .1 .0) stands (closed .1) (closed .2)
-          (wide .result) (wide .ensures ∙ is-number) (start .pre .1 .1 .0)
-          (closed .0 (openNames s stack (a .r .depth)) (part s (a .from) (a .end)));
+          element-opened names s stack (a .r) (a .from) (a .end) _ (begun .pre .0) (begun .pre .1 .0) stands (full .1) (full .2)
+          (wide .result) (wide .ensures ∙ is-number) (begun .pre .1 .1 .0)
+          (full .0 (openNames s stack (a .r .depth)) (part s (a .from) (a .end)));
     }
 
 -- an empty-element tag
 returns-2 : tie.Need-returns-2
 returns-2 c =
     let ended = c .before .before .before .before in
-    let start = ended .before .before in
-    let a = start .args in
+    let begun = start ended in
+    let a = begun .args in
     let s = a .plan .now in
     let stack = a .stack .now in
-    let met = c .before .before .close2 .given in
-    let closed = subst (λ (r : Close). CloseFrom s (a .end) r) (met .1) (ended .tag-end .ensures) in
+    let empty = closed ended _ (c .before .before .close2 .given .1) in
     record {
       is = λ names stands is-number.
-          element-empty names s stack (a .r) (a .from) (a .end) (met .0 .0) (start .pre .0) (start .pre .1 .0) stands (closed .1) (closed .2)
-          (closed .0 (openNames s stack (a .r .depth)) (part s (a .from) (a .end)));
+          element-empty names s stack (a .r) (a .from) (a .end) _ (begun .pre .0) (begun .pre .1 .0) stands (empty .1) (empty .2)
+          (empty .0 (openNames s stack (a .r .depth)) (part s (a .from) (a .end)));
     }
 
 -- neither
 returns-3 : tie.Need-returns-3
 returns-3 c =
     let ended = c .before .before .before in
-    let start = ended .before .before in
-    let a = start .args in
+    let a = start ended .args in
     let s = a .plan .now in
-    let stack = a .stack .now in
-    let met = c .before .close3 .given in
-    let closed = subst (λ (r : Close). CloseFrom s (a .end) r) (met .1) (ended .tag-end .ensures) in
-    record { is = λ names stands is-number. (refl, closed (openNames s stack (a .r .depth)) (part s (a .from) (a .end))) }
+    let bad = closed ended _ (c .before .close3 .given .1) in
+    record { is = λ names stands is-number. (refl, bad (openNames s (a .stack .now) (a .r .depth)) (part s (a .from) (a .end))) }
 
 pub begin-element-spec : {M : Type 1} → statement M
 begin-element-spec =

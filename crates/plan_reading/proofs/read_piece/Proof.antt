@@ -1,10 +1,12 @@
 -- `read_piece` meets its contract, answer by answer. Assumes nothing.
 use mathlib.Core.Path.{_≡_, subst}
+use mathlib.Core.List.{List}
 use Prim.Native.Nat.{ℕ, _<_}
 use native.Mathlib.Omega.{arith}
 use borrow.Author.Needs.{needs}
 use lib.ListN.{drop}
-use Rattle.written_plans.specs.Written.{tag}
+use Rattle.written_plans.specs.Written.{Tag, tag}
+use Rattle.written_plans.specs.Reading.{Place}
 use Rattle.plan_reading.specs.Scanning.{part}
 use Rattle.plan_reading.specs.Pieces.{openNames, placeOf, Met, PieceFrom, AfterLess}
 use Rattle.plan_reading.specs.Turns.{namesOf, chosenOf, judgeOf}
@@ -14,6 +16,17 @@ use Rattle.plan_reading.proofs.TurnLaws.{turn-stops, turn-past, turn-fa
 use Rattle.plan_reading.proofs.read_piece.Statement.{statement}
 use Rattle.plan_reading.proofs.read_piece.Tie as tie
 
+-- the names, and how a tag is judged
+abbrev names : tie.Start → List (List ℕ)
+names c = namesOf (c .args .list .now) (c .args .sought)
+
+abbrev judge : tie.Start → Tag → ℕ
+judge c = judgeOf (c .args .list .now) (c .args .sought)
+
+-- where reading stands
+abbrev place : tie.Start → Place
+place c = placeOf (c .args .plan .now) (c .args .stack .now) (c .args .r)
+
 -- the entry, from where the next piece is known
 abbrev start : tie.After-next-piece → tie.Start
 start c = c .before .before .before .before .before
@@ -21,12 +34,11 @@ start c = c .before .before .before .before .before
 -- what the next piece says of its answer
 piece-is :
     (c : tie.After-next-piece) (p : Piece) → c .next-piece .result ≡ p → let a = start c .args in
-    PieceFrom (a .plan .now) (a .stack .now) (placeOf (a .plan .now) (a .stack .now) (a .r)) (a .r .at) (a .r) p × AfterLess (a .r) p
+    PieceFrom (a .plan .now) (a .stack .now) (place (start c)) (a .r .at) (a .r) p × AfterLess (a .r) p
 piece-is c p e =
     let a = start c .args in
     subst
-    (λ (p : Piece).
-    PieceFrom (a .plan .now) (a .stack .now) (placeOf (a .plan .now) (a .stack .now) (a .r)) (a .r .at) (a .r) p × AfterLess (a .r) p)
+    (λ (p : Piece). PieceFrom (a .plan .now) (a .stack .now) (place (start c)) (a .r .at) (a .r) p × AfterLess (a .r) p)
     e (c .next-piece .ensures)
 
 next-piece-requires : tie.Need-next-piece-requires
@@ -45,7 +57,7 @@ enum-known-piece-3 c = search needs
 
 -- ---- a tag that begins an element
 
--- the entry, from where a name is met
+-- the entry, from where its name is met
 abbrev entry : tie.After-known-told3 → tie.Start
 entry c = start (c .before .before .before)
 
@@ -56,11 +68,20 @@ from c = c .before .piece3 .given .0 .0
 abbrev end : tie.After-known-told3 → ℕ
 end c = c .before .piece3 .given .0 .1 .0
 
+-- the name
+abbrev name : tie.After-known-told3 → List ℕ
+name c = part (entry c .args .plan .now) (from c) (end c)
+
+-- the tag
+abbrev metTag : tie.After-known-told3 → Tag
+metTag c =
+    let a = entry c .args in
+    tag (openNames (a .plan .now) (a .stack .now) (a .r .depth)) (name c) (drop (end c) (a .plan .now))
+
 -- it is met there
 found :
     (c : tie.After-known-told3) → let a = entry c .args in
-    Met (a .plan .now) (a .stack .now) (placeOf (a .plan .now) (a .stack .now) (a .r)) (a .r .at) (a .r) (from c) (end c)
-    × (a .r .at < from c)
+    Met (a .plan .now) (a .stack .now) (place (entry c)) (a .r .at) (a .r) (from c) (end c) × (a .r .at < from c)
 found c = piece-is (c .before .before .before) _ (c .before .piece3 .given .1)
 
 sub-number-of : tie.Need-sub-number-of
@@ -85,41 +106,30 @@ abbrev named : tie.After-tag-fault → tie.After-known-told3
 named c = c .before .before .before .before
 
 -- what the tag is refused for
-judged :
-    (c : tie.After-tag-fault) → let a = entry (named c) .args in
-    judgeOf (a .list .now) (a .sought)
-    (tag (openNames (a .plan .now) (a .stack .now) (a .r .depth)) (part (a .plan .now) (from (named c)) (end (named c)))
-    (drop (end (named c)) (a .plan .now)))
-    ≡ c .tag-fault .result
+judged : (c : tie.After-tag-fault) → judge (entry (named c)) (metTag (named c)) ≡ c .tag-fault .result
 judged c =
     let begun = entry (named c) in
     let a = begun .args in
-    c .tag-fault .ensures .is (a .list .now) (a .plan .now) (part (a .plan .now) (from (named c)) (end (named c)))
-    (drop (end (named c)) (a .plan .now)) (begun .pre .1 .0) (begun .pre .1 .1 .1 .0 .numbered) (c .before .before .number-of .ensures)
+    c .tag-fault .ensures .is (a .list .now) (a .plan .now) (name (named c)) (drop (end (named c)) (a .plan .now)) (begun .pre .1 .0)
+    (begun .pre .1 .1 .1 .0 .numbered) (c .before .before .number-of .ensures)
 
 returns : tie.Need-returns
 returns c =
     let here = named (c .before) in
     let begun = entry here in
     let a = begun .args in
-    turn-fault (namesOf (a .list .now) (a .sought)) (judgeOf (a .list .now) (a .sought)) (a .plan .now) (a .stack .now) (a .log .now) (a .r)
-    (begun .pre .1 .1 .1 .0) (from here) (end here) (found here .0) (c .before .tag-fault .result) (judged (c .before)) (omega arith)
+    turn-fault (names begun) (judge begun) (a .plan .now) (a .stack .now) (a .log .now) (a .r) (begun .pre .1 .1 .1 .0) (from here)
+    (end here) (found here .0) (c .before .tag-fault .result) (judged (c .before)) (omega arith)
 
 put-entry-requires : tie.Need-put-entry-requires
 put-entry-requires c κs =
-    let begun = entry (named (c .before .before)) in
-    let stacked = begun .pre .1 .1 .1 .0 .stacked in
-    let room = begun .pre .1 .1 .0 in
-    (omega (arith, stacked .few, begun .pre .1 .1 .1 .1, room .short, room .long), omega (arith, stacked .shallow))
+    let pre = entry (named (c .before .before)) .pre in
+    let room = pre .1 .1 .0 in
+    let stacked = pre .1 .1 .1 .0 .stacked in
+    (omega (arith, stacked .few, pre .1 .1 .1 .1, room .short, room .long), omega (arith, stacked .shallow))
 
 -- the tag is not refused
-fine :
-    (c : tie.After-put-entry-arg) → let a = entry (named (c .before .before)) .args in
-    judgeOf (a .list .now) (a .sought)
-    (tag (openNames (a .plan .now) (a .stack .now) (a .r .depth))
-    (part (a .plan .now) (from (named (c .before .before))) (end (named (c .before .before))))
-    (drop (end (named (c .before .before))) (a .plan .now)))
-    ≡ 0
+fine : (c : tie.After-put-entry-arg) → let here = named (c .before .before) in judge (entry here) (metTag here) ≡ 0
 fine c =
     let told = judged (c .before .before) in
     omega arith
@@ -130,17 +140,9 @@ begin-element-requires c κs =
     let here = named (put .before .before) in
     let begun = entry here in
     let a = begun .args in
-    (
-      found here .0 .here,
-      (
-      found here .1,
-      (
-      fine-shallow (namesOf (a .list .now) (a .sought)) (chosenOf (a .list .now) (a .sought)) (a .plan .now) (a .stack .now) (a .r .depth)
-          (part (a .plan .now) (from here) (end here)) (drop (end here) (a .plan .now)) (fine put),
-      begun .pre .1 .1 .1 .0 .stacked,
-      ),
-      ),
-    )
+    let shallow = fine-shallow (names begun) (chosenOf (a .list .now) (a .sought)) (a .plan .now) (a .stack .now) (a .r .depth) (name here)
+    (drop (end here) (a .plan .now)) (fine put) in
+    (found here .0 .here, (found here .1, (shallow, begun .pre .1 .1 .1 .0 .stacked)))
 
 -- ---- the other answers
 
@@ -149,31 +151,31 @@ returns-2 c =
     let next = c .before .before .before in
     let begun = start next in
     let a = begun .args in
-    turn-past (namesOf (a .list .now) (a .sought)) (judgeOf (a .list .now) (a .sought)) (a .plan .now) (a .stack .now) (a .log .now) (a .r)
-    (begun .pre .1 .1 .1 .0) _ (piece-is next _ (c .before .piece .given .1) .0)
+    turn-past (names begun) (judge begun) (a .plan .now) (a .stack .now) (a .log .now) (a .r) (begun .pre .1 .1 .1 .0) _
+    (piece-is next _ (c .before .piece .given .1) .0)
 
 returns-3 : tie.Need-returns-3
 returns-3 c =
     let next = c .before .before .before in
-    let a = start next .args in
-    turn-stops (judgeOf (a .list .now) (a .sought)) (a .plan .now) (placeOf (a .plan .now) (a .stack .now) (a .r)) (a .r .at) _
+    let begun = start next in
+    turn-stops (judge begun) (begun .args .plan .now) (place begun) (begun .args .r .at) _
     (piece-is next _ (c .before .piece2 .given .1) .0)
 
 same-length : tie.Need-same-length
 same-length c = search needs
 
+-- the tag is in the log
 returns-4 : tie.Need-returns-4
 returns-4 c =
     let put = c .before .before .before .before in
     let here = named (put .before .before .before) in
     let begun = entry here in
     let a = begun .args in
-    let names = namesOf (a .list .now) (a .sought) in
     let number = put .before .before .before .before .before .number-of in
-    turn-element names (judgeOf (a .list .now) (a .sought)) (a .plan .now) (a .stack .now) (a .log .now) (a .r)
-    (begun .pre .1 .1 .1 .0) (from here) (end here) (found here .0) (fine (put .before)) _ _ (number .result) (number .ensures)
-    (put .put-entry .ensures .1) (put .put-entry .ensures .0) (c .begin-element .result)
-    (c .begin-element .ensures .is names (begun .pre .1 .1 .1 .0) (number .ensures))
+    turn-element (names begun) (judge begun) (a .plan .now) (a .stack .now) (a .log .now) (a .r) (begun .pre .1 .1 .1 .0) (from here)
+    (end here) (found here .0) (fine (put .before)) _ _ (number .result) (number .ensures) (put .put-entry .ensures .1)
+    (put .put-entry .ensures .0) (c .begin-element .result)
+    (c .begin-element .ensures .is (names begun) (begun .pre .1 .1 .1 .0) (number .ensures))
 
 pub read-piece-spec : {M : Type 1} → statement M
 read-piece-spec =

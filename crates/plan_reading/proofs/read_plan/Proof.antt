@@ -6,7 +6,8 @@ use Prim.Native.Nat.{ℕ, _-_}
 use native.Mathlib.Omega.{arith}
 use borrow.Author.Needs.{needs}
 use lib.ListN.{length}
-use Rattle.plan_reading.specs.Turns.{namesOf, chosenOf, judgeOf, TurnFrom}
+use Rattle.written_plans.specs.Reading.{tagFault}
+use Rattle.plan_reading.specs.Turns.{namesOf, chosenOf, TurnFrom}
 use Rattle.plan_reading.specs.declared.Turn.{Turn}
 use Rattle.plan_reading.proofs.TurnLaws.{ReadSoFar, plan-begins, plan-goes, plan-refused, plan-read, plan-unfinished}
 use Rattle.plan_reading.proofs.read_plan.Statement.{statement}
@@ -19,6 +20,13 @@ Inv-loop plan list sought log₀ starts stack₀ r₀ log stack r =
 abbrev μ-loop : tie.MeasureT-loop
 μ-loop plan list sought log₀ starts stack₀ r₀ log stack r = length plan - r .at
 
+-- the names, and the chosen one
+abbrev names : tie.Start Inv-loop μ-loop → List (List ℕ)
+names c = namesOf (c .args .list .now) (c .args .sought)
+
+abbrev chosen : tie.Start Inv-loop μ-loop → List ℕ
+chosen c = chosenOf (c .args .list .now) (c .args .sought)
+
 index-names-requires : tie.Need-index-names-requires Inv-loop μ-loop
 index-names-requires c κs =
     let pre = c .before .before .before .before .pre in
@@ -26,11 +34,8 @@ index-names-requires c κs =
 
 loop-holds : tie.Need-loop-holds Inv-loop μ-loop
 loop-holds c =
-    let a = c .before .before .before .before .before .args in
-    (
-      plan-begins (namesOf (a .list .now) (a .sought)) (chosenOf (a .list .now) (a .sought)) (a .plan .now) _ (a .log .now) refl,
-      refl,
-    )
+    let begun = c .before .before .before .before .before in
+    (plan-begins (names begun) (chosen begun) (begun .args .plan .now) _ (begun .args .log .now) refl, refl)
 
 -- the entry, from the loop
 abbrev start : tie.At-loop Inv-loop μ-loop → tie.Start Inv-loop μ-loop
@@ -41,8 +46,7 @@ read-piece-requires c κs =
     let at = c .before .before .before .before .before in
     let pre = start at .pre in
     let inv = at .loop .inv in
-    let room = pre .1 .1 .1 in
-    (
+    let room = pre .1 .1 .1 in (
       at .before .index-names .ensures,
       (pre .1 .1 .0, (record { short = room .short; long = omega (arith, inv .1, room .long) }, (inv .0 .standing, omega arith))),
     )
@@ -63,16 +67,16 @@ log-after c = c .read-piece .last .1 .1 .1 .1 .1 .0
 -- what the piece says of its answer
 turned :
     (c : tie.After-read-piece Inv-loop μ-loop) (t : Turn) → c .read-piece .result ≡ t
-    → let a = start (looped c) .args in let loop = looped c .loop in
-    TurnFrom (namesOf (a .list .now) (a .sought)) (judgeOf (a .list .now) (a .sought)) (a .plan .now) (loop .stack) (stack-after c)
-    (loop .log) (log-after c) (loop .r) t
+    → let begun = start (looped c) in let loop = looped c .loop in
+    TurnFrom (names begun) (tagFault (names begun) (chosen begun)) (begun .args .plan .now) (loop .stack) (stack-after c) (loop .log)
+    (log-after c) (loop .r) t
 turned c t e =
-    let a = start (looped c) .args in
+    let begun = start (looped c) in
     let loop = looped c .loop in
     subst
     (λ (t : Turn).
-    TurnFrom (namesOf (a .list .now) (a .sought)) (judgeOf (a .list .now) (a .sought)) (a .plan .now) (loop .stack) (stack-after c)
-    (loop .log) (log-after c) (loop .r) t)
+    TurnFrom (names begun) (tagFault (names begun) (chosen begun)) (begun .args .plan .now) (loop .stack) (stack-after c) (loop .log)
+    (log-after c) (loop .r) t)
     e (c .read-piece .ensures)
 
 loop-less : tie.Need-loop-less Inv-loop μ-loop
@@ -83,13 +87,12 @@ loop-less c =
 loop-again : tie.Need-loop-again Inv-loop μ-loop
 loop-again c =
     let read = c .before .before .before .before .before in
-    let at = looped read in
-    let a = start at .args in
-    let goes = turned read _ (c .before .next .given .1) in
-    (
-      plan-goes (namesOf (a .list .now) (a .sought)) (chosenOf (a .list .now) (a .sought)) (a .plan .now) (at .loop .stack) (at .loop .log)
-          (at .loop .r) (at .loop .inv .0) (stack-after read) (log-after read) _ goes,
-      goes .same-room ∙ at .loop .inv .1,
+    let loop = looped read .loop in
+    let begun = start (looped read) in
+    let goes = turned read _ (c .before .next .given .1) in (
+      plan-goes (names begun) (chosen begun) (begun .args .plan .now) (loop .stack) (loop .log) (loop .r) (loop .inv .0)
+          (stack-after read) (log-after read) _ goes,
+      goes .same-room ∙ loop .inv .1,
     )
 
 enum-known-next-2 : tie.Need-enum-known-next-2 Inv-loop μ-loop
@@ -101,11 +104,10 @@ same-length c = search needs
 returns : tie.Need-returns Inv-loop μ-loop
 returns c =
     let read = c .before .before .before .before .before in
-    let at = looped read in
-    let a = start at .args in
-    (
-      plan-refused (namesOf (a .list .now) (a .sought)) (chosenOf (a .list .now) (a .sought)) (a .plan .now) (at .loop .stack)
-          (at .loop .log) (at .loop .r) (at .loop .inv .0) _ _ (turned read _ (c .before .next2 .given .1)),
+    let loop = looped read .loop in
+    let begun = start (looped read) in (
+      plan-refused (names begun) (chosen begun) (begun .args .plan .now) (loop .stack) (loop .log) (loop .r) (loop .inv .0)
+          _ _ (turned read _ (c .before .next2 .given .1)),
       search needs,
     )
 
@@ -115,11 +117,11 @@ same-length-2 c = search needs
 returns-2 : tie.Need-returns-2 Inv-loop μ-loop
 returns-2 c =
     let at = c .before .before .before .before .before in
-    let a = start at .args in
-    (
-      plan-read (namesOf (a .list .now) (a .sought)) (chosenOf (a .list .now) (a .sought)) (a .plan .now) (at .loop .stack)
-          (at .loop .log) (at .loop .r) (at .loop .inv .0) (omega arith) (c .if2 .taken),
-      at .loop .inv .1,
+    let loop = at .loop in
+    let begun = start at in (
+      plan-read (names begun) (chosen begun) (begun .args .plan .now) (loop .stack) (loop .log) (loop .r) (loop .inv .0)
+          (omega arith) (c .if2 .taken),
+      loop .inv .1,
     )
 
 same-length-3 : tie.Need-same-length-3 Inv-loop μ-loop
@@ -128,11 +130,11 @@ same-length-3 c = search needs
 returns-3 : tie.Need-returns-3 Inv-loop μ-loop
 returns-3 c =
     let at = c .before .before .before .before .before in
-    let a = start at .args in
-    (
-      plan-unfinished (namesOf (a .list .now) (a .sought)) (chosenOf (a .list .now) (a .sought)) (a .plan .now) (at .loop .stack)
-          (at .loop .log) (at .loop .r) (at .loop .inv .0) (omega arith) (c .if2 .left),
-      at .loop .inv .1,
+    let loop = at .loop in
+    let begun = start at in (
+      plan-unfinished (names begun) (chosen begun) (begun .args .plan .now) (loop .stack) (loop .log) (loop .r) (loop .inv .0)
+          (omega arith) (c .if2 .left),
+      loop .inv .1,
     )
 
 pub read-plan-spec : {M : Type 1} → statement M

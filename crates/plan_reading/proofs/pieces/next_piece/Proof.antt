@@ -64,8 +64,7 @@ returns-4 c =
     let stack = start .args .stack .now in
     let r = start .args .r in
     let onward : r .at ≤ run .result = run .ensures .onward in
-    let first = tag-next s stack r (run .result) (run .ensures) (more .if1 .left) (opens .if2 .left) (c .before .if3 .left) in
-    (
+    let first = tag-next s stack r (run .result) (run .ensures) (more .if1 .left) (opens .if2 .left) (c .before .if3 .left) in (
       piece-after s stack _ (r .at) r _ _ first (omega arith) (c .tag-at .result) (c .tag-at .ensures),
       after-less s stack _ (run .result + 1) r _ (omega arith) (c .tag-at .result) (c .tag-at .ensures),
     )
