@@ -2,7 +2,7 @@
 use mathlib.Core.Path.{_≡_}
 use mathlib.Core.Bool.{true}
 use mathlib.Core.List.{List}
-use Prim.Native.Nat.{ℕ, _≤_, _<_}
+use Prim.Native.Nat.{ℕ, _+_, _≤_, _<_}
 use lib.ListN.{length, getD}
 use Rattle.base.specs.Limits.{name-limit}
 use Rattle.base.specs.Lists.{before}
@@ -16,8 +16,10 @@ Ordered a b order.Before = before a b ≡ true
 Ordered a b order.Same = a ≡ b
 Ordered a b order.After = before b a ≡ true
 
--- the first `count` fields, at most as many as there may be names, lie within the list and begin at these offsets
-pub record Indexed (list : List ℕ) (count : ℕ) (starts : List ℕ) : Type 0 where
+-- the first `count` fields, at most as many as there may be names, lie within the list and begin at the offsets that stand first in the
+-- index; of what stands behind these nothing is said
+pub record Indexed (list : List ℕ) (count : ℕ) (index : List ℕ) : Type 0 where
   pub few : count ≤ name-limit
+  pub room : length index ≡ name-limit + 256
   pub within : offsetAt list 0 count ≤ length list
-  pub begins : (i : ℕ) → i < count → getD starts i 0 ≡ offsetAt list 0 i
+  pub begins : (i : ℕ) → i < count → getD index i 0 ≡ offsetAt list 0 i

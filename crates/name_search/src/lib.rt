@@ -1,10 +1,12 @@
-// The number of a name by its bytes: a search over the ascending names of a list of name fields, whose offsets are noted once.
+// The number of a name by its bytes: a search over the ascending names of a list of name fields, whose offsets are noted once; and, for a
+// caller that asks often, a guess before the search.
 use base::limits::NAME_LIMIT;
+use base::numbers::narrow8;
 use base::numbers::wide8;
 use judging::offsets::body;
 use judging::offsets::next_field;
 ghost use mathlib.Core.Path.{_≡_};
-ghost use Prim.Native.Nat.{_≤_};
+ghost use Prim.Native.Nat.{_+_, _≤_, _<_};
 ghost use lib.ListN.{length};
 ghost use Rattle.base.specs.Limits.{name-limit};
 ghost use Rattle.model.specs.Fields.{Ascends, numberOf};
@@ -12,7 +14,10 @@ ghost use Rattle.judging.specs.Offsets.{offsetAt, fieldsAt};
 ghost use Rattle.name_search.specs.Search.{Ordered, Indexed};
 
 // One offset for each name that a list may have.
-pub const STARTS: usize = NAME_LIMIT as usize;
+const STARTS: usize = NAME_LIMIT as usize;
+
+// These, and then a guess for each mark of a name: the number of a name with that mark. Nothing is promised of the guesses.
+pub const INDEX: usize = STARTS + 256;
 
 // How one name stands to another in ascending byte order.
 pub enum Order {
@@ -47,25 +52,40 @@ pub fn compare(a: &[u8], b: &[u8]) -> Order
     Order::Same
 }
 
-// Notes where each of the first `count` fields of the list begins.
-pub fn index_names(list: &[u8], count: u8, starts: &mut [usize; STARTS])
+// The mark of a name, made from all of its bytes.
+fn mark_of(name: &[u8]) -> usize
+    ensures { λ r. ⌜ r < 256 ⌝ }
+{
+    let mut mark = 0;
+    let mut i = 0;
+    while i < name.len() {
+        mark = (31 * mark + wide8(name[i])) % 256;
+        i += 1;
+    }
+    mark
+}
+
+// Notes where each of the first `count` fields of the list begins, and the guesses.
+pub fn index_names(list: &[u8], count: u8, index: &mut [usize; INDEX])
     requires { ⌜ count ≤ name-limit ⌝ }
     requires { ⌜ offsetAt (now list) 0 count ≤ length (now list) ⌝ }
-    requires { ⌜ length (now starts) ≡ name-limit ⌝ }
-    ensures { λ _. ⌜ Indexed (now (list .entry)) count (now (starts .exit)) ⌝ }
+    requires { ⌜ length (now index) ≡ name-limit + 256 ⌝ }
+    ensures { λ _. ⌜ Indexed (now (list .entry)) count (now (index .exit)) ⌝ }
 {
     let mut at = 0;
     let mut i: u8 = 0;
     while i < count {
-        starts[wide8(i)] = at;
+        let number = wide8(i);
+        index[STARTS + mark_of(body(list, at))] = number;
+        index[number] = at;
         at = next_field(list, at);
         i += 1;
     }
 }
 
 // The number of a name among the `count` names of the list; `count` where it is none of them.
-pub fn number_of(list: &[u8], starts: &[usize; STARTS], count: u8, name: &[u8]) -> u8
-    requires { ⌜ Indexed (now list) count (now starts) ⌝ }
+pub fn number_of(list: &[u8], index: &[usize; INDEX], count: u8, name: &[u8]) -> u8
+    requires { ⌜ Indexed (now list) count (now index) ⌝ }
     requires { ⌜ Ascends (fieldsAt (now list) 0 count) ⌝ }
     ensures { λ r. ⌜ r ≡ numberOf (fieldsAt (now (list .entry)) 0 count) (now (name .entry)) ⌝ }
 {
@@ -73,7 +93,7 @@ pub fn number_of(list: &[u8], starts: &[usize; STARTS], count: u8, name: &[u8]) 
     let mut high = count;
     while low < high {
         let middle = (low + high) / 2;
-        let found = compare(name, body(list, starts[wide8(middle)]));
+        let found = compare(name, body(list, index[wide8(middle)]));
         match found {
             Order::Before => high = middle,
             Order::Same => return middle,
@@ -81,4 +101,22 @@ pub fn number_of(list: &[u8], starts: &[usize; STARTS], count: u8, name: &[u8]) 
         }
     }
     count
+}
+
+// The same, by a guess and, where that is wrong, by the search.
+pub fn number_of_often(list: &[u8], index: &[usize; INDEX], count: u8, name: &[u8]) -> u8
+    requires { ⌜ Indexed (now list) count (now index) ⌝ }
+    requires { ⌜ Ascends (fieldsAt (now list) 0 count) ⌝ }
+    ensures { λ r. ⌜ r ≡ numberOf (fieldsAt (now (list .entry)) 0 count) (now (name .entry)) ⌝ }
+{
+    let guess = index[STARTS + mark_of(name)];
+    if guess < wide8(count) {
+        let found = compare(name, body(list, index[guess]));
+        match found {
+            Order::Same => return narrow8(guess),
+            Order::Before => {}
+            Order::After => {}
+        }
+    }
+    number_of(list, index, count, name)
 }
