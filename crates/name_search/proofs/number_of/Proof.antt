@@ -16,10 +16,10 @@ use Rattle.name_search.proofs.number_of.Statement.{statement}
 use Rattle.name_search.proofs.number_of.Tie as tie
 
 abbrev Inv-loop : tie.InvT-loop
-Inv-loop list starts count name low₀ high₀ low high = (high ≤ count) × PlacesLeft (fieldsAt list 0 count) name low high
+Inv-loop list index count name low₀ high₀ low high = (high ≤ count) × PlacesLeft (fieldsAt list 0 count) name low high
 
 abbrev μ-loop : tie.MeasureT-loop
-μ-loop list starts count name low₀ high₀ low high = high - low
+μ-loop list index count name low₀ high₀ low high = high - low
 
 -- the function's entry, from the loop's turn; the names; the number of the one halfway; and that turn, from where names are compared
 abbrev entry : tie.In-loop Inv-loop μ-loop → tie.Start Inv-loop μ-loop
@@ -44,9 +44,9 @@ inside c = omega (arith, halfway c .0, length-fields (entry c .args .list .now) 
 -- and its field begins at the offset noted
 begins :
     (c : tie.After-wide8 Inv-loop μ-loop) → let args = entry (c .before) .args in
-    getD (args .starts .now) (c .wide8 .result) 0 ≡ offsetAt (args .list .now) 0 (middle (c .before))
+    getD (args .index .now) (c .wide8 .result) 0 ≡ offsetAt (args .list .now) 0 (middle (c .before))
 begins c =
-    ap (λ (i : ℕ). getD (entry (c .before) .args .starts .now) i 0) (c .wide8 .ensures)
+    ap (λ (i : ℕ). getD (entry (c .before) .args .index .now) i 0) (c .wide8 .ensures)
     ∙ entry (c .before) .pre .0 .begins (middle (c .before)) (halfway (c .before) .0)
 
 -- what the comparison with the name halfway says of its answer
