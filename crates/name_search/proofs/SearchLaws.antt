@@ -1,6 +1,6 @@
--- A search that halves: which places are left after one comparison, and the number where the name is found or no place is left.
--- Assumes nothing.
-use mathlib.Core.Path.{_≡_, sym, subst}
+-- A name by its number in an index; and a search that halves: which places are left after one comparison, and the number where the name
+-- is found or no place is left. Assumes nothing.
+use mathlib.Core.Path.{_≡_, sym, ap, _∙_, subst}
 use mathlib.Core.Bool.{true}
 use mathlib.Core.List.{List, []}
 use Prim.Native.Nat.{ℕ, _+_, _≤_, _<_}
@@ -10,6 +10,19 @@ use Rattle.base.specs.Lists.{before}
 use Rattle.base.proofs.Places.{place-of}
 use Rattle.model.specs.Fields.{Ascends, numberOf}
 use Rattle.model.proofs.NameNumbers.{number-of-unknown, number-at-place, places-below, places-above}
+use Rattle.judging.specs.Offsets.{bodyAt, nextAt, fieldsAt}
+use Rattle.judging.proofs.OffsetLaws.{field-within, field-at}
+use Rattle.name_search.specs.Search.{Indexed}
+
+-- the field of a name, from the offset noted: it lies within the list, and its bytes are the name
+module _ (list index : List ℕ) (count : ℕ) (indexed : Indexed list count index) (i : ℕ) (low : i < count) where
+  pub noted-within : nextAt list (getD index i 0) ≤ length list
+  noted-within =
+      subst (λ (a : ℕ). nextAt list a ≤ length list) (sym (indexed .begins i low))
+      (omega (arith, indexed .within, field-within list 0 count i low))
+
+  pub noted-name : bodyAt list (getD index i 0) ≡ getD (fieldsAt list 0 count) i []
+  noted-name = ap (bodyAt list) (indexed .begins i low) ∙ sym (field-at list 0 count i low)
 
 -- a name stands at no place below low, nor from high on
 pub record PlacesLeft (names : List (List ℕ)) (name : List ℕ) (low high : ℕ) : Type 0 where

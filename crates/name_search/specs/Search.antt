@@ -1,14 +1,19 @@
--- How one name stands to another in byte order, and the offsets at which a list's fields begin. Assumes nothing.
+-- How many hashes of names there are, how one name stands to another in byte order, and the offsets at which a list's fields begin.
+-- Assumes nothing.
 use mathlib.Core.Path.{_≡_}
 use mathlib.Core.Bool.{true}
 use mathlib.Core.List.{List}
-use Prim.Native.Nat.{ℕ, _+_, _≤_, _<_}
+use Prim.Native.Nat.{ℕ, _≤_, _<_}
 use lib.ListN.{length, getD}
 use Rattle.base.specs.Limits.{name-limit}
 use Rattle.base.specs.Lists.{before}
 use Rattle.judging.specs.Offsets.{offsetAt}
 use Rattle.name_search.specs.declared.Order.{Order}
 use Rattle.name_search.specs.declared.Order.the-variants as order
+
+-- so many hashes
+abbrev pub hashes : ℕ
+hashes = 256
 
 -- the answer says how a stands to b
 abbrev pub Ordered : List ℕ → List ℕ → Order → Type 0
@@ -20,6 +25,5 @@ Ordered a b order.After = before b a ≡ true
 -- index; of what stands behind these nothing is said
 pub record Indexed (list : List ℕ) (count : ℕ) (index : List ℕ) : Type 0 where
   pub few : count ≤ name-limit
-  pub room : length index ≡ name-limit + 256
   pub within : offsetAt list 0 count ≤ length list
   pub begins : (i : ℕ) → i < count → getD index i 0 ≡ offsetAt list 0 i

@@ -6,18 +6,21 @@ use base::numbers::wide8;
 use judging::offsets::body;
 use judging::offsets::next_field;
 ghost use mathlib.Core.Path.{_≡_};
-ghost use Prim.Native.Nat.{_+_, _≤_, _<_};
+ghost use Prim.Native.Nat.{_≤_, _<_};
 ghost use lib.ListN.{length};
 ghost use Rattle.base.specs.Limits.{name-limit};
 ghost use Rattle.model.specs.Fields.{Ascends, numberOf};
 ghost use Rattle.judging.specs.Offsets.{offsetAt, fieldsAt};
-ghost use Rattle.name_search.specs.Search.{Ordered, Indexed};
+ghost use Rattle.name_search.specs.Search.{hashes, Ordered, Indexed};
 
 // One offset for each name that a list may have.
 const STARTS: usize = NAME_LIMIT as usize;
 
-// These, and then a guess for each mark of a name: the number of a name with that mark. Nothing is promised of the guesses.
-pub const INDEX: usize = STARTS + 256;
+// One guess for each hash of a name.
+const HASHES: usize = 256;
+
+// The offsets, and behind them the guesses: for a hash, the number of a name that has it. Nothing is promised of the guesses.
+pub const INDEX: usize = STARTS + HASHES;
 
 // How one name stands to another in ascending byte order.
 pub enum Order {
@@ -52,31 +55,31 @@ pub fn compare(a: &[u8], b: &[u8]) -> Order
     Order::Same
 }
 
-// The mark of a name, made from all of its bytes.
-fn mark_of(name: &[u8]) -> usize
-    ensures { λ r. ⌜ r < 256 ⌝ }
+// The hash of a name, made from all of its bytes.
+fn hash(name: &[u8]) -> usize
+    ensures { λ r. ⌜ r < hashes ⌝ }
 {
-    let mut mark = 0;
+    let mut sum = 0;
     let mut i = 0;
     while i < name.len() {
-        mark = (31 * mark + wide8(name[i])) % 256;
+        sum = (31 * sum + wide8(name[i])) % HASHES;
         i += 1;
     }
-    mark
+    sum
 }
 
 // Notes where each of the first `count` fields of the list begins, and the guesses.
 pub fn index_names(list: &[u8], count: u8, index: &mut [usize; INDEX])
     requires { ⌜ count ≤ name-limit ⌝ }
     requires { ⌜ offsetAt (now list) 0 count ≤ length (now list) ⌝ }
-    requires { ⌜ length (now index) ≡ name-limit + 256 ⌝ }
+    requires { ⌜ name-limit ≤ length (now index) ⌝ }
     ensures { λ _. ⌜ Indexed (now (list .entry)) count (now (index .exit)) ⌝ }
 {
     let mut at = 0;
     let mut i: u8 = 0;
     while i < count {
         let number = wide8(i);
-        index[STARTS + mark_of(body(list, at))] = number;
+        index[STARTS + hash(body(list, at))] = number;
         index[number] = at;
         at = next_field(list, at);
         i += 1;
@@ -103,18 +106,19 @@ pub fn number_of(list: &[u8], index: &[usize; INDEX], count: u8, name: &[u8]) ->
     count
 }
 
-// The same, by a guess and, where that is wrong, by the search.
-pub fn number_of_often(list: &[u8], index: &[usize; INDEX], count: u8, name: &[u8]) -> u8
+// The same, by the guess for the name's hash and, where that is another name's number, by the search.
+pub fn number_by_guess(list: &[u8], index: &[usize; INDEX], count: u8, name: &[u8]) -> u8
     requires { ⌜ Indexed (now list) count (now index) ⌝ }
     requires { ⌜ Ascends (fieldsAt (now list) 0 count) ⌝ }
     ensures { λ r. ⌜ r ≡ numberOf (fieldsAt (now (list .entry)) 0 count) (now (name .entry)) ⌝ }
 {
-    let guess = index[STARTS + mark_of(name)];
-    if guess < wide8(count) {
+    let guess = index[STARTS + hash(name)];
+    let names = wide8(count);
+    if guess < names {
         let found = compare(name, body(list, index[guess]));
         match found {
-            Order::Same => return narrow8(guess),
             Order::Before => {}
+            Order::Same => return narrow8(guess),
             Order::After => {}
         }
     }

@@ -56,17 +56,17 @@ wide8-requires c κs = search needs
 body-requires : tie.Need-body-requires Inv-loop μ-loop
 body-requires c κs = within c
 
-mark-of-requires : tie.Need-mark-of-requires Inv-loop μ-loop
-mark-of-requires c κs = search needs
+hash-requires : tie.Need-hash-requires Inv-loop μ-loop
+hash-requires c κs = search needs
 
 add-index : tie.Need-add-index Inv-loop μ-loop
-add-index c = omega (arith, c .mark-of .ensures)
+add-index c = omega (arith, c .hash .ensures)
 
 mul-index : tie.Need-mul-index Inv-loop μ-loop
-mul-index c = omega (arith, c .mark-of .ensures)
+mul-index c = omega (arith, c .hash .ensures)
 
 element-write-index : tie.Need-element-write-index Inv-loop μ-loop
-element-write-index c = omega (arith, c .mark-of .ensures)
+element-write-index c = omega (arith, c .hash .ensures)
 
 mul-index-2 : tie.Need-mul-index-2 Inv-loop μ-loop
 mul-index-2 c = omega (arith, c .before .before .wide8 .ensures)
@@ -93,7 +93,7 @@ loop-again c =
     let index₀ = start .args .index .now in
     let i = loop .i in
     let number : turn .wide8 .result ≡ i = turn .wide8 .ensures in
-    let place = 64 + c .before .mark-of .result in (
+    let place = 64 + c .before .hash .result in (
       omega arith,
       c .next-field .ensures ∙ ap (nextAt list) (loop .inv .1) ∙ sym (offset-suc list 0 i) ∙ ap (offsetAt list 0) (sym (add-one i)),
       rw number
@@ -108,7 +108,6 @@ returns c =
     let noted = c .before .loop .inv .2 in
     record {
       few = start .pre .0;
-      room = noted .size ∙ start .pre .1 .1;
       within = start .pre .1 .0;
       begins = λ v h. noted .done v (omega arith);
     }
@@ -122,7 +121,7 @@ index-names-spec =
     loop-holds
     wide8-requires
     body-requires
-    mark-of-requires
+    hash-requires
     add-index
     mul-index
     element-write-index

@@ -6,11 +6,12 @@ use native.Mathlib.Omega.{arith}
 use borrow.Author.Needs.{needs}
 use lib.ListN.{length, getD}
 use Rattle.base.specs.Limits.{name-limit}
-use Rattle.judging.specs.Offsets.{bodyAt, nextAt, offsetAt, fieldsAt}
-use Rattle.judging.proofs.OffsetLaws.{field-within, field-at, length-fields}
+use Rattle.judging.specs.Offsets.{fieldsAt}
+use Rattle.judging.proofs.OffsetLaws.{length-fields}
 use Rattle.name_search.specs.Search.{Ordered}
 use Rattle.name_search.specs.declared.Order.{Order}
 use Rattle.name_search.specs.declared.Order.the-variants as order
+use Rattle.name_search.proofs.SearchLaws.{noted-within, noted-name}
 use Rattle.name_search.proofs.SearchLaws.{PlacesLeft, all-left, none-left, lower-half, upper-half, found-at}
 use Rattle.name_search.proofs.number_of.Statement.{statement}
 use Rattle.name_search.proofs.number_of.Tie as tie
@@ -41,25 +42,21 @@ halfway c = (omega (arith, c .before .loop .inv .0), entry c .pre .0 .few)
 inside : (c : tie.In-loop Inv-loop μ-loop) → middle c < length (names c)
 inside c = omega (arith, halfway c .0, length-fields (entry c .args .list .now) 0 (entry c .args .count))
 
--- and its field begins at the offset noted
-begins :
-    (c : tie.After-wide8 Inv-loop μ-loop) → let args = entry (c .before) .args in
-    getD (args .index .now) (c .wide8 .result) 0 ≡ offsetAt (args .list .now) 0 (middle (c .before))
-begins c =
-    ap (λ (i : ℕ). getD (entry (c .before) .args .index .now) i 0) (c .wide8 .ensures)
-    ∙ entry (c .before) .pre .0 .begins (middle (c .before)) (halfway (c .before) .0)
+noted : (c : tie.After-wide8 Inv-loop μ-loop) → c .wide8 .result < entry (c .before) .args .count
+noted c = omega (arith, c .wide8 .ensures, halfway (c .before) .0)
 
--- what the comparison with the name halfway says of its answer
+-- what the comparison with that name says of its answer
 compared :
     (c : tie.After-compare Inv-loop μ-loop) (r : Order) → c .compare .result ≡ r →
     Ordered (entry (turn c) .args .name .now) (getD (names (turn c)) (middle (turn c)) []) r
 compared c r e =
+    let read = c .before .before .before in
     let here = turn c in
     let args = entry here .args in
-    let list = args .list .now in
     let name-is =
-    c .before .body .ensures ∙ ap (bodyAt list) (begins (c .before .before .before))
-    ∙ sym (field-at list 0 (args .count) (middle here) (halfway here .0)) in
+    c .before .body .ensures
+    ∙ noted-name (args .list .now) (args .index .now) (args .count) (entry here .pre .0) (read .wide8 .result) (noted read)
+    ∙ ap (λ (i : ℕ). getD (names here) i []) (read .wide8 .ensures) in
     subst (λ (r : Order). Ordered (args .name .now) (getD (names here) (middle here) []) r) e
     (subst (λ (n : List ℕ). Ordered (args .name .now) n (c .compare .result)) name-is (c .compare .ensures))
 
@@ -83,11 +80,9 @@ element-copy-out-body c = omega (arith, c .wide8 .ensures, halfway (c .before))
 
 body-requires : tie.Need-body-requires Inv-loop μ-loop
 body-requires c κs =
-    let here = c .before .before in
-    let list = entry here .args .list .now in
-    let count = entry here .args .count in
-    subst (λ (a : ℕ). nextAt list a ≤ length list) (sym (begins (c .before)))
-    (omega (arith, entry here .pre .0 .within, field-within list 0 count (middle here) (halfway here .0)))
+    let start = entry (c .before .before) in
+    let args = start .args in
+    noted-within (args .list .now) (args .index .now) (args .count) (start .pre .0) (c .before .wide8 .result) (noted (c .before))
 
 compare-requires : tie.Need-compare-requires Inv-loop μ-loop
 compare-requires c κs = search needs
