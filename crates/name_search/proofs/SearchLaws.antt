@@ -10,19 +10,29 @@ use Rattle.base.specs.Lists.{before}
 use Rattle.base.proofs.Places.{place-of}
 use Rattle.model.specs.Fields.{Ascends, numberOf}
 use Rattle.model.proofs.NameNumbers.{number-of-unknown, number-at-place, places-below, places-above}
-use Rattle.judging.specs.Offsets.{bodyAt, nextAt, fieldsAt}
+use Rattle.judging.specs.Offsets.{bodyAt, nextAt, offsetAt, fieldsAt}
 use Rattle.judging.proofs.OffsetLaws.{field-within, field-at}
-use Rattle.name_search.specs.Search.{Indexed}
+use Rattle.name_search.specs.Search.{Ordered, Indexed}
+use Rattle.name_search.specs.declared.Order.{Order}
 
--- the field of a name, from the offset noted: it lies within the list, and its bytes are the name
-module _ (list index : List ℕ) (count : ℕ) (indexed : Indexed list count index) (i : ℕ) (low : i < count) where
-  pub noted-within : nextAt list (getD index i 0) ≤ length list
+-- the i-th name's field, from the offset noted: it lies within the list, and its bytes are compared as that name
+module _
+    (list index : List ℕ) (count : ℕ) (indexed : Indexed list count index) (at i : ℕ) (is : at ≡ i) (low : i < count) where
+  noted : getD index at 0 ≡ offsetAt list 0 i
+  noted = ap (λ (v : ℕ). getD index v 0) is ∙ indexed .begins i low
+
+  pub noted-within : nextAt list (getD index at 0) ≤ length list
   noted-within =
-      subst (λ (a : ℕ). nextAt list a ≤ length list) (sym (indexed .begins i low))
+      subst (λ (a : ℕ). nextAt list a ≤ length list) (sym noted)
       (omega (arith, indexed .within, field-within list 0 count i low))
 
-  pub noted-name : bodyAt list (getD index i 0) ≡ getD (fieldsAt list 0 count) i []
-  noted-name = ap (bodyAt list) (indexed .begins i low) ∙ sym (field-at list 0 count i low)
+  pub noted-ordered :
+      (name found : List ℕ) (answer r : Order) → found ≡ bodyAt list (getD index at 0) → Ordered name found answer → answer ≡ r →
+      Ordered name (getD (fieldsAt list 0 count) i []) r
+  noted-ordered name found answer r e o told =
+      let field = e ∙ ap (bodyAt list) noted ∙ sym (field-at list 0 count i low) in
+      subst (λ (r : Order). Ordered name (getD (fieldsAt list 0 count) i []) r) told
+      (subst (λ (n : List ℕ). Ordered name n answer) field o)
 
 -- a name stands at no place below low, nor from high on
 pub record PlacesLeft (names : List (List ℕ)) (name : List ℕ) (low high : ℕ) : Type 0 where

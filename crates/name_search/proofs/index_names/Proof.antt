@@ -92,14 +92,13 @@ loop-again c =
     let list = start .args .list .now in
     let index₀ = start .args .index .now in
     let i = loop .i in
-    let number : turn .wide8 .result ≡ i = turn .wide8 .ensures in
-    let place = 64 + c .before .hash .result in (
+    let number : turn .wide8 .result ≡ i = turn .wide8 .ensures in (
       omega arith,
       c .next-field .ensures ∙ ap (nextAt list) (loop .inv .1) ∙ sym (offset-suc list 0 i) ∙ ap (offsetAt list 0) (sym (add-one i)),
       rw number
-          (filled-more (λ (v x : ℕ). x ≡ offsetAt list 0 v) i (loop .at) index₀ (set (loop .index) place i)
+          (filled-more (λ (v x : ℕ). x ≡ offsetAt list 0 v) i (loop .at) index₀ _
           (omega (arith, start .pre .1 .1, start .pre .0)) (loop .inv .1)
-          (noted-behind list index₀ (loop .index) i place i (omega (arith, start .pre .0)) (loop .inv .2))),
+          (noted-behind list index₀ (loop .index) i _ i (omega (arith, start .pre .0)) (loop .inv .2))),
     )
 
 returns : tie.Need-returns Inv-loop μ-loop

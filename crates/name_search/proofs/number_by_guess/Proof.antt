@@ -1,6 +1,5 @@
 -- `number_by_guess` meets its contract: a guess is the number where the name guessed is the same. Assumes nothing.
-use mathlib.Core.Path.{sym, _∙_, subst}
-use mathlib.Core.List.{List, []}
+use mathlib.Core.Path.{refl, sym, _∙_}
 use Prim.Native.Nat.{ℕ, _+_, _<_}
 use native.Mathlib.Omega.{arith}
 use borrow.Author.Needs.{needs}
@@ -8,9 +7,8 @@ use lib.ListN.{length, getD}
 use Rattle.base.specs.Limits.{name-limit}
 use Rattle.judging.specs.Offsets.{fieldsAt}
 use Rattle.judging.proofs.OffsetLaws.{length-fields}
-use Rattle.name_search.specs.Search.{Ordered}
-use Rattle.name_search.specs.declared.Order.{Order}
-use Rattle.name_search.proofs.SearchLaws.{noted-within, noted-name, found-at}
+use Rattle.name_search.specs.declared.Order.the-variants as order
+use Rattle.name_search.proofs.SearchLaws.{noted-within, noted-ordered, found-at}
 use Rattle.name_search.proofs.number_by_guess.Statement.{statement}
 use Rattle.name_search.proofs.number_by_guess.Tie as tie
 
@@ -48,7 +46,7 @@ element-copy-out-body c = search needs
 body-requires : tie.Need-body-requires
 body-requires c κs =
     let args = entry c .args in
-    noted-within (args .list .now) (args .index .now) (args .count) (entry c .pre .0) (guess c) (low c)
+    noted-within (args .list .now) (args .index .now) (args .count) (entry c .pre .0) (guess c) (guess c) refl (low c)
 
 compare-requires : tie.Need-compare-requires
 compare-requires c κs = search needs
@@ -71,11 +69,10 @@ returns c =
     let names = fieldsAt list 0 (args .count) in
     let name = args .name .now in
     let inside : guess here < length names = omega (arith, low here, length-fields list 0 (args .count)) in
-    let name-is =
-    known .before .body .ensures ∙ noted-name list (args .index .now) (args .count) (entry here .pre .0) (guess here) (low here) in
     let same =
-    subst (λ (r : Order). Ordered name (getD names (guess here) []) r) (c .before .enum-told2 .given .1)
-    (subst (λ (n : List ℕ). Ordered name n (known .compare .result)) name-is (known .compare .ensures)) in
+    noted-ordered list (args .index .now) (args .count) (entry here .pre .0) (guess here) (guess here) refl (low here) name
+    (known .before .body .result .now) (known .compare .result) order.Same (known .before .body .ensures) (known .compare .ensures)
+    (c .before .enum-told2 .given .1) in
     c .narrow8 .ensures ∙ sym (found-at names name (entry here .pre .1) (guess here) inside same)
 
 enum-told-3 : tie.Need-enum-told-3

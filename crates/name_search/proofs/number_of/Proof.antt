@@ -1,5 +1,5 @@
 -- `number_of` meets its contract. The loop's invariant: the name stands at no place below low, nor from high on. Assumes nothing.
-use mathlib.Core.Path.{_≡_, sym, ap, _∙_, subst}
+use mathlib.Core.Path.{_≡_, sym, _∙_}
 use mathlib.Core.List.{List, []}
 use Prim.Native.Nat.{ℕ, _+_, _-_, _/_, _≤_, _<_}
 use native.Mathlib.Omega.{arith}
@@ -11,7 +11,7 @@ use Rattle.judging.proofs.OffsetLaws.{length-fields}
 use Rattle.name_search.specs.Search.{Ordered}
 use Rattle.name_search.specs.declared.Order.{Order}
 use Rattle.name_search.specs.declared.Order.the-variants as order
-use Rattle.name_search.proofs.SearchLaws.{noted-within, noted-name}
+use Rattle.name_search.proofs.SearchLaws.{noted-within, noted-ordered}
 use Rattle.name_search.proofs.SearchLaws.{PlacesLeft, all-left, none-left, lower-half, upper-half, found-at}
 use Rattle.name_search.proofs.number_of.Statement.{statement}
 use Rattle.name_search.proofs.number_of.Tie as tie
@@ -42,23 +42,17 @@ halfway c = (omega (arith, c .before .loop .inv .0), entry c .pre .0 .few)
 inside : (c : tie.In-loop Inv-loop μ-loop) → middle c < length (names c)
 inside c = omega (arith, halfway c .0, length-fields (entry c .args .list .now) 0 (entry c .args .count))
 
-noted : (c : tie.After-wide8 Inv-loop μ-loop) → c .wide8 .result < entry (c .before) .args .count
-noted c = omega (arith, c .wide8 .ensures, halfway (c .before) .0)
-
 -- what the comparison with that name says of its answer
 compared :
     (c : tie.After-compare Inv-loop μ-loop) (r : Order) → c .compare .result ≡ r →
     Ordered (entry (turn c) .args .name .now) (getD (names (turn c)) (middle (turn c)) []) r
 compared c r e =
-    let read = c .before .before .before in
     let here = turn c in
     let args = entry here .args in
-    let name-is =
-    c .before .body .ensures
-    ∙ noted-name (args .list .now) (args .index .now) (args .count) (entry here .pre .0) (read .wide8 .result) (noted read)
-    ∙ ap (λ (i : ℕ). getD (names here) i []) (read .wide8 .ensures) in
-    subst (λ (r : Order). Ordered (args .name .now) (getD (names here) (middle here) []) r) e
-    (subst (λ (n : List ℕ). Ordered (args .name .now) n (c .compare .result)) name-is (c .compare .ensures))
+    let read = c .before .before .before .wide8 in
+    noted-ordered (args .list .now) (args .index .now) (args .count) (entry here .pre .0) (read .result) (middle here)
+    (read .ensures) (halfway here .0) (args .name .now) (c .before .body .result .now) (c .compare .result) r (c .before .body .ensures)
+    (c .compare .ensures) e
 
 loop-holds : tie.Need-loop-holds Inv-loop μ-loop
 loop-holds c =
@@ -80,9 +74,11 @@ element-copy-out-body c = omega (arith, c .wide8 .ensures, halfway (c .before))
 
 body-requires : tie.Need-body-requires Inv-loop μ-loop
 body-requires c κs =
-    let start = entry (c .before .before) in
-    let args = start .args in
-    noted-within (args .list .now) (args .index .now) (args .count) (start .pre .0) (c .before .wide8 .result) (noted (c .before))
+    let here = c .before .before in
+    let args = entry here .args in
+    let read = c .before .wide8 in
+    noted-within (args .list .now) (args .index .now) (args .count) (entry here .pre .0) (read .result) (middle here) (read .ensures)
+    (halfway here .0)
 
 compare-requires : tie.Need-compare-requires Inv-loop μ-loop
 compare-requires c κs = search needs
