@@ -2,13 +2,12 @@
 -- it are noted; a guess is noted behind all offsets. Assumes nothing.
 use mathlib.Core.Path.{_≡_, refl, sym, ap, _∙_, subst}
 use mathlib.Core.List.{List}
-use Prim.Native.Nat.{ℕ, _+_, _-_, _≤_, _<_}
+use Prim.Native.Nat.{ℕ, _-_, _≤_}
 use native.Mathlib.Numerals.{add-one}
 use native.Mathlib.Omega.{arith}
 use borrow.Author.Needs.{needs}
 use lib.ListN.{length, set, length-set}
 use lib.Seq.{getD-set-other}
-use Rattle.base.specs.Limits.{name-limit}
 use Rattle.base.proofs.Fills.{Filled, filled-none, filled-more}
 use Rattle.judging.specs.Offsets.{nextAt, offsetAt}
 use Rattle.judging.proofs.OffsetLaws.{offset-suc, field-within}
@@ -19,12 +18,6 @@ use Rattle.name_search.proofs.index_names.Tie as tie
 abbrev Noted : List ℕ → ℕ → List ℕ → List ℕ → Type 0
 Noted list i index₀ index = Filled (λ (v x : ℕ). x ≡ offsetAt list 0 v) i index₀ index
 
-abbrev Inv-loop : tie.InvT-loop
-Inv-loop list count index₀ at₀ i₀ index at i = (i ≤ count) × (at ≡ offsetAt list 0 i) × Noted list i index₀ index
-
-abbrev μ-loop : tie.MeasureT-loop
-μ-loop list count index₀ at₀ i₀ index at i = count - i
-
 -- and stay so where something is noted behind them
 noted-behind :
     (list index₀ index : List ℕ) (i place value : ℕ) → i ≤ place → Noted list i index₀ index →
@@ -34,6 +27,12 @@ noted-behind list index₀ index i place value behind noted =
       size = length-set index place value ∙ noted .size;
       done = λ v h. getD-set-other index place v value 0 (λ e. omega arith) ∙ noted .done v h;
     }
+
+abbrev Inv-loop : tie.InvT-loop
+Inv-loop list count index₀ at₀ i₀ index at i = (i ≤ count) × (at ≡ offsetAt list 0 i) × Noted list i index₀ index
+
+abbrev μ-loop : tie.MeasureT-loop
+μ-loop list count index₀ at₀ i₀ index at i = count - i
 
 -- the field that a turn is about lies within the list
 within :
