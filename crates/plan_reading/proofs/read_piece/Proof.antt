@@ -84,17 +84,17 @@ found :
     Met (a .plan .now) (a .stack .now) (place (entry c)) (a .r .at) (a .r) (from c) (end c) × (a .r .at < from c)
 found c = piece-is (c .before .before .before) _ (c .before .piece3 .given .1)
 
-sub-number-of : tie.Need-sub-number-of
-sub-number-of c = omega (arith, found c .0 .here .some)
+sub-number-by-guess : tie.Need-sub-number-by-guess
+sub-number-by-guess c = omega (arith, found c .0 .here .some)
 
-part-number-of-start : tie.Need-part-number-of-start
-part-number-of-start c = omega (arith, found c .0 .here .some)
+part-number-by-guess-start : tie.Need-part-number-by-guess-start
+part-number-by-guess-start c = omega (arith, found c .0 .here .some)
 
-part-number-of-end : tie.Need-part-number-of-end
-part-number-of-end c = omega (arith, found c .0 .here .within)
+part-number-by-guess-end : tie.Need-part-number-by-guess-end
+part-number-by-guess-end c = omega (arith, found c .0 .here .within)
 
-number-of-requires : tie.Need-number-of-requires
-number-of-requires c κs =
+number-by-guess-requires : tie.Need-number-by-guess-requires
+number-by-guess-requires c κs =
     let pre = entry (c .before) .pre in
     (pre .0, pre .1 .0 .ascends)
 
@@ -111,7 +111,7 @@ judged c =
     let begun = entry (named c) in
     let a = begun .args in
     c .tag-fault .ensures .is (a .list .now) (a .plan .now) (name (named c)) (drop (end (named c)) (a .plan .now)) (begun .pre .1 .0)
-    (begun .pre .1 .1 .1 .0 .numbered) (c .before .before .number-of .ensures)
+    (begun .pre .1 .1 .1 .0 .numbered) (c .before .before .number-by-guess .ensures)
 
 returns : tie.Need-returns
 returns c =
@@ -171,7 +171,7 @@ returns-4 c =
     let here = named (put .before .before .before) in
     let begun = entry here in
     let a = begun .args in
-    let number = put .before .before .before .before .before .number-of in
+    let number = put .before .before .before .before .before .number-by-guess in
     turn-element (names begun) (judge begun) (a .plan .now) (a .stack .now) (a .log .now) (a .r) (begun .pre .1 .1 .1 .0) (from here)
     (end here) (found here .0) (fine (put .before)) _ _ (number .result) (number .ensures) (put .put-entry .ensures .1)
     (put .put-entry .ensures .0) (c .begin-element .result)
@@ -185,10 +185,10 @@ read-piece-spec =
     enum-known-piece
     enum-known-piece-2
     enum-known-piece-3
-    sub-number-of
-    part-number-of-start
-    part-number-of-end
-    number-of-requires
+    sub-number-by-guess
+    part-number-by-guess-start
+    part-number-by-guess-end
+    number-by-guess-requires
     tag-fault-requires
     returns
     put-entry-requires

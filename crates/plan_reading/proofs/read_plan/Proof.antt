@@ -14,11 +14,11 @@ use Rattle.plan_reading.proofs.read_plan.Statement.{statement}
 use Rattle.plan_reading.proofs.read_plan.Tie as tie
 
 abbrev Inv-loop : tie.InvT-loop
-Inv-loop plan list sought log₀ starts stack₀ r₀ log stack r =
+Inv-loop plan list sought log₀ index stack₀ r₀ log stack r =
     ReadSoFar (namesOf list sought) (chosenOf list sought) plan stack log r × (length log ≡ length log₀)
 
 abbrev μ-loop : tie.MeasureT-loop
-μ-loop plan list sought log₀ starts stack₀ r₀ log stack r = length plan - r .at
+μ-loop plan list sought log₀ index stack₀ r₀ log stack r = length plan - r .at
 
 -- the names, and the chosen one
 abbrev names : tie.Start Inv-loop μ-loop → List (List ℕ)
@@ -30,7 +30,7 @@ chosen c = chosenOf (c .args .list .now) (c .args .sought)
 index-names-requires : tie.Need-index-names-requires Inv-loop μ-loop
 index-names-requires c κs =
     let pre = c .before .before .before .before .pre in
-    (pre .0, (pre .1 .0, refl))
+    (pre .0, (pre .1 .0, omega arith))
 
 loop-holds : tie.Need-loop-holds Inv-loop μ-loop
 loop-holds c =
