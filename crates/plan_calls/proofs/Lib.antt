@@ -1,1 +1,2 @@
--- Assumes nothing.
+-- RowsLaws: what each answer of the calls says. Assumes nothing.
+pub mod RowsLaws

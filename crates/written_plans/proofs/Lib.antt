@@ -19,6 +19,8 @@ pub mod MetLaws
 pub mod Outcomes
 -- TagFaults: what a tag is refused for
 pub mod TagFaults
+-- Numbers: which numbers reading refuses with, and where
+pub mod Numbers
 -- WrittenRuns: every plan can be read to its end, and the tags met are its tags
 pub mod WrittenRuns
 -- Completions: what can be read can be completed to a plan
