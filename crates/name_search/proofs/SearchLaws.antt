@@ -1,6 +1,6 @@
--- A search that halves: which places are left after one comparison, and the number where the name is found or no place is left.
--- Assumes nothing.
-use mathlib.Core.Path.{_≡_, sym, subst}
+-- A name by its number in an index; and a search that halves: which places are left after one comparison, and the number where the name
+-- is found or no place is left. Assumes nothing.
+use mathlib.Core.Path.{_≡_, sym, ap, _∙_, subst}
 use mathlib.Core.Bool.{true}
 use mathlib.Core.List.{List, []}
 use Prim.Native.Nat.{ℕ, _+_, _≤_, _<_}
@@ -10,6 +10,29 @@ use Rattle.base.specs.Lists.{before}
 use Rattle.base.proofs.Places.{place-of}
 use Rattle.model.specs.Fields.{Ascends, numberOf}
 use Rattle.model.proofs.NameNumbers.{number-of-unknown, number-at-place, places-below, places-above}
+use Rattle.judging.specs.Offsets.{bodyAt, nextAt, offsetAt, fieldsAt}
+use Rattle.judging.proofs.OffsetLaws.{field-within, field-at}
+use Rattle.name_search.specs.Search.{Ordered, Indexed}
+use Rattle.name_search.specs.declared.Order.{Order}
+
+-- the i-th name's field, from the offset noted: it lies within the list, and its bytes are compared as that name
+module _
+    (list index : List ℕ) (count : ℕ) (indexed : Indexed list count index) (at i : ℕ) (is : at ≡ i) (low : i < count) where
+  noted : getD index at 0 ≡ offsetAt list 0 i
+  noted = ap (λ (v : ℕ). getD index v 0) is ∙ indexed .begins i low
+
+  pub noted-within : nextAt list (getD index at 0) ≤ length list
+  noted-within =
+      subst (λ (a : ℕ). nextAt list a ≤ length list) (sym noted)
+      (omega (arith, indexed .within, field-within list 0 count i low))
+
+  pub noted-ordered :
+      (name found : List ℕ) (answer r : Order) → found ≡ bodyAt list (getD index at 0) → Ordered name found answer → answer ≡ r →
+      Ordered name (getD (fieldsAt list 0 count) i []) r
+  noted-ordered name found answer r e o told =
+      let field = e ∙ ap (bodyAt list) noted ∙ sym (field-at list 0 count i low) in
+      subst (λ (r : Order). Ordered name (getD (fieldsAt list 0 count) i []) r) told
+      (subst (λ (n : List ℕ). Ordered name n answer) field o)
 
 -- a name stands at no place below low, nor from high on
 pub record PlacesLeft (names : List (List ℕ)) (name : List ℕ) (low high : ℕ) : Type 0 where

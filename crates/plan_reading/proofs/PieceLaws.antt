@@ -17,7 +17,7 @@ use Rattle.written_plans.specs.Reading.{stop, go, afterName, afterEnd, endBegin
 use Rattle.written_plans.proofs.WrittenRuns.{slash-ends}
 use Rattle.plan_reading.specs.Scanning.{part, Skipped, NameEnds, Agrees}
 use Rattle.plan_reading.specs.Pieces.{openName, openNames, between, placeOf, reads, ReadsOn, Stops, Stacked, closingOf}
-use Rattle.plan_reading.specs.Pieces.{BeforeTag, followsName, Passed, Met, PieceFrom, NameFrom, CloseFrom}
+use Rattle.plan_reading.specs.Pieces.{BeforeTag, followsName, Passed, Met, PieceFrom, AfterLess, NameFrom, CloseFrom}
 use Rattle.plan_reading.specs.declared.pieces.Reached.{Reached}
 use Rattle.plan_reading.specs.declared.pieces.Piece.{Piece}
 use Rattle.plan_reading.specs.declared.pieces.Piece.the-variants as piece
@@ -186,7 +186,7 @@ stacked-out s stack r at sound h within =
     }
 
 -- the place after an element, once a tag began one
-leave-between : (names : List (List ℕ)) (tags : ℕ) → 0 < tags → leave names ≡ between names tags
+pub leave-between : (names : List (List ℕ)) (tags : ℕ) → 0 < tags → leave names ≡ between names tags
 leave-between [] tags h =
     let some : eqb tags 0 ≡ false = ne-eqb tags 0 (λ z. let w : ⊥ = omega arith in w) in rw (some)
 leave-between (n ∷ names) tags h = refl
@@ -201,11 +201,19 @@ piece-after s stack q i r t j first h (piece.Past u) past =
       sound = past .sound;
       further = omega arith;
       same-tags = past .same-tags;
+      not-deeper = past .not-deeper;
     }
 piece-after s stack q i r t j first h (piece.Name from end) found =
     let further : j ≤ from = found .further in
     record { reads-on = λ judge. first judge ∙ found .reads-on judge; here = found .here; further = omega arith }
 piece-after s stack q i r t j first h (piece.Bad p) stops = λ judge. first judge ∙ stops judge
+
+-- a piece read from after a tag's `<` on
+pub after-less : (s stack : List ℕ) (q : Place) (i : ℕ) (r t : Reached) → r .at < i
+    → (p : Piece) → PieceFrom s stack q i t p → AfterLess r p
+after-less s stack q i r t h (piece.Past u) past = tt
+after-less s stack q i r t h (piece.Name from end) found = let further : i ≤ from = found .further in omega arith
+after-less s stack q i r t h (piece.Bad p) stops = tt
 
 -- ---- an end tag
 
@@ -295,6 +303,7 @@ module _ (s stack : List ℕ) (r : Reached) (sound : Stacked s stack r) (deep : 
             sound = stacked-out s stack r (at + 1) sound (omega arith) (omega arith);
             further = omega arith;
             same-tags = refl;
+            not-deeper = omega arith;
           }
 
 -- ---- a tag
@@ -451,6 +460,7 @@ module _ (s stack : List ℕ) (r : Reached) (at : ℕ) (run : BeforeTag s r at) 
         sound = stacked-on s stack r at sound (omega arith) within;
         further = omega arith;
         same-tags = refl;
+        not-deeper = omega arith;
       }
 
   module _ (h : at < length s) where

@@ -1,7 +1,7 @@
 -- The stack of the open elements: how many names it holds, what one element more leaves as it was, and what a tag is refused for by the
 -- numbers on it. Assumes nothing.
 use mathlib.Core.Path.{_≡_, refl, sym, ap, ap₂, _∙_}
-use mathlib.Core.Logic.{_≢_}
+use mathlib.Core.Logic.{_≢_, ⊎-elim}
 use mathlib.Core.Bool.{Bool, true, false, _&&_, not}
 use mathlib.Core.List.{List, [], _∷_}
 use Prim.Native.Nat.{ℕ, zero, suc, _+_, _*_, _-_, _≤_, _<_}
@@ -9,9 +9,9 @@ use native.Mathlib.Omega.{arith}
 use lib.Dec.{eqb, ltb, leb}
 use lib.ListN.{length, getD, set, length-set}
 use lib.Seq.{getD-set-same, getD-set-other}
-use Rattle.base.specs.Lists.{same, hasRow}
+use Rattle.base.specs.Lists.{hasRow}
 use Rattle.base.specs.Limits.{plan-depth, too-deep, unknown-child, when, firstOf}
-use Rattle.base.proofs.Tests.{Tells, told-false, tells-eqb, tells-ltb, tells-leb}
+use Rattle.base.proofs.Tests.{told-false, tells-eqb, tells-ltb, tells-leb, le-or-lt}
 use Rattle.model.specs.Fields.{numberOf}
 use Rattle.model.proofs.NameNumbers.{number-only, known-test}
 use Rattle.judging.proofs.OffsetLaws.{length-fields}
@@ -19,7 +19,7 @@ use Rattle.written_plans.specs.Written.{tag}
 use Rattle.written_plans.specs.Reading.{isChild, tagFault}
 use Rattle.plan_reading.specs.Scanning.{part}
 use Rattle.plan_reading.specs.Pieces.{openName, openNames}
-use Rattle.plan_reading.specs.Turns.{namesOf, chosenOf, judgeOf, Named, Numbered, TagJudged}
+use Rattle.plan_reading.specs.Turns.{namesOf, chosenOf, Named, Numbered, TagJudged}
 use Rattle.plan_reading.specs.declared.Sought.{Sought}
 
 -- ---- the names of the open elements
@@ -30,11 +30,12 @@ unfolding openNames
 open-count s stack zero = refl
 open-count s stack (suc d) = ap suc (open-count s stack d)
 
--- the name at a depth, and those up to it, stand on the numbers there
+-- the name at a depth is what it was where the numbers up to it are
 pub name-kept : (s stack stack′ : List ℕ) (d : ℕ) → ((j : ℕ) → j < 3 * (d + 1) → getD stack′ j 0 ≡ getD stack j 0)
     → openName s stack′ d ≡ openName s stack d
 name-kept s stack stack′ d kept = ap₂ (part s) (kept (3 * d) (omega arith)) (kept (3 * d + 1) (omega arith))
 
+-- and so are all names below a depth
 pub names-kept : (s stack stack′ : List ℕ) (d : ℕ) → ((j : ℕ) → j < 3 * d → getD stack′ j 0 ≡ getD stack j 0)
     → openNames s stack′ d ≡ openNames s stack d
 unfolding openNames
@@ -50,6 +51,7 @@ abbrev pub pushed : List ℕ → ℕ → ℕ → ℕ → ℕ → List ℕ
 pushed stack d from end number = set (set (set stack (3 * d) from) (3 * d + 1) end) (3 * d + 2) number
 
 module _ (stack : List ℕ) (d from end number : ℕ) where
+  -- it is as long as before
   pub pushed-length : length (pushed stack d from end number) ≡ length stack
   pushed-length =
       length-set (set (set stack (3 * d) from) (3 * d + 1) end) (3 * d + 2) number
@@ -67,6 +69,7 @@ module _ (stack : List ℕ) (d from end number : ℕ) where
       ∙ getD-set-other stack (3 * d) j from 0 not-from
 
   module _ (room : 3 * d + 2 < length stack) where
+    -- where its name begins
     pub pushed-from : getD (pushed stack d from end number) (3 * d) 0 ≡ from
     pushed-from =
         let not-end : 3 * d ≢ 3 * d + 1 = λ e. let z : ⊥ = omega arith in z in
@@ -75,12 +78,14 @@ module _ (stack : List ℕ) (d from end number : ℕ) where
         ∙ getD-set-other (set stack (3 * d) from) (3 * d + 1) (3 * d) end 0 not-end
         ∙ getD-set-same stack (3 * d) from 0 (omega arith)
 
+    -- where its name ends
     pub pushed-end : getD (pushed stack d from end number) (3 * d + 1) 0 ≡ end
     pushed-end =
         let not-number : 3 * d + 1 ≢ 3 * d + 2 = λ e. let z : ⊥ = omega arith in z in
         getD-set-other (set (set stack (3 * d) from) (3 * d + 1) end) (3 * d + 2) (3 * d + 1) number 0 not-number
         ∙ getD-set-same (set stack (3 * d) from) (3 * d + 1) end 0 (omega (arith, length-set stack (3 * d) from))
 
+    -- its number
     pub pushed-number : getD (pushed stack d from end number) (3 * d + 2) 0 ≡ number
     pushed-number =
         getD-set-same (set (set stack (3 * d) from) (3 * d + 1) end) (3 * d + 2) number 0
@@ -119,6 +124,19 @@ child-test list sought s stack (suc d) named numbered inner =
     sym (number-only (namesOf list sought) (named .ascends) (sought .chosen) some (openName s stack d))
     ∙ ap (λ (k : ℕ). eqb k (sought .chosen)) (sym (numbered d (omega arith)))
     ∙ ap (λ (i : ℕ). eqb (getD stack i 0) (sought .chosen)) place
+
+-- a tag that is not refused does not stand too deep
+pub fine-shallow :
+    (names : List (List ℕ)) (chosen s stack : List ℕ) (depth : ℕ) (name onward : List ℕ)
+    → tagFault names chosen (tag (openNames s stack depth) name onward) ≡ 0 → depth < plan-depth
+fine-shallow names chosen s stack depth name onward e =
+    ⊎-elim
+    (λ (h : plan-depth ≤ depth).
+    let deep : tagFault names chosen (tag (openNames s stack depth) name onward) ≡ too-deep =
+    fault-is names chosen (openNames s stack depth) name onward
+    (ap (leb plan-depth) (open-count s stack depth) ∙ tells-leb plan-depth depth .test h) refl refl in
+    let z : ⊥ = omega arith in absurd z)
+    (λ h. h) (le-or-lt plan-depth depth)
 
 module _ (stack : List ℕ) (depth number : ℕ) (sought : Sought) where
   -- a tag inside fewer elements does not stand too deep

@@ -2,35 +2,31 @@
 -- Assumes nothing.
 use mathlib.Core.Path.{_≡_, refl, sym, ap, ap₂, _∙_, subst}
 use mathlib.Core.Logic.{⊎-elim}
-use mathlib.Core.Bool.{Bool, true, false, cond}
+use mathlib.Core.Bool.{Bool, true, false, _&&_, cond}
 use mathlib.Core.List.{List, [], _∷_, _++_, map, map-append, append-nil, append-assoc}
 use Prim.Native.Nat.{ℕ, zero, suc, _+_, _*_, _≤_, _<_}
 use native.Mathlib.Omega.{arith}
-use lib.Dec.{eqb}
+use lib.Dec.{eqb, ltb}
 use lib.ListN.{length, getD, drop}
 use Rattle.base.specs.Limits.{plan-depth, bad-plan}
-use Rattle.base.proofs.Tests.{le-or-lt, told-false, tells-eqb}
+use Rattle.base.proofs.Tests.{Tells, not-told, told-false, tells-eqb, tells-ltb, tells-and, le-or-lt}
 use Rattle.model.specs.Fields.{numberOf}
 use Rattle.written_plans.specs.Written.{Tag, tag}
 use Rattle.written_plans.specs.Reading.{Place, before, inside, named, after, leave, tagFault, Reading, refusedAt, ended, withTags}
 use Rattle.written_plans.specs.Reading.{readPlan, Entry, entryOf}
 use Rattle.written_plans.specs.Logs.{entriesAt}
 use Rattle.plan_reading.specs.Scanning.{part}
-use Rattle.plan_reading.specs.Pieces.{openName, openNames, between, placeOf, reads, ReadsOn, Stops, Stacked, NameHere, Passed, Met}
-use Rattle.plan_reading.specs.Turns.{Numbered, Standing, Begun, entry, Turned, RefusedAs, Logged}
+use Rattle.plan_reading.specs.Pieces.{openName, openNames, between, placeOf, reads, ReadsOn, Stops, NameHere, Passed, Met}
+use Rattle.plan_reading.specs.Turns.{Numbered, Standing, Begun, ElementFrom, entry, Turned, RefusedAs, TurnFrom, Logged}
+use Rattle.plan_reading.specs.declared.Turn.{Turn}
+use Rattle.plan_reading.specs.declared.Turn.the-variants as turn
 use Rattle.plan_reading.specs.declared.pieces.Reached.{Reached}
 use Rattle.plan_reading.proofs.StepLaws.{reads-end, name-reads, name-refused}
+use Rattle.plan_reading.proofs.PieceLaws.{leave-between}
 use Rattle.plan_reading.proofs.StackLaws.{open-count, name-kept, names-kept, pushed, pushed-length, pushed-below}
 use Rattle.plan_reading.proofs.StackLaws.{pushed-from, pushed-end, pushed-number}
 
 -- ---- an element from the end of its name on
-
--- after an element that a tag began, reading stands where it leaves the element
-between-left : (around : List (List ℕ)) (tags : ℕ) → between around (tags + 1) ≡ leave around
-between-left [] tags =
-    let some : tags + 1 ≡ 0 → ⊥ = λ e. let z : ⊥ = omega arith in z in
-    ap (λ (b : Bool). cond b before after) (told-false (tells-eqb (tags + 1) 0) some)
-between-left (n ∷ around) tags = refl
 
 -- what holds below a depth and at it holds up to it
 by-depth : (P : ℕ → Type 0) (depth : ℕ) → ((d : ℕ) → d < depth → P d) → P depth → (d : ℕ) → d < depth + 1 → P d
@@ -50,7 +46,7 @@ module _ (names : List (List ℕ)) (s stack : List ℕ) (r : Reached) (from end 
       let was = stands .stacked in
       record {
         reads-on = λ judge.
-            on judge ∙ ap (λ (q : Place). reads judge s q at) (sym (between-left (openNames s stack (r .depth)) (r .tags)));
+            on judge ∙ ap (λ (q : Place). reads judge s q at) (leave-between (openNames s stack (r .depth)) (r .tags + 1) (omega arith));
         standing =
             record {
               stacked =
@@ -78,9 +74,11 @@ module _ (names : List (List ℕ)) (s stack : List ℕ) (r : Reached) (from end 
     has-room : 3 * r .depth + 2 < length stack
     has-room = omega (arith, stands .stacked .room)
 
+    -- where its name begins on it
     from-is : getD after-push (3 * r .depth) 0 ≡ from
     from-is = pushed-from stack (r .depth) from end number has-room
 
+    -- and where it ends
     end-is : getD after-push (3 * r .depth + 1) 0 ≡ end
     end-is = pushed-end stack (r .depth) from end number has-room
 
@@ -100,6 +98,7 @@ module _ (names : List (List ℕ)) (s stack : List ℕ) (r : Reached) (from end 
         ap (openNames s after-push) one-more
         ∙ ap₂ (λ (n : List ℕ) (ns : List (List ℕ)). n ∷ ns) new-name (names-kept s stack after-push (r .depth) kept)
 
+    -- the number of each stands beside it
     new-numbers : Numbered names s after-push (r .depth + 1)
     new-numbers =
         by-depth (λ (d : ℕ). getD after-push (3 * d + 2) 0 ≡ numberOf names (openName s after-push d)) (r .depth)
@@ -153,14 +152,14 @@ turn-stops judge s q i p stops = refused-as (reads judge s q i) [] bad-plan p (s
 
 module _ (names : List (List ℕ)) (judge : Tag → ℕ) (s stack log : List ℕ) (r : Reached) (stands : Standing names s stack r) where
   -- an end tag, or what stands before a tag
-  pub turn-past : (t : Reached) → Passed s stack (placeOf s stack r) (r .at) r t → t .depth ≤ r .depth
+  pub turn-past : (t : Reached) → Passed s stack (placeOf s stack r) (r .at) r t
       → Turned names judge s stack stack log log r t
-  turn-past t passed not-deeper =
+  turn-past t passed =
       record {
         met-tags = [];
         reads-on = passed .reads-on judge;
         logged = ap (entriesAt log 0) (passed .same-tags) ∙ sym (append-nil (entriesAt log 0 (r .tags)));
-        standing = record { stacked = passed .sound; numbered = λ d h. stands .numbered d (omega arith) };
+        standing = record { stacked = passed .sound; numbered = λ d h. stands .numbered d (omega (arith, passed .not-deeper)) };
         further = passed .further;
         same-room = refl;
       }
@@ -183,14 +182,14 @@ module _ (names : List (List ℕ)) (judge : Tag → ℕ) (s stack log : List ℕ
       goes-on = met .reads-on judge ∙ name-reads judge s from end (openNames s stack (r .depth)) (met .here) fine
 
       -- and comes to a byte that no plan can have there
-      pub turn-ended : (p : ℕ) → Stops s (named (openNames s stack (r .depth)) (part s from end)) end p
+      turn-ended : (p : ℕ) → Stops s (named (openNames s stack (r .depth)) (part s from end)) end p
           → RefusedAs (reads judge s (placeOf s stack r) (r .at)) bad-plan p
       turn-ended p stops =
           refused-as (reads judge s (placeOf s stack r) (r .at)) (newTag ∷ []) bad-plan p
           (goes-on ∙ ap (withTags (newTag ∷ [])) (stops judge)) (omega arith)
 
       -- or to the end of the tag, whose entry is in the log
-      pub turn-begun :
+      turn-begun :
           (stack′ log′ : List ℕ) (number : ℕ) (t : Reached) → number ≡ numberOf names (part s from end)
           → entriesAt log′ 0 (r .tags + 1) ≡ entriesAt log 0 (r .tags) ++ (entry number (r .depth) ∷ []) → length log′ ≡ length log
           → Begun names s stack stack′ (named (openNames s stack (r .depth)) (part s from end)) end r t
@@ -206,6 +205,16 @@ module _ (names : List (List ℕ)) (judge : Tag → ℕ) (s stack log : List ℕ
             further = omega (arith, met .further, met .here .some, begun .further);
             same-room = same-room;
           }
+
+      -- one of the two
+      pub turn-element :
+          (stack′ log′ : List ℕ) (number : ℕ) → number ≡ numberOf names (part s from end)
+          → entriesAt log′ 0 (r .tags + 1) ≡ entriesAt log 0 (r .tags) ++ (entry number (r .depth) ∷ []) → length log′ ≡ length log
+          → (t : Turn) → ElementFrom names s stack stack′ r from end t → TurnFrom names judge s stack stack′ log log′ r t
+      turn-element stack′ log′ number is-number put same-room (turn.Go t) begun =
+          turn-begun stack′ log′ number t is-number put same-room begun
+      turn-element stack′ log′ number is-number put same-room (turn.Refused k p) ended =
+          subst (λ (z : ℕ). RefusedAs (reads judge s (placeOf s stack r) (r .at)) z p) (sym (ended .0)) (turn-ended p (ended .1))
 
 -- ---- a whole plan
 
@@ -281,15 +290,23 @@ module _ (names : List (List ℕ)) (chosen s : List ℕ) where
     module _ (at-end : length s ≤ r .at) where
       -- what reading comes to at the plan's end
       comes-to : readPlan names chosen s ≡ withTags (so-far .met-tags) (ended (placeOf s stack r) (r .at))
-      comes-to = so-far .reads-on ∙ ap (withTags (so-far .met-tags)) (reads-end (tagFault names chosen) s (placeOf s stack r) (r .at) at-end)
+      comes-to =
+          so-far .reads-on
+          ∙ ap (withTags (so-far .met-tags)) (reads-end (tagFault names chosen) s (placeOf s stack r) (r .at) at-end)
+
+      -- the test of a plan that is done
+      tells-done : Tells (eqb (r .depth) 0 && ltb 0 (r .tags)) ((r .depth ≡ 0) × (0 < r .tags))
+      tells-done = tells-and (tells-eqb (r .depth) 0) (tells-ltb 0 (r .tags))
 
       -- after the outermost element
-      pub plan-read : r .depth ≡ 0 → 0 < r .tags → Logged names (readPlan names chosen s) s log (r .tags)
+      pub plan-read : (eqb (r .depth) 0 && ltb 0 (r .tags)) ≡ true → Logged names (readPlan names chosen s) s log (r .tags)
       unfolding openNames ended
-      plan-read outside some =
-          let none : eqb (r .tags) 0 ≡ false = told-false (tells-eqb (r .tags) 0) (λ (e : r .tags ≡ 0). let z : ⊥ = omega arith in z) in
+      plan-read test =
+          let done = tells-done .fact test in
+          let none : eqb (r .tags) 0 ≡ false =
+          told-false (tells-eqb (r .tags) 0) (λ (e : r .tags ≡ 0). let z : ⊥ = omega (arith, done .1) in z) in
           let is : ended (placeOf s stack r) (r .at) ≡ refusedAt 0 0 =
-          ap (λ (d : ℕ). ended (between (openNames s stack d) (r .tags)) (r .at)) outside
+          ap (λ (d : ℕ). ended (between (openNames s stack d) (r .tags)) (r .at)) (done .0)
           ∙ ap (λ (b : Bool). ended (cond b before after) (r .at)) none in
           let reading : readPlan names chosen s ≡ withTags (so-far .met-tags) (refusedAt 0 0) =
           comes-to ∙ ap (withTags (so-far .met-tags)) is in
@@ -301,7 +318,8 @@ module _ (names : List (List ℕ)) (chosen s : List ℕ) where
           }
 
       -- anywhere else
-      pub plan-unfinished : (r .depth ≡ 0 → 0 < r .tags → ⊥) → RefusedAs (readPlan names chosen s) bad-plan (r .at)
-      plan-unfinished elsewhere =
+      pub plan-unfinished : (eqb (r .depth) 0 && ltb 0 (r .tags)) ≡ false → RefusedAs (readPlan names chosen s) bad-plan (r .at)
+      plan-unfinished test =
+          let elsewhere : r .depth ≡ 0 → 0 < r .tags → ⊥ = λ none some. not-told tells-done test (none, some) in
           refused-as (readPlan names chosen s) (so-far .met-tags) bad-plan (r .at)
           (comes-to ∙ ap (withTags (so-far .met-tags)) (ends-badly s stack (r .depth) (r .tags) (r .at) elsewhere)) (omega arith)

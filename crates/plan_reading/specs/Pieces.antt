@@ -89,6 +89,7 @@ pub record Passed (s stack : List ℕ) (q : Place) (i : ℕ) (r t : Reached) : T
   pub sound : Stacked s stack t
   pub further : i < t .at
   pub same-tags : t .tags ≡ r .tags
+  pub not-deeper : t .depth ≤ r .depth
 
 -- a tag that begins an element is met, and read up to the end of its name
 pub record Met (s stack : List ℕ) (q : Place) (i : ℕ) (r : Reached) (from end : ℕ) : Type 0 where
@@ -101,6 +102,12 @@ abbrev pub PieceFrom : List ℕ → List ℕ → Place → ℕ → Reached → P
 PieceFrom s stack q i r (piece.Past t) = Passed s stack q i r t
 PieceFrom s stack q i r (piece.Name from end) = Met s stack q i r from end
 PieceFrom s stack q i r (piece.Bad p) = Stops s q i p
+
+-- a tag that is met has its `<` before its name
+abbrev pub AfterLess : Reached → Piece → Type 0
+AfterLess r (piece.Past t) = Unit {0}
+AfterLess r (piece.Name from end) = r .at < from
+AfterLess r (piece.Bad p) = Unit {0}
 
 -- the name of a tag that begins an element, wherever that may be: it begins at `at`, or there is none, and no end tag either
 abbrev pub NameFrom : List ℕ → ℕ → Piece → Type 0

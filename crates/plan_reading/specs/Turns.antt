@@ -2,12 +2,11 @@
 -- nothing.
 use mathlib.Core.Path.{_≡_}
 use mathlib.Core.List.{List, [], _++_, map}
-use Prim.Native.Nat.{ℕ, suc, _+_, _*_, _≤_, _<_}
+use Prim.Native.Nat.{ℕ, _+_, _*_, _≤_, _<_}
 use lib.ListN.{length, getD}
 use Rattle.base.specs.Limits.{input-limit, work-bytes, bad-plan}
 use Rattle.model.specs.Fields.{Ascends, numberOf}
 use Rattle.judging.specs.Offsets.{fieldsAt}
-use Rattle.name_search.specs.Search.{Indexed}
 use Rattle.written_plans.specs.Written.{Tag, tag}
 use Rattle.written_plans.specs.Reading.{Place, named, tagFault, Reading, withTags, readPlan, Entry, entryOf}
 use Rattle.written_plans.specs.Logs.{entriesAt}

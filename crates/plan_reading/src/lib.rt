@@ -16,9 +16,9 @@ use base::limits::PLAN_DEPTH;
 use base::limits::TOO_DEEP;
 use base::limits::UNKNOWN_CHILD;
 use base::numbers::wide8;
-use name_search::STARTS;
+use name_search::INDEX;
 use name_search::index_names;
-use name_search::number_of;
+use name_search::number_by_guess;
 ghost use mathlib.Core.Path.{_≡_};
 ghost use Prim.Native.Nat.{_*_, _≤_, _<_};
 ghost use lib.ListN.{length};
@@ -108,13 +108,13 @@ fn begin_element(
 fn read_piece(
     plan: &[u8],
     list: &[u8],
-    starts: &[usize; STARTS],
+    index: &[usize; INDEX],
     sought: Sought,
     stack: &mut [usize; STACK],
     log: &mut [u8],
     r: Reached,
 ) -> Turn
-    requires { ⌜ Indexed (now list) (sought .names) (now starts) ⌝ }
+    requires { ⌜ Indexed (now list) (sought .names) (now index) ⌝ }
     requires { ⌜ Named (now list) sought ⌝ }
     requires { ⌜ Room (now plan) (now log) ⌝ }
     requires { ⌜ Standing (namesOf (now list) sought) (now plan) (now stack) r ⌝ }
@@ -127,7 +127,7 @@ fn read_piece(
         Piece::Past(q) => Turn::Go(q),
         Piece::Bad(at) => Turn::Refused(BAD_PLAN, at),
         Piece::Name(from, end) => {
-            let number = number_of(list, starts, sought.names, &plan[from..end]);
+            let number = number_by_guess(list, index, sought.names, &plan[from..end]);
             let fault = tag_fault(stack, r.depth, number, sought);
             if fault != 0 {
                 return Turn::Refused(fault, end);
@@ -148,8 +148,8 @@ pub fn read_plan(plan: &[u8], list: &[u8], sought: Sought, log: &mut [u8]) -> Pl
         (now (plan .entry)) (now (log .exit)) r ⌝ }
     ensures { λ r. ⌜ length (now (log .exit)) ≡ length (now (log .entry)) ⌝ }
 {
-    let mut starts = [0usize; STARTS];
-    index_names(list, sought.names, &mut starts);
+    let mut index = [0usize; INDEX];
+    index_names(list, sought.names, &mut index);
     let mut stack = [0usize; STACK];
     let mut r = Reached {
         at: 0,
@@ -157,7 +157,7 @@ pub fn read_plan(plan: &[u8], list: &[u8], sought: Sought, log: &mut [u8]) -> Pl
         tags: 0,
     };
     while r.at < plan.len() {
-        let next = read_piece(plan, list, &starts, sought, &mut stack, log, r);
+        let next = read_piece(plan, list, &index, sought, &mut stack, log, r);
         match next {
             Turn::Go(q) => {
                 r = q;

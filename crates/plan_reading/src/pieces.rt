@@ -14,7 +14,7 @@ ghost use Prim.Native.Nat.{_≤_, _<_};
 ghost use lib.ListN.{length};
 ghost use Rattle.written_plans.specs.Reading.{opened};
 ghost use Rattle.plan_reading.specs.Pieces.{openNames, closingOf, placeOf, BeforeTag, followsName, Stacked};
-ghost use Rattle.plan_reading.specs.Pieces.{PieceFrom, NameFrom, CloseFrom};
+ghost use Rattle.plan_reading.specs.Pieces.{PieceFrom, AfterLess, NameFrom, CloseFrom};
 
 // Three numbers for each open element, the outermost first: where its name begins in the plan, where it ends, and its number.
 pub const STACK: usize = 3 * PLAN_DEPTH;
@@ -162,6 +162,7 @@ pub fn next_piece(plan: &[u8], stack: &[usize; STACK], r: Reached) -> Piece
     requires { ⌜ r .at < length (now plan) ⌝ }
     ensures { λ t. ⌜ PieceFrom (now (plan .entry)) (now (stack .entry))
         (placeOf (now (plan .entry)) (now (stack .entry)) r) (r .at) r t ⌝ }
+    ensures { λ t. ⌜ AfterLess r t ⌝ }
 {
     let at = before_tag(plan, r);
     if plan.len() <= at {

@@ -7,9 +7,10 @@ use native.Mathlib.Omega.{arith}
 use lib.Dec.{ltb, leb}
 use lib.ListN.{length}
 use borrow.Author.Tests.{ltb-false, leb-true, lt-ltb, le-ltb, le-leb, lt-leb}
-use Rattle.base.specs.Limits.{book-rows, row-limit, too-many, bad-row, when, firstOf}
+use Rattle.base.specs.Limits.{book-rows, row-limit, too-many, bad-row, bad-plan, when, firstOf}
 use Rattle.base.specs.Lists.{all}
 use Rattle.model.specs.Calls.{Refuses}
+use Rattle.model.proofs.LowNumbers.{when-low, first-low}
 use Rattle.written_plans.specs.Reading.{rowsFault}
 
 -- every row is within its limit
@@ -53,3 +54,10 @@ unfolding rowsFault shortRows
 rows-passed rows e =
     let r = passed (ltb book-rows (length rows)) (shortRows rows) e in
     (ltb-false book-rows (length rows) (r .0), r .1)
+
+-- their numbers are below those of plans
+pub rows-low : (rows : List (List ℕ)) → rowsFault rows < bad-plan
+unfolding rowsFault
+rows-low rows =
+    first-low (when (ltb book-rows (length rows)) too-many) _ (when-low (ltb book-rows (length rows)) too-many (omega arith))
+    (when-low (not (all (λ (row : List ℕ). leb (length row) row-limit) rows)) bad-row (omega arith))

@@ -29,7 +29,7 @@ use Rattle.written_plans.specs.Claims.{ReadingTells, Faultless, Known}
 use Rattle.written_plans.proofs.FirstFault.{reading-tells}
 use Rattle.written_plans.proofs.Rows.{rows-are-traces}
 use Rattle.written_plans.proofs.KnownChildren.{children-are-known}
-use Rattle.plan_rows.proofs.Faults.{rows-passed, shortRows}
+use Rattle.plan_rows.proofs.Faults.{rows-passed, rows-low, shortRows}
 use Rattle.plan_rows.proofs.Lengths.{rows-length}
 use Rattle.results.specs.declared.PlanRows.{PlanRows}
 use Rattle.results.specs.Says.{plan-rows, readingRows}
@@ -45,12 +45,6 @@ asked-low plan list chosen work =
     (first-low (sizesFault list work) _ (when-low (SizesBad list work) bad-sizes (omega arith))
     (first-low (readNames list .number) _ (fields-low standard name-list list)
     (when-low (leb (length (namesOf list)) chosen) bad-row (omega arith))))
-
-rows-low : (rows : List (List ℕ)) → rowsFault rows < bad-plan
-unfolding rowsFault
-rows-low rows =
-    first-low (when (ltb book-rows (length rows)) too-many) _ (when-low (ltb book-rows (length rows)) too-many (omega arith))
-    (when-low (not (all (λ (row : List ℕ). leb (length row) row-limit) rows)) bad-row (omega arith))
 
 -- where the first of three refusals has a number of 14 or more and only the second can, it is the second
 the-second : (a b c d : ℕ) → a < bad-plan → c < bad-plan → d < bad-plan → bad-plan ≤ firstOf (firstOf a (firstOf b c)) d

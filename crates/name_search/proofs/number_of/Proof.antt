@@ -1,25 +1,26 @@
 -- `number_of` meets its contract. The loop's invariant: the name stands at no place below low, nor from high on. Assumes nothing.
-use mathlib.Core.Path.{_≡_, sym, ap, _∙_, subst}
+use mathlib.Core.Path.{_≡_, sym, _∙_}
 use mathlib.Core.List.{List, []}
 use Prim.Native.Nat.{ℕ, _+_, _-_, _/_, _≤_, _<_}
 use native.Mathlib.Omega.{arith}
 use borrow.Author.Needs.{needs}
 use lib.ListN.{length, getD}
 use Rattle.base.specs.Limits.{name-limit}
-use Rattle.judging.specs.Offsets.{bodyAt, nextAt, offsetAt, fieldsAt}
-use Rattle.judging.proofs.OffsetLaws.{field-within, field-at, length-fields}
+use Rattle.judging.specs.Offsets.{fieldsAt}
+use Rattle.judging.proofs.OffsetLaws.{length-fields}
 use Rattle.name_search.specs.Search.{Ordered}
 use Rattle.name_search.specs.declared.Order.{Order}
 use Rattle.name_search.specs.declared.Order.the-variants as order
+use Rattle.name_search.proofs.SearchLaws.{noted-within, noted-ordered}
 use Rattle.name_search.proofs.SearchLaws.{PlacesLeft, all-left, none-left, lower-half, upper-half, found-at}
 use Rattle.name_search.proofs.number_of.Statement.{statement}
 use Rattle.name_search.proofs.number_of.Tie as tie
 
 abbrev Inv-loop : tie.InvT-loop
-Inv-loop list starts count name low₀ high₀ low high = (high ≤ count) × PlacesLeft (fieldsAt list 0 count) name low high
+Inv-loop list index count name low₀ high₀ low high = (high ≤ count) × PlacesLeft (fieldsAt list 0 count) name low high
 
 abbrev μ-loop : tie.MeasureT-loop
-μ-loop list starts count name low₀ high₀ low high = high - low
+μ-loop list index count name low₀ high₀ low high = high - low
 
 -- the function's entry, from the loop's turn; the names; the number of the one halfway; and that turn, from where names are compared
 abbrev entry : tie.In-loop Inv-loop μ-loop → tie.Start Inv-loop μ-loop
@@ -41,27 +42,17 @@ halfway c = (omega (arith, c .before .loop .inv .0), entry c .pre .0 .few)
 inside : (c : tie.In-loop Inv-loop μ-loop) → middle c < length (names c)
 inside c = omega (arith, halfway c .0, length-fields (entry c .args .list .now) 0 (entry c .args .count))
 
--- and its field begins at the offset noted
-begins :
-    (c : tie.After-wide8 Inv-loop μ-loop) → let args = entry (c .before) .args in
-    getD (args .starts .now) (c .wide8 .result) 0 ≡ offsetAt (args .list .now) 0 (middle (c .before))
-begins c =
-    ap (λ (i : ℕ). getD (entry (c .before) .args .starts .now) i 0) (c .wide8 .ensures)
-    ∙ entry (c .before) .pre .0 .begins (middle (c .before)) (halfway (c .before) .0)
-
--- what the comparison with the name halfway says of its answer
+-- what the comparison with that name says of its answer
 compared :
     (c : tie.After-compare Inv-loop μ-loop) (r : Order) → c .compare .result ≡ r →
     Ordered (entry (turn c) .args .name .now) (getD (names (turn c)) (middle (turn c)) []) r
 compared c r e =
     let here = turn c in
     let args = entry here .args in
-    let list = args .list .now in
-    let name-is =
-    c .before .body .ensures ∙ ap (bodyAt list) (begins (c .before .before .before))
-    ∙ sym (field-at list 0 (args .count) (middle here) (halfway here .0)) in
-    subst (λ (r : Order). Ordered (args .name .now) (getD (names here) (middle here) []) r) e
-    (subst (λ (n : List ℕ). Ordered (args .name .now) n (c .compare .result)) name-is (c .compare .ensures))
+    let read = c .before .before .before .wide8 in
+    noted-ordered (args .list .now) (args .index .now) (args .count) (entry here .pre .0) (read .result) (middle here)
+    (read .ensures) (halfway here .0) (args .name .now) (c .before .body .result .now) (c .compare .result) r (c .before .body .ensures)
+    (c .compare .ensures) e
 
 loop-holds : tie.Need-loop-holds Inv-loop μ-loop
 loop-holds c =
@@ -84,10 +75,10 @@ element-copy-out-body c = omega (arith, c .wide8 .ensures, halfway (c .before))
 body-requires : tie.Need-body-requires Inv-loop μ-loop
 body-requires c κs =
     let here = c .before .before in
-    let list = entry here .args .list .now in
-    let count = entry here .args .count in
-    subst (λ (a : ℕ). nextAt list a ≤ length list) (sym (begins (c .before)))
-    (omega (arith, entry here .pre .0 .within, field-within list 0 count (middle here) (halfway here .0)))
+    let args = entry here .args in
+    let read = c .before .wide8 in
+    noted-within (args .list .now) (args .index .now) (args .count) (entry here .pre .0) (read .result) (middle here) (read .ensures)
+    (halfway here .0)
 
 compare-requires : tie.Need-compare-requires Inv-loop μ-loop
 compare-requires c κs = search needs

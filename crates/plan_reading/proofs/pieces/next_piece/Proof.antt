@@ -1,7 +1,7 @@
 -- `pieces::next_piece` meets its contract. Assumes nothing.
-use Prim.Native.Nat.{_≤_}
+use Prim.Native.Nat.{_+_, _≤_}
 use native.Mathlib.Omega.{arith}
-use Rattle.plan_reading.proofs.PieceLaws.{stacked-on, piece-after, only-before, no-tag, second-element, tag-next}
+use Rattle.plan_reading.proofs.PieceLaws.{stacked-on, piece-after, after-less, only-before, no-tag, second-element, tag-next}
 use borrow.Author.Needs.{needs}
 use Rattle.plan_reading.proofs.pieces.next_piece.Statement.{statement}
 use Rattle.plan_reading.proofs.pieces.next_piece.Tie as tie
@@ -16,7 +16,7 @@ returns c =
     let s = start .args .plan .now in
     let stack = start .args .stack .now in
     let r = start .args .r in
-    only-before s stack r (run .result) (run .ensures) (start .pre .0) (start .pre .1) (c .if1 .taken)
+    (only-before s stack r (run .result) (run .ensures) (start .pre .0) (start .pre .1) (c .if1 .taken), tt)
 
 shared-slice-read-if2 : tie.Need-shared-slice-read-if2
 shared-slice-read-if2 c = search needs
@@ -29,7 +29,7 @@ returns-2 c =
     let s = start .args .plan .now in
     let stack = start .args .stack .now in
     let r = start .args .r in
-    no-tag s stack r (run .result) (run .ensures) (more .if1 .left) (c .if2 .taken)
+    (no-tag s stack r (run .result) (run .ensures) (more .if1 .left) (c .if2 .taken), tt)
 
 returns-3 : tie.Need-returns-3
 returns-3 c =
@@ -39,7 +39,7 @@ returns-3 c =
     let s = start .args .plan .now in
     let stack = start .args .stack .now in
     let r = start .args .r in
-    second-element s stack r (run .result) (run .ensures) (more .if1 .left) (c .if3 .taken)
+    (second-element s stack r (run .result) (run .ensures) (more .if1 .left) (c .if3 .taken), tt)
 
 add-t5 : tie.Need-add-t5
 add-t5 c = search needs
@@ -64,8 +64,10 @@ returns-4 c =
     let stack = start .args .stack .now in
     let r = start .args .r in
     let onward : r .at ≤ run .result = run .ensures .onward in
-    let first = tag-next s stack r (run .result) (run .ensures) (more .if1 .left) (opens .if2 .left) (c .before .if3 .left) in
-    piece-after s stack _ (r .at) r _ _ first (omega arith) (c .tag-at .result) (c .tag-at .ensures)
+    let first = tag-next s stack r (run .result) (run .ensures) (more .if1 .left) (opens .if2 .left) (c .before .if3 .left) in (
+      piece-after s stack _ (r .at) r _ _ first (omega arith) (c .tag-at .result) (c .tag-at .ensures),
+      after-less s stack _ (run .result + 1) r _ (omega arith) (c .tag-at .result) (c .tag-at .ensures),
+    )
 
 pub next-piece-spec : {M : Type 1} → statement M
 next-piece-spec =
