@@ -23,7 +23,7 @@ impl Plan {
 /// The child names of a clinic's days and the name of the days, in ascending order: the list that `plans rows` makes.
 const DAY_NAMES: [&str; 8] = ["breakfast", "day", "dinner", "fluids", "lunch", "medication", "snack", "supplement"];
 
-/// What a clinic's day holds, in order: the name, in how many of four days it stands, and its texts.
+/// What a clinic's day holds, in order: the name, in how many of four days it stands, and its texts, none where it holds courses.
 const DAY: [(&str, usize, &[&str]); 8] = [
     ("medication", 1, &["before breakfast, with water", "after breakfast", "one tablet, not with milk"]),
     (
@@ -78,9 +78,9 @@ fn clinic_day(random: &mut Random) -> String {
     day + "  </day>\n"
 }
 
-/// The plan of an element that holds as many of these parts as there is room for, then white space.
-fn filled(outermost: &str, end: &str, parts: impl Iterator<Item = String>) -> Vec<u8> {
-    let mut plan = outermost.to_string();
+/// The plan between whose begin and end stand as many of these parts as there is room for, then white space.
+fn filled(begin: &str, end: &str, parts: impl Iterator<Item = String>) -> Vec<u8> {
+    let mut plan = begin.to_string();
     for part in parts {
         if plan.len() + part.len() + end.len() > INPUT_LIMIT {
             break;
