@@ -22,9 +22,8 @@ struct Reading {
     against: Against,
     /// How many rows the plan gives.
     rows: u32,
-    library: Times<1>,
-    /// Infinite where the machine has no expat.
-    expat: Times<1>,
+    /// Of the library and of expat; of nothing in its place, where the machine has none.
+    times: Times<2>,
 }
 
 pub struct Readings {
@@ -55,8 +54,7 @@ impl Readings {
     pub fn time(&mut self, effort: Effort) {
         let Readings { readings, work, out, timer } = self;
         for reading in readings {
-            reading.time_library(work, out, timer, effort);
-            reading.time_expat(timer, effort);
+            reading.time(work, out, timer, effort);
         }
     }
 
@@ -71,19 +69,19 @@ impl Readings {
         println!("{case:26}{elements:>10}{rows:>6}{library:>10}{expat:>9}{ratio:>8}{dense:>10}{memset:>8}");
         for reading in &self.readings {
             let to_dense = match reading.against {
-                Against::Expat(_) => None,
-                Against::TagDense(at) => Some(ratio_of(reading.library, self.readings[at].library)),
+                Against::Expat(bar) => {
+                    reading.hold_to_expat(bar, bars);
+                    None
+                }
+                Against::TagDense(at) => {
+                    let ratio = reading.nanoseconds() / self.readings[at].nanoseconds();
+                    bars.take(Bar::NestedPlan, ratio, reading.name);
+                    Some(ratio)
+                }
             };
             reading.show(to_dense);
-            reading.hold(to_dense, bars);
         }
     }
-}
-
-/// How many times as long one call takes as another.
-fn ratio_of(one: Times<1>, other: Times<1>) -> f64 {
-    let ([one], [other]) = (one.nanoseconds(), other.nanoseconds());
-    one / other
 }
 
 /// The figure with so many digits behind the point, or nothing.
@@ -94,7 +92,7 @@ fn figure(figure: Option<f64>, digits: usize) -> String {
 impl Reading {
     fn new(name: &'static str, plan: Plan, against: Against) -> Reading {
         let list = plan.list();
-        Reading { name, plan, list, against, rows: 0, library: Times::NONE, expat: Times::NONE }
+        Reading { name, plan, list, against, rows: 0, times: Times::NONE }
     }
 
     fn compare(&mut self, work: &mut [u8], out: &mut [u8]) -> Result<(), String> {
@@ -113,43 +111,42 @@ impl Reading {
         }
     }
 
-    fn time_library(&mut self, work: &mut [u8], out: &mut [u8], timer: &mut Timer, effort: Effort) {
-        let Reading { plan, list, .. } = self;
+    fn time(&mut self, work: &mut [u8], out: &mut [u8], timer: &mut Timer, effort: Effort) {
+        let Reading { plan, list, times, .. } = self;
         let mut read = || {
             black_box(library::read_rows(black_box(&plan.bytes), list, plan.chosen, work, out));
         };
-        self.library = self.library.or_less(timer.time([&mut read], effort));
+        let mut parse = || {
+            black_box(EXPAT.map(|expat| (expat.parse)(black_box(&plan.bytes))));
+        };
+        *times = times.or_less(timer.time([&mut read, &mut parse], effort));
     }
 
-    fn time_expat(&mut self, timer: &mut Timer, effort: Effort) {
-        let Some(expat) = EXPAT else {
-            return;
-        };
-        let mut parse = || {
-            black_box((expat.parse)(black_box(&self.plan.bytes)));
-        };
-        self.expat = self.expat.or_less(timer.time([&mut parse], effort));
+    /// The library's time.
+    fn nanoseconds(&self) -> f64 {
+        let [library, _] = self.times.nanoseconds();
+        library
     }
 
     /// The library's time to expat's, where the machine has expat.
     fn to_expat(&self) -> Option<f64> {
-        EXPAT.map(|_| ratio_of(self.library, self.expat))
+        let [library, expat] = self.times.nanoseconds();
+        EXPAT.map(|_| library / expat)
     }
 
     fn show(&self, to_dense: Option<f64>) {
-        let ([library], [expat]) = (self.library.in_memsets(), self.expat.in_memsets());
+        let [library, expat] = self.times.in_memsets();
         let expat = figure(EXPAT.map(|_| expat), 1);
         let [ratio, to_dense] = [self.to_expat(), to_dense].map(|ratio| figure(ratio, 2));
         let elements = self.plan.bytes.windows(2).filter(|pair| pair[0] == b'<' && pair[1] != b'/').count();
-        let (name, rows, memset) = (self.name, self.rows, self.library.memset());
+        let (name, rows, memset) = (self.name, self.rows, self.times.memset());
         println!("{name:26}{elements:>10}{rows:>6}{library:10.1}{expat:>9}{ratio:>8}{to_dense:>10}{memset:8.0}");
     }
 
-    fn hold(&self, to_dense: Option<f64>, bars: &mut Bars) {
-        match (&self.against, self.to_expat()) {
-            (Against::Expat(bar), Some(ratio)) => bars.take(*bar, ratio, self.name),
-            (Against::Expat(bar), None) => bars.leave_out(*bar, "this machine has no expat"),
-            (Against::TagDense(_), _) => bars.take(Bar::NestedPlan, to_dense.unwrap_or(f64::INFINITY), self.name),
+    fn hold_to_expat(&self, bar: Bar, bars: &mut Bars) {
+        match self.to_expat() {
+            Some(ratio) => bars.take(bar, ratio, self.name),
+            None => bars.leave_out(bar, "this machine has no expat"),
         }
     }
 }
