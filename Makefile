@@ -25,7 +25,7 @@ help:
 	@echo "make test-install  an installation: every example built by pkg-config alone, and nothing left after uninstall"
 	@echo "make seeded-fault  faults put into copies of the library, which test-outside must find"
 	@echo "make fuzz SECONDS=600   the comparison of test-outside with new inputs, as long as asked"
-	@echo "make bench         what calls cost, as multiples of one memset and beside a second implementation"
+	@echo "make bench         what calls cost, as multiples of one memset, beside a second implementation and beside expat"
 	@echo "make bench-search SECONDS=300   looks for books that cost more"
 	@echo "make fmt           puts every .rt and .antt file into the layout"
 

@@ -10,8 +10,8 @@ pub enum Tag {
 }
 
 type Parser = *mut c_void;
-type StartHandler = unsafe extern "C" fn(*mut c_void, *const c_char, *const *const c_char);
-type EndHandler = unsafe extern "C" fn(*mut c_void, *const c_char);
+pub type StartHandler = unsafe extern "C" fn(*mut c_void, *const c_char, *const *const c_char);
+pub type EndHandler = unsafe extern "C" fn(*mut c_void, *const c_char);
 
 extern "C" {
     fn XML_ParserCreate(encoding: *const c_char) -> Parser;
@@ -31,18 +31,27 @@ unsafe extern "C" fn on_end(data: *mut c_void, _name: *const c_char) {
     unsafe { &mut *data.cast::<Vec<Tag>>() }.push(Tag::End);
 }
 
-/// The tags of a document in their order; none where expat does not accept it.
-pub fn tags(document: &[u8]) -> Option<Vec<Tag>> {
-    let mut tags: Vec<Tag> = vec![];
-    // SAFETY: expat reads the document within its length, and hands `tags`, which outlives the parser, to the handlers alone
-    let accepted = unsafe {
+/// Whether expat accepts the document; it calls the handlers with `data`.
+///
+/// # Safety
+/// Throughout the call, `data` is what the handlers expect.
+pub unsafe fn parse(document: &[u8], data: *mut c_void, start: StartHandler, end: EndHandler) -> bool {
+    // SAFETY: expat reads the document within its length; the parser is freed once
+    unsafe {
         let parser = XML_ParserCreate(std::ptr::null());
         assert!(!parser.is_null(), "expat has no memory");
-        XML_SetUserData(parser, (&raw mut tags).cast());
-        XML_SetElementHandler(parser, on_start, on_end);
+        XML_SetUserData(parser, data);
+        XML_SetElementHandler(parser, start, end);
         let status = XML_Parse(parser, document.as_ptr().cast(), document.len() as c_int, 1);
         XML_ParserFree(parser);
         status == 1
-    };
+    }
+}
+
+/// The tags of a document in their order; none where expat does not accept it.
+pub fn tags(document: &[u8]) -> Option<Vec<Tag>> {
+    let mut tags: Vec<Tag> = vec![];
+    // SAFETY: `tags`, which the handlers expect, outlives the call
+    let accepted = unsafe { parse(document, (&raw mut tags).cast(), on_start, on_end) };
     accepted.then_some(tags)
 }
