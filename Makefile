@@ -61,7 +61,7 @@ check: kit
 lib: $(LIBRARY) $(SHARED)
 
 $(LIBRARY): always
-	@scripts/anew $@ handed_over rt staticlib plans
+	@scripts/anew $@ 'handed_over rows_handed_over' rt staticlib plans
 
 $(SHARED): $(LIBRARY) VERSION scripts/plans.map
 	@command -v gcc >/dev/null || { echo "make: the command 'gcc' is missing: it is in Debian's package gcc"; exit 1; }

@@ -49,12 +49,12 @@ table-bytes = 5830
 abbrev pub listing-bytes : ℕ
 listing-bytes = 32768
 
--- an element of a plan stands inside at most so many others
+-- elements of a plan are nested at most so deep
 abbrev pub plan-depth : ℕ
 plan-depth = 16
 
 -- the rows of a plan have at most so many bytes: 256 row fields of 64 entries. It follows from the limits: `rows-length` of
--- plan_rows/proofs
+-- plan_rows/proofs/Lengths.antt
 abbrev pub rows-bytes : ℕ
 rows-bytes = 17152
 

@@ -31,7 +31,7 @@ pub const TABLE_BYTES: usize = 5830;
 
 pub const LISTING_BYTES: usize = 32768;
 
-// An element of a plan stands inside at most so many others; the rows of a plan have at most so many bytes.
+// Elements of a plan are nested at most so deep; the rows of a plan have at most so many bytes.
 pub const PLAN_DEPTH: usize = 16;
 
 pub const ROWS_BYTES: usize = 17152;

@@ -13,21 +13,21 @@ use Rattle.base.specs.Lists.{same, before, hasRow}
 use Rattle.base.proofs.Tests.{told-false, same-tests, tells-eqb, tells-ltb, tells-same, tells-hasRow, le-or-lt, word-dec, before-self}
 use Rattle.base.proofs.Tests.{before-trans}
 use Rattle.base.proofs.Places.{nth-in}
-use Rattle.model.specs.Fields.{Ascends, numberOf}
+use Rattle.model.specs.Fields.{Ascends, nameNumber}
 
 -- the first has the number 0, others one more than among the rest
-number-here : (n m : List ℕ) (names : List (List ℕ)) → n ≡ m → numberOf (m ∷ names) n ≡ 0
-unfolding numberOf
-number-here n m names e = rw (tells-same n m .test e, numberOf)
+number-here : (n m : List ℕ) (names : List (List ℕ)) → n ≡ m → nameNumber (m ∷ names) n ≡ 0
+unfolding nameNumber
+number-here n m names e = rw (tells-same n m .test e, nameNumber)
 
-number-there : (n m : List ℕ) (names : List (List ℕ)) → (n ≡ m → ⊥) → numberOf (m ∷ names) n ≡ suc (numberOf names n)
-unfolding numberOf
-number-there n m names d = rw (told-false (tells-same n m) d, numberOf)
+number-there : (n m : List ℕ) (names : List (List ℕ)) → (n ≡ m → ⊥) → nameNumber (m ∷ names) n ≡ suc (nameNumber names n)
+unfolding nameNumber
+number-there n m names d = rw (told-false (tells-same n m) d, nameNumber)
 
 -- a name that stands there has the number of its place
 pub number-of-known :
     (names : List (List ℕ)) (n : List ℕ) → In n names →
-    (numberOf names n < length names) × (getD names (numberOf names n) [] ≡ n)
+    (nameNumber names n < length names) × (getD names (nameNumber names n) [] ≡ n)
 number-of-known [] n m = absurd (List·Memᴰ·not-nil m)
 number-of-known (x ∷ names) n m = go (word-dec n x) (number-of-known names n) (List·Memᴰ·cases-cons m)
   where
@@ -36,18 +36,18 @@ number-of-known (x ∷ names) n m = go (word-dec n x) (number-of-known names n) 
 
     go :
         (n ≡ x) ⊎ (n ≡ x → ⊥) →
-        (In n names → (numberOf names n < length names) × (getD names (numberOf names n) [] ≡ n)) →
-        (n ≡ x) ⊎ In n names → Known (numberOf (x ∷ names) n)
+        (In n names → (nameNumber names n < length names) × (getD names (nameNumber names n) [] ≡ n)) →
+        (n ≡ x) ⊎ In n names → Known (nameNumber (x ∷ names) n)
     go (inl e) again k = subst Known (sym (number-here n x names e)) (omega arith, sym e)
     go (inr d) again (inl e) = absurd (d e)
     go (inr d) again (inr k) =
         let r = again k in
-        let low : numberOf names n < length names = r .0 in
+        let low : nameNumber names n < length names = r .0 in
         subst Known (sym (number-there n x names d)) (omega arith, r .1)
 
 -- any other has the number of names
-pub number-of-unknown : (names : List (List ℕ)) (n : List ℕ) → (In n names → ⊥) → numberOf names n ≡ length names
-unfolding numberOf
+pub number-of-unknown : (names : List (List ℕ)) (n : List ℕ) → (In n names → ⊥) → nameNumber names n ≡ length names
+unfolding nameNumber
 number-of-unknown [] n out = refl
 number-of-unknown (x ∷ names) n out =
     number-there n x names (λ e. out (here e)) ∙ ap suc (number-of-unknown names n (λ m. out (there m)))
@@ -60,33 +60,33 @@ known-or-not (x ∷ names) n =
     (λ d. ⊎-elim (λ m. inl (there m)) (λ out. inr (λ m. ⊎-elim d out (List·Memᴰ·cases-cons m))) (known-or-not names n))
     (word-dec n x)
 
-pub number-within : (names : List (List ℕ)) (n : List ℕ) → numberOf names n ≤ length names
+pub number-within : (names : List (List ℕ)) (n : List ℕ) → nameNumber names n ≤ length names
 number-within names n =
     ⊎-elim (λ (m : In n names). omega (arith, number-of-known names n m .0))
     (λ (out : In n names → ⊥). omega (arith, number-of-unknown names n out)) (known-or-not names n)
 
 -- a number below that of names is the number of one of them
-pub known-by-number : (names : List (List ℕ)) (n : List ℕ) → numberOf names n < length names → In n names
+pub known-by-number : (names : List (List ℕ)) (n : List ℕ) → nameNumber names n < length names → In n names
 known-by-number names n low =
     ⊎-elim (λ (m : In n names). m)
     (λ (out : In n names → ⊥). let z : ⊥ = omega (arith, number-of-unknown names n out) in absurd z) (known-or-not names n)
 
 -- and there stands that name
-pub name-of-number : (names : List (List ℕ)) (n : List ℕ) → numberOf names n < length names → getD names (numberOf names n) [] ≡ n
+pub name-of-number : (names : List (List ℕ)) (n : List ℕ) → nameNumber names n < length names → getD names (nameNumber names n) [] ≡ n
 name-of-number names n low = number-of-known names n (known-by-number names n low) .1
 
 -- names with one number are equal
 pub equal-numbers :
-    (names : List (List ℕ)) (a b : List ℕ) → In a names → In b names → numberOf names a ≡ numberOf names b → a ≡ b
+    (names : List (List ℕ)) (a b : List ℕ) → In a names → In b names → nameNumber names a ≡ nameNumber names b → a ≡ b
 equal-numbers names a b m k e =
     sym (number-of-known names a m .1) ∙ ap (λ (i : ℕ). getD names i []) e ∙ number-of-known names b k .1
 
 -- ---- ascending names
 
 -- so a name is told by its number
-pub known-test : (names : List (List ℕ)) (n : List ℕ) → hasRow n names ≡ ltb (numberOf names n) (length names)
+pub known-test : (names : List (List ℕ)) (n : List ℕ) → hasRow n names ≡ ltb (nameNumber names n) (length names)
 known-test names n =
-    same-tests (tells-hasRow n names) (tells-ltb (numberOf names n) (length names)) (λ m. number-of-known names n m .0)
+    same-tests (tells-hasRow n names) (tells-ltb (nameNumber names n) (length names)) (λ m. number-of-known names n m .0)
     (known-by-number names n)
 
 module _ (names : List (List ℕ)) (ascending : Ascends names) where
@@ -129,18 +129,18 @@ module _ (names : List (List ℕ)) (ascending : Ascends names) where
       (le-or-lt i j)
 
   -- the name at a place has that number
-  pub number-at-place : (i : ℕ) → i < length names → numberOf names (getD names i []) ≡ i
+  pub number-at-place : (i : ℕ) → i < length names → nameNumber names (getD names i []) ≡ i
   number-at-place i h =
-      let n = numberOf names (getD names i []) in
+      let n = nameNumber names (getD names i []) in
       let known = number-of-known names (getD names i []) (nth-in [] names i h) in
       let low : n ≤ i = same-place n i (known .0) (known .1) in
       let high : i ≤ n = same-place i n h (sym (known .1)) in
       omega arith
 
   -- and no other name has it
-  pub number-only : (i : ℕ) → i < length names → (n : List ℕ) → eqb (numberOf names n) i ≡ same n (getD names i [])
+  pub number-only : (i : ℕ) → i < length names → (n : List ℕ) → eqb (nameNumber names n) i ≡ same n (getD names i [])
   number-only i h n =
-      same-tests (tells-eqb (numberOf names n) i) (tells-same n (getD names i []))
-      (λ (e : numberOf names n ≡ i).
+      same-tests (tells-eqb (nameNumber names n) i) (tells-same n (getD names i []))
+      (λ (e : nameNumber names n ≡ i).
       sym (name-of-number names n (omega arith)) ∙ ap (λ (k : ℕ). getD names k []) e)
-      (λ e. ap (numberOf names) e ∙ number-at-place i h)
+      (λ e. ap (nameNumber names) e ∙ number-at-place i h)

@@ -151,9 +151,9 @@ pub record Ascends (names : List (List ℕ)) : Type 0 where
   pub in-order : (i j : ℕ) → i < j → j < length names → before (getD names i []) (getD names j []) ≡ true
 
 -- the number of a name among these names, by its bytes; how many names there are where it is none of them
-unfoldable pub numberOf : List (List ℕ) → List ℕ → ℕ
-numberOf [] n = 0
-numberOf (m ∷ names) n = elim (same n m) [ true ↦ 0 | false ↦ suc (numberOf names n) ]
+unfoldable pub nameNumber : List (List ℕ) → List ℕ → ℕ
+nameNumber [] n = 0
+nameNumber (m ∷ names) n = elim (same n m) [ true ↦ 0 | false ↦ suc (nameNumber names n) ]
 
 -- a class: 8
 unfoldable pub classFault : List ℕ → ℕ

@@ -8,7 +8,7 @@ use native.Mathlib.Omega.{arith}
 use lib.ListN.{length, getD}
 use Rattle.base.specs.Lists.{before}
 use Rattle.base.proofs.Places.{place-of}
-use Rattle.model.specs.Fields.{Ascends, numberOf}
+use Rattle.model.specs.Fields.{Ascends, nameNumber}
 use Rattle.model.proofs.NameNumbers.{number-of-unknown, number-at-place, places-below, places-above}
 use Rattle.judging.specs.Offsets.{bodyAt, nextAt, offsetAt, fieldsAt}
 use Rattle.judging.proofs.OffsetLaws.{field-within, field-at}
@@ -43,7 +43,7 @@ module _ (names : List (List ℕ)) (name : List ℕ) where
   all-left count size = record { left = λ i h e. (omega arith, omega arith) }
 
   -- no place is left
-  pub none-left : (low high : ℕ) → high ≤ low → PlacesLeft names name low high → numberOf names name ≡ length names
+  pub none-left : (low high : ℕ) → high ≤ low → PlacesLeft names name low high → nameNumber names name ≡ length names
   none-left low high h between =
       number-of-unknown names name
       (λ m.
@@ -67,6 +67,6 @@ module _ (names : List (List ℕ)) (name : List ℕ) where
         }
 
   pub found-at :
-      Ascends names → (middle : ℕ) → middle < length names → name ≡ getD names middle [] → numberOf names name ≡ middle
+      Ascends names → (middle : ℕ) → middle < length names → name ≡ getD names middle [] → nameNumber names name ≡ middle
   found-at ascending middle inside e =
-      subst (λ (z : List ℕ). numberOf names z ≡ middle) (sym e) (number-at-place names ascending middle inside)
+      subst (λ (z : List ℕ). nameNumber names z ≡ middle) (sym e) (number-at-place names ascending middle inside)

@@ -9,7 +9,7 @@ ghost use mathlib.Core.Path.{_≡_};
 ghost use Prim.Native.Nat.{_≤_, _<_};
 ghost use lib.ListN.{length};
 ghost use Rattle.base.specs.Limits.{name-limit};
-ghost use Rattle.model.specs.Fields.{Ascends, numberOf};
+ghost use Rattle.model.specs.Fields.{Ascends, nameNumber};
 ghost use Rattle.judging.specs.Offsets.{offsetAt, fieldsAt};
 ghost use Rattle.name_search.specs.Search.{hashes, Ordered, Indexed};
 
@@ -90,7 +90,7 @@ pub fn index_names(list: &[u8], count: u8, index: &mut [usize; INDEX])
 pub fn number_of(list: &[u8], index: &[usize; INDEX], count: u8, name: &[u8]) -> u8
     requires { ⌜ Indexed (now list) count (now index) ⌝ }
     requires { ⌜ Ascends (fieldsAt (now list) 0 count) ⌝ }
-    ensures { λ r. ⌜ r ≡ numberOf (fieldsAt (now (list .entry)) 0 count) (now (name .entry)) ⌝ }
+    ensures { λ r. ⌜ r ≡ nameNumber (fieldsAt (now (list .entry)) 0 count) (now (name .entry)) ⌝ }
 {
     let mut low: u8 = 0;
     let mut high = count;
@@ -110,7 +110,7 @@ pub fn number_of(list: &[u8], index: &[usize; INDEX], count: u8, name: &[u8]) ->
 pub fn number_by_guess(list: &[u8], index: &[usize; INDEX], count: u8, name: &[u8]) -> u8
     requires { ⌜ Indexed (now list) count (now index) ⌝ }
     requires { ⌜ Ascends (fieldsAt (now list) 0 count) ⌝ }
-    ensures { λ r. ⌜ r ≡ numberOf (fieldsAt (now (list .entry)) 0 count) (now (name .entry)) ⌝ }
+    ensures { λ r. ⌜ r ≡ nameNumber (fieldsAt (now (list .entry)) 0 count) (now (name .entry)) ⌝ }
 {
     let guess = index[STARTS + hash(name)];
     let names = wide8(count);

@@ -22,7 +22,7 @@ ghost use Rattle.base.specs.Limits.{name-limit};
 ghost use Rattle.model.specs.Calls.{Gives};
 ghost use Rattle.judging.specs.Offsets.{offsetAt};
 ghost use Rattle.written_plans.specs.Reading.{readPlan};
-ghost use Rattle.plan_reading.specs.Turns.{Named, Room, namesOf, chosenOf};
+ghost use Rattle.plan_reading.specs.Turns.{SoughtIn, Room, soughtNames, soughtName};
 ghost use Rattle.plan_rows.specs.LoggedRows.{Held, logRows};
 ghost use Rattle.results.specs.Says.{readingRows};
 ghost use Rattle.plan_calls.specs.Parts.{writingRows, rowsWith};
@@ -54,10 +54,10 @@ fn write_rows(log: &[u8], count: usize, chosen: u8, out: &mut [u8]) -> PlanRows
 fn rows_with(plan: &[u8], list: &[u8], sought: Sought, work: &mut [u8], out: &mut [u8]) -> PlanRows
     requires { ⌜ sought .names ≤ name-limit ⌝ }
     requires { ⌜ offsetAt (now list) 0 (sought .names) ≤ length (now list) ⌝ }
-    requires { ⌜ Named (now list) sought ⌝ }
+    requires { ⌜ SoughtIn (now list) sought ⌝ }
     requires { ⌜ Room (now plan) (now work) ⌝ }
-    ensures { λ r. ⌜ Gives (rowsWith (namesOf (now (list .entry)) sought) (sought .chosen)
-        (readPlan (namesOf (now (list .entry)) sought) (chosenOf (now (list .entry)) sought) (now (plan .entry))))
+    ensures { λ r. ⌜ Gives (rowsWith (soughtNames (now (list .entry)) sought) (sought .chosen)
+        (readPlan (soughtNames (now (list .entry)) sought) (soughtName (now (list .entry)) sought) (now (plan .entry))))
         (now (out .entry) ∷ []) (now (out .exit) ∷ []) r ⌝ }
 {
     let read = read_plan(plan, list, sought, work);

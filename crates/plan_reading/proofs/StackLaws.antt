@@ -12,14 +12,14 @@ use lib.Seq.{getD-set-same, getD-set-other}
 use Rattle.base.specs.Lists.{hasRow}
 use Rattle.base.specs.Limits.{plan-depth, too-deep, unknown-child, when, firstOf}
 use Rattle.base.proofs.Tests.{told-false, tells-eqb, tells-ltb, tells-leb, le-or-lt}
-use Rattle.model.specs.Fields.{numberOf}
+use Rattle.model.specs.Fields.{nameNumber}
 use Rattle.model.proofs.NameNumbers.{number-only, known-test}
 use Rattle.judging.proofs.OffsetLaws.{length-fields}
 use Rattle.written_plans.specs.Written.{tag}
 use Rattle.written_plans.specs.Reading.{isChild, tagFault}
 use Rattle.plan_reading.specs.Scanning.{part}
 use Rattle.plan_reading.specs.Pieces.{openName, openNames}
-use Rattle.plan_reading.specs.Turns.{namesOf, chosenOf, Named, Numbered, TagJudged}
+use Rattle.plan_reading.specs.Turns.{soughtNames, soughtName, SoughtIn, Numbered, TagJudged}
 use Rattle.plan_reading.specs.declared.Sought.{Sought}
 
 -- ---- the names of the open elements
@@ -114,14 +114,14 @@ known-passes false = refl
 -- the innermost open element is a chosen one by its number on the stack
 child-test :
     (list : List ℕ) (sought : Sought) (s stack : List ℕ) (depth : ℕ)
-    → Named list sought → Numbered (namesOf list sought) s stack depth → 0 < depth
-    → isChild (chosenOf list sought) (openNames s stack depth) ≡ eqb (getD stack (3 * depth - 1) 0) (sought .chosen)
+    → SoughtIn list sought → Numbered (soughtNames list sought) s stack depth → 0 < depth
+    → isChild (soughtName list sought) (openNames s stack depth) ≡ eqb (getD stack (3 * depth - 1) 0) (sought .chosen)
 unfolding openNames isChild
 child-test list sought s stack zero named numbered inner = let z : ⊥ = omega arith in absurd z
 child-test list sought s stack (suc d) named numbered inner =
-    let some : sought .chosen < length (namesOf list sought) = omega (arith, named .some, length-fields list 0 (sought .names)) in
+    let some : sought .chosen < length (soughtNames list sought) = omega (arith, named .some, length-fields list 0 (sought .names)) in
     let place : 3 * d + 2 ≡ 3 * suc d - 1 = omega arith in
-    sym (number-only (namesOf list sought) (named .ascends) (sought .chosen) some (openName s stack d))
+    sym (number-only (soughtNames list sought) (named .ascends) (sought .chosen) some (openName s stack d))
     ∙ ap (λ (k : ℕ). eqb k (sought .chosen)) (sym (numbered d (omega arith)))
     ∙ ap (λ (i : ℕ). eqb (getD stack i 0) (sought .chosen)) place
 
@@ -144,17 +144,17 @@ module _ (stack : List ℕ) (depth number : ℕ) (sought : Sought) where
   not-too-deep s shallow = ap (leb plan-depth) (open-count s stack depth) ∙ told-false (tells-leb plan-depth depth) shallow
 
   -- a name is known by its number
-  known-by : (list name : List ℕ) → number ≡ numberOf (namesOf list sought) name
-      → hasRow name (namesOf list sought) ≡ ltb number (sought .names)
+  known-by : (list name : List ℕ) → number ≡ nameNumber (soughtNames list sought) name
+      → hasRow name (soughtNames list sought) ≡ ltb number (sought .names)
   known-by list name e =
-      known-test (namesOf list sought) name ∙ ap₂ ltb (sym e) (length-fields list 0 (sought .names))
+      known-test (soughtNames list sought) name ∙ ap₂ ltb (sym e) (length-fields list 0 (sought .names))
 
   -- it stands inside too many others
   pub judged-deep : plan-depth ≤ depth → TagJudged stack depth number sought too-deep
   judged-deep h =
       record {
         is = λ list s name onward named numbered e.
-            fault-is (namesOf list sought) (chosenOf list sought) (openNames s stack depth) name onward
+            fault-is (soughtNames list sought) (soughtName list sought) (openNames s stack depth) name onward
             (ap (leb plan-depth) (open-count s stack depth) ∙ tells-leb plan-depth depth .test h) refl refl;
       }
 
@@ -165,9 +165,9 @@ module _ (stack : List ℕ) (depth number : ℕ) (sought : Sought) where
       record {
         is = λ list s name onward named numbered e.
             let shallow : plan-depth ≤ depth → ⊥ = λ h. let z : ⊥ = omega arith in z in
-            fault-is (namesOf list sought) (chosenOf list sought) (openNames s stack depth) name onward
+            fault-is (soughtNames list sought) (soughtName list sought) (openNames s stack depth) name onward
             (not-too-deep s shallow)
-            (ap (λ (d : ℕ). isChild (chosenOf list sought) (openNames s stack d)) none) refl;
+            (ap (λ (d : ℕ). isChild (soughtName list sought) (openNames s stack d)) none) refl;
       }
 
   -- its name is known
@@ -175,8 +175,8 @@ module _ (stack : List ℕ) (depth number : ℕ) (sought : Sought) where
   judged-known shallow low =
       record {
         is = λ list s name onward named numbered e.
-            let child = isChild (chosenOf list sought) (openNames s stack depth) in
-            fault-is (namesOf list sought) (chosenOf list sought) (openNames s stack depth) name onward (not-too-deep s shallow) refl
+            let child = isChild (soughtName list sought) (openNames s stack depth) in
+            fault-is (soughtNames list sought) (soughtName list sought) (openNames s stack depth) name onward (not-too-deep s shallow) refl
             (known-by list name e ∙ tells-ltb number (sought .names) .test low)
             ∙ known-passes child;
       }
@@ -187,7 +187,7 @@ module _ (stack : List ℕ) (depth number : ℕ) (sought : Sought) where
     judged-unknown child =
         record {
           is = λ list s name onward named numbered e.
-              fault-is (namesOf list sought) (chosenOf list sought) (openNames s stack depth) name onward (not-too-deep s shallow)
+              fault-is (soughtNames list sought) (soughtName list sought) (openNames s stack depth) name onward (not-too-deep s shallow)
               (child-test list sought s stack depth named numbered inner
               ∙ tells-eqb (getD stack (3 * depth - 1) 0) (sought .chosen) .test child)
               (known-by list name e ∙ told-false (tells-ltb number (sought .names)) high);
@@ -198,7 +198,7 @@ module _ (stack : List ℕ) (depth number : ℕ) (sought : Sought) where
     judged-other other =
         record {
           is = λ list s name onward named numbered e.
-              fault-is (namesOf list sought) (chosenOf list sought) (openNames s stack depth) name onward (not-too-deep s shallow)
+              fault-is (soughtNames list sought) (soughtName list sought) (openNames s stack depth) name onward (not-too-deep s shallow)
               (child-test list sought s stack depth named numbered inner
               ∙ told-false (tells-eqb (getD stack (3 * depth - 1) 0) (sought .chosen)) other)
               refl;

@@ -12,7 +12,7 @@ use borrow.Author.Tests.{ne-eqb}
 use Rattle.base.specs.Limits.{bad-plan}
 use Rattle.written_plans.specs.Written.{Tag, tag, isWhite, slash, greater}
 use Rattle.written_plans.specs.Reading.{Place, inside, naming, named, emptied, Next, stop, go, afterName, step, met}
-use Rattle.written_plans.specs.Reading.{Reading, refusedAt, ended, withTags, tagsFault, readFrom}
+use Rattle.written_plans.specs.Reading.{Reading, refusedAt, ended, withTags, tagsFault, readPlanFrom}
 use Rattle.plan_reading.specs.Scanning.{part}
 use Rattle.plan_reading.specs.Pieces.{reads, followsName, NameHere}
 
@@ -25,21 +25,21 @@ judged fault p r = elim (eqb fault 0) [ true ↦ r | false ↦ refusedAt fault p
 -- what reading comes to at a byte with these tags met and this next place
 abbrev onward : (Tag → ℕ) → ℕ → List ℕ → List Tag → Next → Reading
 onward judge p s ts next =
-    elim next [ stop ↦ refusedAt bad-plan p | go t ↦ judged (tagsFault judge ts) p (withTags ts (readFrom judge t (suc p) s)) ]
+    elim next [ stop ↦ refusedAt bad-plan p | go t ↦ judged (tagsFault judge ts) p (withTags ts (readPlanFrom judge t (suc p) s)) ]
 
 -- ---- the byte at an offset
 
 module _ (judge : Tag → ℕ) (s : List ℕ) (q : Place) (i : ℕ) where
   -- the end
   pub reads-end : length s ≤ i → reads judge s q i ≡ ended q i
-  unfolding readFrom
-  reads-end h = ap (readFrom judge q i) (drop-of-length-le s h)
+  unfolding readPlanFrom
+  reads-end h = ap (readPlanFrom judge q i) (drop-of-length-le s h)
 
   -- one turn of reading
   reads-turn : i < length s
       → reads judge s q i ≡ onward judge i (drop (suc i) s) (met q (getD s i 0) (drop (suc i) s)) (step q (getD s i 0))
-  unfolding readFrom
-  reads-turn h = ap (readFrom judge q i) (drop-cons s i 0 h)
+  unfolding readPlanFrom
+  reads-turn h = ap (readPlanFrom judge q i) (drop-cons s i 0 h)
 
   module _ (h : i < length s) where
     -- no plan goes on with the byte

@@ -10,14 +10,14 @@ use lib.Dec.{eqb, ltb}
 use lib.ListN.{length, getD, drop}
 use Rattle.base.specs.Limits.{plan-depth, bad-plan}
 use Rattle.base.proofs.Tests.{Tells, not-told, told-false, tells-eqb, tells-ltb, tells-and, le-or-lt}
-use Rattle.model.specs.Fields.{numberOf}
+use Rattle.model.specs.Fields.{nameNumber}
 use Rattle.written_plans.specs.Written.{Tag, tag}
 use Rattle.written_plans.specs.Reading.{Place, before, inside, named, after, leave, tagFault, Reading, refusedAt, ended, withTags}
 use Rattle.written_plans.specs.Reading.{readPlan, Entry, entryOf}
 use Rattle.written_plans.specs.Logs.{entriesAt}
 use Rattle.plan_reading.specs.Scanning.{part}
 use Rattle.plan_reading.specs.Pieces.{openName, openNames, between, placeOf, reads, ReadsOn, Stops, NameHere, Passed, Met}
-use Rattle.plan_reading.specs.Turns.{Numbered, Standing, Begun, ElementFrom, entry, Turned, RefusedAs, TurnFrom, Logged}
+use Rattle.plan_reading.specs.Turns.{Numbered, Standing, Begun, ElementFrom, entry, ReadFurther, RefusedAs, TurnFrom, Logged}
 use Rattle.plan_reading.specs.declared.Turn.{Turn}
 use Rattle.plan_reading.specs.declared.Turn.the-variants as turn
 use Rattle.plan_reading.specs.declared.pieces.Reached.{Reached}
@@ -65,7 +65,7 @@ module _ (names : List (List ℕ)) (s stack : List ℕ) (r : Reached) (from end 
         one-tag = refl;
       }
 
-  module _ (number : ℕ) (is-number : number ≡ numberOf names (part s from end)) (shallow : r .depth < plan-depth) where
+  module _ (number : ℕ) (is-number : number ≡ nameNumber names (part s from end)) (shallow : r .depth < plan-depth) where
     -- the stack with the element
     abbrev after-push : List ℕ
     after-push = pushed stack (r .depth) from end number
@@ -101,12 +101,12 @@ module _ (names : List (List ℕ)) (s stack : List ℕ) (r : Reached) (from end 
     -- the number of each stands beside it
     new-numbers : Numbered names s after-push (r .depth + 1)
     new-numbers =
-        by-depth (λ (d : ℕ). getD after-push (3 * d + 2) 0 ≡ numberOf names (openName s after-push d)) (r .depth)
+        by-depth (λ (d : ℕ). getD after-push (3 * d + 2) 0 ≡ nameNumber names (openName s after-push d)) (r .depth)
         (λ d h.
         kept (3 * d + 2) (omega arith)
         ∙ stands .numbered d h
-        ∙ sym (ap (numberOf names) (name-kept s stack after-push d (λ j k. kept j (omega arith)))))
-        (pushed-number stack (r .depth) from end number has-room ∙ is-number ∙ ap (numberOf names) (sym new-name))
+        ∙ sym (ap (nameNumber names) (name-kept s stack after-push d (λ j k. kept j (omega arith)))))
+        (pushed-number stack (r .depth) from end number has-room ∙ is-number ∙ ap (nameNumber names) (sym new-name))
 
     -- a start tag: the element is open
     pub element-opened : ReadsOn s afterTheName end (inside (part s from end) (openNames s stack (r .depth))) at
@@ -153,7 +153,7 @@ turn-stops judge s q i p stops = refused-as (reads judge s q i) [] bad-plan p (s
 module _ (names : List (List ℕ)) (judge : Tag → ℕ) (s stack log : List ℕ) (r : Reached) (stands : Standing names s stack r) where
   -- an end tag, or what stands before a tag
   pub turn-past : (t : Reached) → Passed s stack (placeOf s stack r) (r .at) r t
-      → Turned names judge s stack stack log log r t
+      → ReadFurther names judge s stack stack log log r t
   turn-past t passed =
       record {
         met-tags = [];
@@ -190,10 +190,10 @@ module _ (names : List (List ℕ)) (judge : Tag → ℕ) (s stack log : List ℕ
 
       -- or to the end of the tag, whose entry is in the log
       turn-begun :
-          (stack′ log′ : List ℕ) (number : ℕ) (t : Reached) → number ≡ numberOf names (part s from end)
+          (stack′ log′ : List ℕ) (number : ℕ) (t : Reached) → number ≡ nameNumber names (part s from end)
           → entriesAt log′ 0 (r .tags + 1) ≡ entriesAt log 0 (r .tags) ++ (entry number (r .depth) ∷ []) → length log′ ≡ length log
           → Begun names s stack stack′ (named (openNames s stack (r .depth)) (part s from end)) end r t
-          → Turned names judge s stack stack′ log log′ r t
+          → ReadFurther names judge s stack stack′ log log′ r t
       turn-begun stack′ log′ number t is-number put same-room begun =
           record {
             met-tags = newTag ∷ [];
@@ -208,7 +208,7 @@ module _ (names : List (List ℕ)) (judge : Tag → ℕ) (s stack log : List ℕ
 
       -- one of the two
       pub turn-element :
-          (stack′ log′ : List ℕ) (number : ℕ) → number ≡ numberOf names (part s from end)
+          (stack′ log′ : List ℕ) (number : ℕ) → number ≡ nameNumber names (part s from end)
           → entriesAt log′ 0 (r .tags + 1) ≡ entriesAt log 0 (r .tags) ++ (entry number (r .depth) ∷ []) → length log′ ≡ length log
           → (t : Turn) → ElementFrom names s stack stack′ r from end t → TurnFrom names judge s stack stack′ log log′ r t
       turn-element stack′ log′ number is-number put same-room (turn.Go t) begun =
@@ -261,7 +261,7 @@ module _ (names : List (List ℕ)) (chosen s : List ℕ) where
 
   module _ (stack log : List ℕ) (r : Reached) (so-far : ReadSoFar names chosen s stack log r) where
     -- one turn more
-    pub plan-goes : (stack′ log′ : List ℕ) (t : Reached) → Turned names (tagFault names chosen) s stack stack′ log log′ r t
+    pub plan-goes : (stack′ log′ : List ℕ) (t : Reached) → ReadFurther names (tagFault names chosen) s stack stack′ log log′ r t
         → ReadSoFar names chosen s stack′ log′ t
     plan-goes stack′ log′ t turned =
         let onward = reads (tagFault names chosen) s (placeOf s stack′ t) (t .at) in

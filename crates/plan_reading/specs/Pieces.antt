@@ -10,7 +10,7 @@ use Rattle.base.specs.Limits.{plan-depth, bad-plan}
 use Rattle.model.specs.Fields.{nameOk}
 use Rattle.written_plans.specs.Written.{Tag, isWhite, isText, slash, greater}
 use Rattle.written_plans.specs.Reading.{Place, before, inside, opened, naming, named, closing, after, leave, stop, endBegins}
-use Rattle.written_plans.specs.Reading.{beginsName, Reading, refusedAt, readFrom}
+use Rattle.written_plans.specs.Reading.{beginsName, Reading, refusedAt, readPlanFrom}
 use Rattle.plan_reading.specs.Scanning.{part, Skipped}
 use Rattle.plan_reading.specs.declared.pieces.Reached.{Reached}
 use Rattle.plan_reading.specs.declared.pieces.Piece.{Piece}
@@ -40,7 +40,7 @@ placeOf s stack r = between (openNames s stack (r .depth)) (r .tags)
 
 -- what reading comes to from a place on, at an offset
 abbrev pub reads : (Tag → ℕ) → List ℕ → Place → ℕ → Reading
-reads judge s q i = readFrom judge q i (drop i s)
+reads judge s q i = readPlanFrom judge q i (drop i s)
 
 -- two places and offsets from which reading comes to the same, however tags are judged: no tag that begins an element is met between
 abbrev pub ReadsOn : List ℕ → Place → ℕ → Place → ℕ → Type 0

@@ -5,7 +5,7 @@ use mathlib.Core.List.{List, [], _++_, map}
 use Prim.Native.Nat.{ℕ, _+_, _*_, _≤_, _<_}
 use lib.ListN.{length, getD}
 use Rattle.base.specs.Limits.{input-limit, work-bytes, bad-plan}
-use Rattle.model.specs.Fields.{Ascends, numberOf}
+use Rattle.model.specs.Fields.{Ascends, nameNumber}
 use Rattle.judging.specs.Offsets.{fieldsAt}
 use Rattle.written_plans.specs.Written.{Tag, tag}
 use Rattle.written_plans.specs.Reading.{Place, named, tagFault, Reading, withTags, readPlan, Entry, entryOf}
@@ -22,20 +22,20 @@ use Rattle.plan_reading.specs.declared.PlanRead.the-variants as plan
 -- ---- what is looked for
 
 -- the names of the list
-abbrev pub namesOf : List ℕ → Sought → List (List ℕ)
-namesOf list sought = fieldsAt list 0 (sought .names)
+abbrev pub soughtNames : List ℕ → Sought → List (List ℕ)
+soughtNames list sought = fieldsAt list 0 (sought .names)
 
 -- the chosen one
-abbrev pub chosenOf : List ℕ → Sought → List ℕ
-chosenOf list sought = getD (namesOf list sought) (sought .chosen) []
+abbrev pub soughtName : List ℕ → Sought → List ℕ
+soughtName list sought = getD (soughtNames list sought) (sought .chosen) []
 
 -- how a tag is judged
 abbrev pub judgeOf : List ℕ → Sought → Tag → ℕ
-judgeOf list sought = tagFault (namesOf list sought) (chosenOf list sought)
+judgeOf list sought = tagFault (soughtNames list sought) (soughtName list sought)
 
 -- the list's names ascend, and the chosen number is one of theirs
-pub record Named (list : List ℕ) (sought : Sought) : Type 0 where
-  pub ascends : Ascends (namesOf list sought)
+pub record SoughtIn (list : List ℕ) (sought : Sought) : Type 0 where
+  pub ascends : Ascends (soughtNames list sought)
   pub some : sought .chosen < sought .names
 
 -- ---- between two tags
@@ -47,7 +47,7 @@ pub record Room (s log : List ℕ) : Type 0 where
 
 -- beside each open element's name stands its number among these names
 abbrev pub Numbered : List (List ℕ) → List ℕ → List ℕ → ℕ → Type 0
-Numbered names s stack depth = (d : ℕ) → d < depth → getD stack (3 * d + 2) 0 ≡ numberOf names (openName s stack d)
+Numbered names s stack depth = (d : ℕ) → d < depth → getD stack (3 * d + 2) 0 ≡ nameNumber names (openName s stack d)
 
 -- what holds between two tags
 pub record Standing (names : List (List ℕ)) (s stack : List ℕ) (r : Reached) : Type 0 where
@@ -56,8 +56,8 @@ pub record Standing (names : List (List ℕ)) (s stack : List ℕ) (r : Reached)
 
 -- what refuses a tag whose name has this number, for all names among which the open elements' numbers stand on the stack
 pub record TagJudged (stack : List ℕ) (depth number : ℕ) (sought : Sought) (fault : ℕ) : Type 0 where
-  pub is : (list s name onward : List ℕ) → Named list sought → Numbered (namesOf list sought) s stack depth
-      → number ≡ numberOf (namesOf list sought) name
+  pub is : (list s name onward : List ℕ) → SoughtIn list sought → Numbered (soughtNames list sought) s stack depth
+      → number ≡ nameNumber (soughtNames list sought) name
       → judgeOf list sought (tag (openNames s stack depth) name onward) ≡ fault
 
 -- an element from the end of its name on: reading goes on between two tags; where it has a start tag, it is open there
@@ -76,7 +76,7 @@ ElementFrom names s stack stack′ r from end (turn.Refused k p) =
 
 -- the same for all names among which the open elements' numbers stand on the stack, and this one is the number of the element's name
 pub record ElementAs (s stack stack′ : List ℕ) (r : Reached) (from end number : ℕ) (t : Turn) : Type 0 where
-  pub is : (names : List (List ℕ)) → Standing names s stack r → number ≡ numberOf names (part s from end)
+  pub is : (names : List (List ℕ)) → Standing names s stack r → number ≡ nameNumber names (part s from end)
       → ElementFrom names s stack stack′ r from end t
 
 -- ---- one turn, and a whole plan
@@ -86,7 +86,7 @@ abbrev pub entry : ℕ → ℕ → Entry
 entry number depth = record { number = number; depth = depth }
 
 -- what was reached before comes to what is reached after, with the tags met between, which are in the log
-pub record Turned (names : List (List ℕ)) (judge : Tag → ℕ) (s stack stack′ log log′ : List ℕ) (r t : Reached) : Type 0 where
+pub record ReadFurther (names : List (List ℕ)) (judge : Tag → ℕ) (s stack stack′ log log′ : List ℕ) (r t : Reached) : Type 0 where
   pub met-tags : List Tag
   pub reads-on : reads judge s (placeOf s stack r) (r .at) ≡ withTags met-tags (reads judge s (placeOf s stack′ t) (t .at))
   pub logged : entriesAt log′ 0 (t .tags) ≡ entriesAt log 0 (r .tags) ++ map (entryOf names) met-tags
@@ -102,7 +102,7 @@ pub record RefusedAs (reading : Reading) (number place : ℕ) : Type 0 where
 
 -- what a turn answers
 abbrev pub TurnFrom : List (List ℕ) → (Tag → ℕ) → List ℕ → List ℕ → List ℕ → List ℕ → List ℕ → Reached → Turn → Type 0
-TurnFrom names judge s stack stack′ log log′ r (turn.Go t) = Turned names judge s stack stack′ log log′ r t
+TurnFrom names judge s stack stack′ log log′ r (turn.Go t) = ReadFurther names judge s stack stack′ log log′ r t
 TurnFrom names judge s stack stack′ log log′ r (turn.Refused k p) = RefusedAs (reads judge s (placeOf s stack r) (r .at)) k p
 
 -- a plan without a refusal: its tags are in the log, so many

@@ -26,7 +26,7 @@ ghost use Rattle.base.specs.Limits.{name-limit, plan-depth};
 ghost use Rattle.judging.specs.Offsets.{offsetAt};
 ghost use Rattle.name_search.specs.Search.{Indexed};
 ghost use Rattle.plan_reading.specs.Pieces.{NameHere, Stacked};
-ghost use Rattle.plan_reading.specs.Turns.{namesOf, chosenOf, judgeOf, Named, Room, Standing, TagJudged, ElementAs};
+ghost use Rattle.plan_reading.specs.Turns.{soughtNames, soughtName, judgeOf, SoughtIn, Room, Standing, TagJudged, ElementAs};
 ghost use Rattle.plan_reading.specs.Turns.{TurnFrom, PlanReadAs};
 
 // What is looked for: how many names the list has, and which of them is chosen.
@@ -115,11 +115,11 @@ fn read_piece(
     r: Reached,
 ) -> Turn
     requires { ⌜ Indexed (now list) (sought .names) (now index) ⌝ }
-    requires { ⌜ Named (now list) sought ⌝ }
+    requires { ⌜ SoughtIn (now list) sought ⌝ }
     requires { ⌜ Room (now plan) (now log) ⌝ }
-    requires { ⌜ Standing (namesOf (now list) sought) (now plan) (now stack) r ⌝ }
+    requires { ⌜ Standing (soughtNames (now list) sought) (now plan) (now stack) r ⌝ }
     requires { ⌜ r .at < length (now plan) ⌝ }
-    ensures { λ t. ⌜ TurnFrom (namesOf (now (list .entry)) sought) (judgeOf (now (list .entry)) sought) (now (plan .entry))
+    ensures { λ t. ⌜ TurnFrom (soughtNames (now (list .entry)) sought) (judgeOf (now (list .entry)) sought) (now (plan .entry))
         (now (stack .entry)) (now (stack .exit)) (now (log .entry)) (now (log .exit)) r t ⌝ }
 {
     let piece = next_piece(plan, stack, r);
@@ -142,9 +142,9 @@ fn read_piece(
 pub fn read_plan(plan: &[u8], list: &[u8], sought: Sought, log: &mut [u8]) -> PlanRead
     requires { ⌜ sought .names ≤ name-limit ⌝ }
     requires { ⌜ offsetAt (now list) 0 (sought .names) ≤ length (now list) ⌝ }
-    requires { ⌜ Named (now list) sought ⌝ }
+    requires { ⌜ SoughtIn (now list) sought ⌝ }
     requires { ⌜ Room (now plan) (now log) ⌝ }
-    ensures { λ r. ⌜ PlanReadAs (namesOf (now (list .entry)) sought) (chosenOf (now (list .entry)) sought)
+    ensures { λ r. ⌜ PlanReadAs (soughtNames (now (list .entry)) sought) (soughtName (now (list .entry)) sought)
         (now (plan .entry)) (now (log .exit)) r ⌝ }
     ensures { λ r. ⌜ length (now (log .exit)) ≡ length (now (log .entry)) ⌝ }
 {

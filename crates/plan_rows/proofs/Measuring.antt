@@ -14,18 +14,18 @@ use Rattle.plan_rows.proofs.Faults.{shortRows, short-next, short-not, r
 use Rattle.plan_rows.proofs.Lengths.{row-fields-none, row-fields-length}
 
 -- of the rows those before the ones left are within their limit, and their fields have so many bytes
-pub record Passed (rows left : List (List ℕ)) (bytes : ℕ) : Type 0 where
+pub record MeasuredTo (rows left : List (List ℕ)) (bytes : ℕ) : Type 0 where
   pub short : shortRows left ≡ shortRows rows
   pub sized : bytes + length (rowFields left) ≡ length (rowFields rows)
 
-pub passed-none : (rows : List (List ℕ)) → Passed rows rows 0
+pub passed-none : (rows : List (List ℕ)) → MeasuredTo rows rows 0
 passed-none rows = record { short = refl; sized = omega arith }
 
 module _ {rows : List (List ℕ)} {bytes : ℕ} where
   -- one row more, of n entries
   pub passed-more :
-      {row : List ℕ} {left : List (List ℕ)} (n : ℕ) → n ≡ length row → n ≤ row-limit → Passed rows (row ∷ left) bytes →
-      Passed rows left (bytes + (3 + n))
+      {row : List ℕ} {left : List (List ℕ)} (n : ℕ) → n ≡ length row → n ≤ row-limit → MeasuredTo rows (row ∷ left) bytes →
+      MeasuredTo rows left (bytes + (3 + n))
   passed-more {row} {left} n e h p =
       let within : length row ≤ row-limit = omega arith in
       record {
@@ -35,14 +35,14 @@ module _ {rows : List (List ℕ)} {bytes : ℕ} where
 
   -- a row too long
   pub passed-long :
-      {row : List ℕ} {left : List (List ℕ)} (n : ℕ) → n ≡ length row → row-limit < n → Passed rows (row ∷ left) bytes →
+      {row : List ℕ} {left : List (List ℕ)} (n : ℕ) → n ≡ length row → row-limit < n → MeasuredTo rows (row ∷ left) bytes →
       length rows ≤ book-rows → Refuses (rowsFault rows) bad-row
   passed-long {row} {left} n e h p few =
       let beyond : row-limit < length row = omega arith in
       row-too-long rows few (sym (p .short) ∙ short-not row left beyond)
 
   -- all rows
-  pub passed-all : (count : ℕ) → count ≡ length rows → count ≤ book-rows → Passed rows [] bytes → MeasuredAs rows count bytes
+  pub passed-all : (count : ℕ) → count ≡ length rows → count ≤ book-rows → MeasuredTo rows [] bytes → MeasuredAs rows count bytes
   unfolding shortRows all
   passed-all count e h p =
       let few : length rows ≤ book-rows = omega arith in

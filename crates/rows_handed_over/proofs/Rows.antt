@@ -12,7 +12,7 @@ use Rattle.base.specs.Limits.{book-rows, row-limit, rows-bytes, bad-sizes, too-
 use Rattle.base.specs.Lists.{all}
 use Rattle.base.proofs.Lists.{map-in}
 use Rattle.base.proofs.Tests.{tells-all, tells-itself}
-use Rattle.model.specs.Fields.{Settings, standard, name-list, readNames, readBook, numberOf, allBelow, rowOk}
+use Rattle.model.specs.Fields.{Settings, standard, name-list, readNames, readBook, nameNumber, allBelow, rowOk}
 use Rattle.model.specs.Tables.{classField, rowFields}
 use Rattle.model.specs.Calls.{namesOf, sizesFault, tooShort, faultWith}
 use Rattle.model.specs.Claims.{RowsOk}
@@ -58,11 +58,11 @@ the-second (suc a) b c d low c-low d-low high = let z : ⊥ = omega arith in abs
 
 -- numbers of names that are there are below their number
 entries-below : (names row : List (List ℕ)) → ((n : List ℕ) → In n row → In n names)
-    → allBelow (length names) (map (numberOf names) row) ≡ true
+    → allBelow (length names) (map (nameNumber names) row) ≡ true
 unfolding allBelow
 entries-below names [] all-in = refl
 entries-below names (n ∷ row) all-in =
-    ap₂ (λ (a b : Bool). a && b) (lt-ltb (numberOf names n) (length names) (number-of-known names n (all-in n (here refl)) .0))
+    ap₂ (λ (a b : Bool). a && b) (lt-ltb (nameNumber names n) (length names) (number-of-known names n (all-in n (here refl)) .0))
     (entries-below names row (λ m i. all-in m (there i)))
 
 -- rows that nothing refuses are short
@@ -205,7 +205,7 @@ module _ (c : RowsCall) where
       -- each row is one that a book may have
       row-fits : (row : List ℕ) → In row (rowsOf c plan) → rowOk (length names) row ≡ true
       row-fits row m =
-          let from = map-in (map (numberOf names)) (tracesIn c plan) m in
+          let from = map-in (map (nameNumber names)) (tracesIn c plan) m in
           let below = subst (λ z. allBelow (length names) z ≡ true) (sym (from .2)) (entries-below names (from .0) (known (from .0) (from .1))) in
           ap₂ (λ (a b : Bool). a && b) (short-row (rowsOf c plan) (subst (λ z. rowsFault z ≡ 0) rows-traced (parts .2)) row m) below
 

@@ -5,7 +5,7 @@ use mathlib.Core.List.{List, _++_, map}
 use Prim.Native.Nat.{ℕ, _≤_, _<_}
 use lib.ListN.{length, take}
 use Rattle.base.specs.Limits.{bad-plan, rows-bytes, items-met}
-use Rattle.model.specs.Fields.{Class, ClassOk, Settings, file, readBook, accepted-file, numberOf}
+use Rattle.model.specs.Fields.{Class, ClassOk, Settings, file, readBook, accepted-file, nameNumber}
 use Rattle.model.specs.Tables.{classField, rowFields}
 use Rattle.model.specs.Calls.{namesOf}
 use Rattle.written_plans.specs.Written.{Plan, planBytes, traces, First}
@@ -37,7 +37,7 @@ tracesIn c plan = traces (chosenName (c .list) (c .chosen)) (plan .element)
 
 -- the same by the numbers of the list's names: the rows
 abbrev pub rowsOf : RowsCall → Plan → List (List ℕ)
-rowsOf c plan = map (map (numberOf (namesOf (c .list)))) (tracesIn c plan)
+rowsOf c plan = map (map (nameNumber (namesOf (c .list)))) (tracesIn c plan)
 
 -- no fault 14, 15 or 16 stands in what was lent as the plan
 abbrev pub NoFault : RowsCall → Type 0

@@ -12,7 +12,7 @@ use Rattle.base.specs.Limits.{bad-plan}
 use Rattle.base.proofs.Tests.{tells-eqb, not-told}
 use Rattle.written_plans.specs.Written.{Tag, tag}
 use Rattle.written_plans.specs.Reading.{Place, before, inside, opened, naming, named, emptied, closing, after}
-use Rattle.written_plans.specs.Reading.{Next, stop, go, step, met, Reading, refusedAt, ended, withTags, tagsFault, readFrom}
+use Rattle.written_plans.specs.Reading.{Next, stop, go, step, met, Reading, refusedAt, ended, withTags, tagsFault, readPlanFrom}
 use Rattle.written_plans.proofs.Runs.{run, tagsFrom, metAt}
 use Rattle.written_plans.proofs.Steps.{Stepped, stops, goes, stepped, go≢stop, go-eq, run-stops, run-goes, run-nil, tags-go}
 use Rattle.written_plans.proofs.Steps.{met-here, met-later, met-nil}
@@ -105,15 +105,15 @@ module _ (judge : Tag → ℕ) (q : Place) (p b : ℕ) (s : List ℕ) where
   -- reading goes on at a place with what the byte's tags are refused for
   abbrev onward : Place → ℕ → Reading
   onward r fault =
-      elim (eqb fault 0) [ true ↦ withTags (met q b s) (readFrom judge r (suc p) s) | false ↦ refusedAt fault p ]
+      elim (eqb fault 0) [ true ↦ withTags (met q b s) (readPlanFrom judge r (suc p) s) | false ↦ refusedAt fault p ]
 
   -- reading, where the byte stops it and where it leads to a place
-  read-stops : step q b ≡ stop → readFrom judge q p (b ∷ s) ≡ refusedAt bad-plan p
-  unfolding readFrom
+  read-stops : step q b ≡ stop → readPlanFrom judge q p (b ∷ s) ≡ refusedAt bad-plan p
+  unfolding readPlanFrom
   read-stops e = ap (λ (x : Next). elim x [ stop ↦ refusedAt bad-plan p | go r ↦ onward r faultHere ]) e
 
-  read-goes : {r : Place} → step q b ≡ go r → readFrom judge q p (b ∷ s) ≡ onward r faultHere
-  unfolding readFrom
+  read-goes : {r : Place} → step q b ≡ go r → readPlanFrom judge q p (b ∷ s) ≡ onward r faultHere
+  unfolding readPlanFrom
   read-goes e = ap (λ (x : Next). elim x [ stop ↦ refusedAt bad-plan p | go r ↦ onward r faultHere ]) e
 
   -- what is judged is the tag met
@@ -192,19 +192,19 @@ module _ (judge : Tag → ℕ) (q : Place) (p b : ℕ) (s : List ℕ) where
           judged-at (suc i) (at ∙ next) (clear-on i c) (judged-on i (x .number) h)
 
     -- where the byte leads to a place
-    outcome-goes : (x : Bool) → eqb faultHere 0 ≡ x → Outcome judge r (suc p) s (readFrom judge r (suc p) s)
-        → Outcome judge q p (b ∷ s) (elim x [ true ↦ withTags (met q b s) (readFrom judge r (suc p) s) | false ↦ refusedAt faultHere p ])
-    outcome-goes true f h = outcome-on (tells-eqb faultHere 0 .fact f) (readFrom judge r (suc p) s) h
+    outcome-goes : (x : Bool) → eqb faultHere 0 ≡ x → Outcome judge r (suc p) s (readPlanFrom judge r (suc p) s)
+        → Outcome judge q p (b ∷ s) (elim x [ true ↦ withTags (met q b s) (readPlanFrom judge r (suc p) s) | false ↦ refusedAt faultHere p ])
+    outcome-goes true f h = outcome-on (tells-eqb faultHere 0 .fact f) (readPlanFrom judge r (suc p) s) h
     outcome-goes false f h = outcome-judged (not-told (tells-eqb faultHere 0) f)
 
 -- what reading any bytes from any place comes to
-pub outcome : (judge : Tag → ℕ) (q : Place) (p : ℕ) (s : List ℕ) → Outcome judge q p s (readFrom judge q p s)
-unfolding readFrom
+pub outcome : (judge : Tag → ℕ) (q : Place) (p : ℕ) (s : List ℕ) → Outcome judge q p s (readPlanFrom judge q p s)
+unfolding readPlanFrom
 outcome judge q p [] = outcome-nil judge q p (how-ended q p)
 outcome judge q p (b ∷ s) = look (stepped q b) (λ r. outcome judge r (suc p) s)
   where
-    look : Stepped q b → ((r : Place) → Outcome judge r (suc p) s (readFrom judge r (suc p) s))
-        → Outcome judge q p (b ∷ s) (readFrom judge q p (b ∷ s))
+    look : Stepped q b → ((r : Place) → Outcome judge r (suc p) s (readPlanFrom judge r (suc p) s))
+        → Outcome judge q p (b ∷ s) (readPlanFrom judge q p (b ∷ s))
     look (stops e) again = subst (Outcome judge q p (b ∷ s)) (sym (read-stops judge q p b s e)) (outcome-stop judge q p b s e)
     look (goes r e) again =
         subst (Outcome judge q p (b ∷ s)) (sym (read-goes judge q p b s e))

@@ -7,7 +7,7 @@ use native.Mathlib.Omega.{arith}
 use lib.ListN.{length}
 use borrow.Author.Tests.{le-leb, lt-leb, eq-eqb, ne-eqb}
 use Rattle.base.specs.Lists.{same}
-use Rattle.model.specs.Fields.{numberOf}
+use Rattle.model.specs.Fields.{nameNumber}
 use Rattle.written_plans.specs.Written.{Content, nothing, text, empty, full, planTags, tags, endTag, written, children, traces}
 use Rattle.written_plans.specs.Reading.{Entry, entryOf, rowAfter, rowsIn}
 use Rattle.written_plans.specs.Claims.{NumberOnly, RowsAreTraces}
@@ -66,16 +66,16 @@ module _ (names : List (List ℕ)) where
 
   -- the row of the parent has the numbers of the children
   row-of-children : (d : ℕ) (around : List (List ℕ)) (c : Content) (s : List ℕ) (entries : List Entry) → length around ≡ suc d
-      → rowAfter d (kept around c s entries) ≡ map (numberOf names) (children c) ++ rowAfter d entries
+      → rowAfter d (kept around c s entries) ≡ map (nameNumber names) (children c) ++ rowAfter d entries
   unfolding tags children
   row-of-children d around nothing s entries h = refl
   row-of-children d around (text b p c) s entries h = row-of-children d around c s entries h
   row-of-children d around (empty n g c) s entries h =
-      row-takes d _ _ h ∙ ap (λ (r : List ℕ). numberOf names (n .bytes) ∷ r) (row-of-children d around c s entries h)
+      row-takes d _ _ h ∙ ap (λ (r : List ℕ). nameNumber names (n .bytes) ∷ r) (row-of-children d around c s entries h)
   row-of-children d around (full n g inner e c) s entries h =
       let rest = endTag (n .bytes) (e .bytes) (written c s) in
       row-takes d _ _ h
-      ∙ ap (λ (r : List ℕ). numberOf names (n .bytes) ∷ r)
+      ∙ ap (λ (r : List ℕ). nameNumber names (n .bytes) ∷ r)
       (ap (rowAfter d) (map-parts (entryOf names) (tags (n .bytes ∷ around) inner rest) (tags around c s) entries)
       ∙ row-over d (n .bytes ∷ around) inner rest (kept around c s entries) (omega arith)
       ∙ row-of-children d around c s entries h)
@@ -92,16 +92,16 @@ module _ (names : List (List ℕ)) where
   module _ (number : ℕ) (chosen : List ℕ) (only : NumberOnly names number chosen) where
     -- one more trace and row, if this is the chosen name
     rows-more : (n : List ℕ) (e : Entry) (entries : List Entry) (trace : List (List ℕ)) (others : List (List (List ℕ)))
-        (rows : List (List ℕ)) → e .number ≡ numberOf names n → rowAfter (e .depth) entries ≡ map (numberOf names) trace
-        → rowsIn number entries ≡ map (map (numberOf names)) others ++ rows
-        → rowsIn number (e ∷ entries) ≡ map (map (numberOf names)) (cond (same n chosen) (trace ∷ others) others) ++ rows
+        (rows : List (List ℕ)) → e .number ≡ nameNumber names n → rowAfter (e .depth) entries ≡ map (nameNumber names) trace
+        → rowsIn number entries ≡ map (map (nameNumber names)) others ++ rows
+        → rowsIn number (e ∷ entries) ≡ map (map (nameNumber names)) (cond (same n chosen) (trace ∷ others) others) ++ rows
     unfolding rowsIn
     rows-more n e entries trace others rows its-number its-row its-rows =
-        rw (its-number, only n, its-row, its-rows) (map-more (map (numberOf names)) (same n chosen) trace others rows)
+        rw (its-number, only n, its-row, its-rows) (map-more (map (nameNumber names)) (same n chosen) trace others rows)
 
     -- the rows are the traces, and the rows of the entries behind
     rows-of : (around : List (List ℕ)) (c : Content) (s : List ℕ) (entries : List Entry) → Ends (length around) entries
-        → rowsIn number (kept around c s entries) ≡ map (map (numberOf names)) (traces chosen c) ++ rowsIn number entries
+        → rowsIn number (kept around c s entries) ≡ map (map (nameNumber names)) (traces chosen c) ++ rowsIn number entries
     unfolding tags traces
     rows-of around nothing s entries ends = refl
     rows-of around (text b p c) s entries ends = rows-of around c s entries ends
@@ -117,12 +117,12 @@ module _ (names : List (List ℕ)) where
         rows-more (n .bytes) _ _ (children inner) (traces chosen inner ++ traces chosen c) _ refl
         (ap (rowAfter d) parts
         ∙ row-of-children d (n .bytes ∷ around) inner rest behind refl
-        ∙ ap (λ (r : List ℕ). map (numberOf names) (children inner) ++ r) (behind-ends d (omega arith))
-        ∙ append-nil (map (numberOf names) (children inner)))
+        ∙ ap (λ (r : List ℕ). map (nameNumber names) (children inner) ++ r) (behind-ends d (omega arith))
+        ∙ append-nil (map (nameNumber names) (children inner)))
         (ap (rowsIn number) parts
         ∙ rows-of (n .bytes ∷ around) inner rest behind (λ k h. behind-ends k (omega arith))
-        ∙ ap (λ (r : List (List ℕ)). map (map (numberOf names)) (traces chosen inner) ++ r) (rows-of around c s entries ends)
-        ∙ sym (map-parts (map (numberOf names)) (traces chosen inner) (traces chosen c) (rowsIn number entries)))
+        ∙ ap (λ (r : List (List ℕ)). map (map (nameNumber names)) (traces chosen inner) ++ r) (rows-of around c s entries ends)
+        ∙ sym (map-parts (map (nameNumber names)) (traces chosen inner) (traces chosen c) (rowsIn number entries)))
 
 -- the rows of a plan are its traces
 pub rows-are-traces : RowsAreTraces
@@ -130,4 +130,4 @@ unfolding rowAfter rowsIn
 rows-are-traces names number chosen only plan =
     ap (rowsIn number) (sym (append-nil (map (entryOf names) (planTags plan))))
     ∙ rows-of names number chosen only [] (plan .element) (plan .after .bytes) [] (λ k h. refl)
-    ∙ append-nil (map (map (numberOf names)) (traces chosen (plan .element)))
+    ∙ append-nil (map (map (nameNumber names)) (traces chosen (plan .element)))

@@ -5,7 +5,7 @@ use mathlib.Core.List.{List, map, List·Memᴰ as In}
 use Prim.Native.Nat.{ℕ, _<_}
 use lib.Dec.{eqb}
 use Rattle.base.specs.Lists.{same}
-use Rattle.model.specs.Fields.{numberOf}
+use Rattle.model.specs.Fields.{nameNumber}
 use Rattle.written_plans.specs.Written.{Plan, planBytes, planTags, traces, Fault, First}
 use Rattle.written_plans.specs.Reading.{readPlan, entryOf, rowsIn}
 
@@ -28,13 +28,13 @@ pub record ReadingTells (names : List (List ℕ)) (chosen s : List ℕ) : Type 0
 
 -- this number is that of the chosen name, and of no other
 abbrev pub NumberOnly : List (List ℕ) → ℕ → List ℕ → Type 0
-NumberOnly names number chosen = (n : List ℕ) → eqb (numberOf names n) number ≡ same n chosen
+NumberOnly names number chosen = (n : List ℕ) → eqb (nameNumber names n) number ≡ same n chosen
 
 -- the rows made from the numbers and depths of a plan's tags are the traces, name by name
 abbrev pub RowsAreTraces : Type 0
 RowsAreTraces =
     (names : List (List ℕ)) (number : ℕ) (chosen : List ℕ) → NumberOnly names number chosen → (plan : Plan)
-    → rowsIn number (map (entryOf names) (planTags plan)) ≡ map (map (numberOf names)) (traces chosen (plan .element))
+    → rowsIn number (map (entryOf names) (planTags plan)) ≡ map (map (nameNumber names)) (traces chosen (plan .element))
 
 -- every name in these rows is among the names
 abbrev pub Known : List (List ℕ) → List (List (List ℕ)) → Type 0

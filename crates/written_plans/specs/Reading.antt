@@ -9,7 +9,7 @@ use lib.ListN.{length}
 use Rattle.base.specs.Lists.{all, same, hasRow}
 use Rattle.base.specs.Limits.{book-rows, row-limit, plan-depth, when, firstOf}
 use Rattle.base.specs.Limits.{too-many, bad-row, bad-plan, too-deep, unknown-child}
-use Rattle.model.specs.Fields.{nameOk, numberOf}
+use Rattle.model.specs.Fields.{nameOk, nameNumber}
 use Rattle.written_plans.specs.Written.{less, greater, slash, isWhite, isText, Tag, tag}
 
 -- the bytes begin a name: as names are, every beginning of a name that has a byte is a name itself
@@ -131,22 +131,22 @@ tagsFault judge [] = 0
 tagsFault judge (t ∷ ts) = judge t
 
 -- the bytes from a place on, the number of the first of them being p; each tag that is met is judged
-unfoldable pub readFrom : (Tag → ℕ) → Place → ℕ → List ℕ → Reading
-readFrom judge q p [] = ended q p
-readFrom judge q p (b ∷ s) =
+unfoldable pub readPlanFrom : (Tag → ℕ) → Place → ℕ → List ℕ → Reading
+readPlanFrom judge q p [] = ended q p
+readPlanFrom judge q p (b ∷ s) =
     elim (step q b) [
       | stop ↦ refusedAt bad-plan p
       | go r ↦
           let fault = tagsFault judge (met q b s) in
           elim (eqb fault 0) [
-            | true ↦ withTags (met q b s) (readFrom judge r (suc p) s)
+            | true ↦ withTags (met q b s) (readPlanFrom judge r (suc p) s)
             | false ↦ refusedAt fault p
           ]
     ]
 
 -- a whole plan, with a list of names and the chosen one among them
 unfoldable pub readPlan : List (List ℕ) → List ℕ → List ℕ → Reading
-readPlan names chosen s = readFrom (tagFault names chosen) before 0 s
+readPlan names chosen s = readPlanFrom (tagFault names chosen) before 0 s
 
 -- ---- rows
 
@@ -157,7 +157,7 @@ pub record Entry : Type 0 where
 
 -- what is kept of a tag, with these names
 abbrev pub entryOf : List (List ℕ) → Tag → Entry
-entryOf names t = record { number = numberOf names (t .name); depth = length (t .around) }
+entryOf names t = record { number = nameNumber names (t .name); depth = length (t .around) }
 
 -- the row of an element at this depth: the numbers of the tags one deeper, up to the first tag that is not inside it
 unfoldable pub rowAfter : ℕ → List Entry → List ℕ

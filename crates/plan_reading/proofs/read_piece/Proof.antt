@@ -9,7 +9,7 @@ use Rattle.written_plans.specs.Written.{Tag, tag}
 use Rattle.written_plans.specs.Reading.{Place}
 use Rattle.plan_reading.specs.Scanning.{part}
 use Rattle.plan_reading.specs.Pieces.{openNames, placeOf, Met, PieceFrom, AfterLess}
-use Rattle.plan_reading.specs.Turns.{namesOf, chosenOf, judgeOf}
+use Rattle.plan_reading.specs.Turns.{soughtNames, soughtName, judgeOf}
 use Rattle.plan_reading.specs.declared.pieces.Piece.{Piece}
 use Rattle.plan_reading.proofs.StackLaws.{fine-shallow}
 use Rattle.plan_reading.proofs.TurnLaws.{turn-stops, turn-past, turn-fault, turn-element}
@@ -18,7 +18,7 @@ use Rattle.plan_reading.proofs.read_piece.Tie as tie
 
 -- the names, and how a tag is judged
 abbrev names : tie.Start → List (List ℕ)
-names c = namesOf (c .args .list .now) (c .args .sought)
+names c = soughtNames (c .args .list .now) (c .args .sought)
 
 abbrev judge : tie.Start → Tag → ℕ
 judge c = judgeOf (c .args .list .now) (c .args .sought)
@@ -140,7 +140,7 @@ begin-element-requires c κs =
     let here = named (put .before .before) in
     let begun = entry here in
     let a = begun .args in
-    let shallow = fine-shallow (names begun) (chosenOf (a .list .now) (a .sought)) (a .plan .now) (a .stack .now) (a .r .depth) (name here)
+    let shallow = fine-shallow (names begun) (soughtName (a .list .now) (a .sought)) (a .plan .now) (a .stack .now) (a .r .depth) (name here)
     (drop (end here) (a .plan .now)) (fine put) in
     (found here .0 .here, (found here .1, (shallow, begun .pre .1 .1 .1 .0 .stacked)))
 

@@ -7,7 +7,7 @@ use native.Mathlib.Omega.{arith}
 use borrow.Author.Needs.{needs}
 use lib.ListN.{length}
 use Rattle.written_plans.specs.Reading.{tagFault}
-use Rattle.plan_reading.specs.Turns.{namesOf, chosenOf, TurnFrom}
+use Rattle.plan_reading.specs.Turns.{soughtNames, soughtName, TurnFrom}
 use Rattle.plan_reading.specs.declared.Turn.{Turn}
 use Rattle.plan_reading.proofs.TurnLaws.{ReadSoFar, plan-begins, plan-goes, plan-refused, plan-read, plan-unfinished}
 use Rattle.plan_reading.proofs.read_plan.Statement.{statement}
@@ -15,17 +15,17 @@ use Rattle.plan_reading.proofs.read_plan.Tie as tie
 
 abbrev Inv-loop : tie.InvT-loop
 Inv-loop plan list sought log₀ index stack₀ r₀ log stack r =
-    ReadSoFar (namesOf list sought) (chosenOf list sought) plan stack log r × (length log ≡ length log₀)
+    ReadSoFar (soughtNames list sought) (soughtName list sought) plan stack log r × (length log ≡ length log₀)
 
 abbrev μ-loop : tie.MeasureT-loop
 μ-loop plan list sought log₀ index stack₀ r₀ log stack r = length plan - r .at
 
 -- the names, and the chosen one
 abbrev names : tie.Start Inv-loop μ-loop → List (List ℕ)
-names c = namesOf (c .args .list .now) (c .args .sought)
+names c = soughtNames (c .args .list .now) (c .args .sought)
 
 abbrev chosen : tie.Start Inv-loop μ-loop → List ℕ
-chosen c = chosenOf (c .args .list .now) (c .args .sought)
+chosen c = soughtName (c .args .list .now) (c .args .sought)
 
 index-names-requires : tie.Need-index-names-requires Inv-loop μ-loop
 index-names-requires c κs =

@@ -9,13 +9,13 @@ use Rattle.written_plans.specs.Reading.{rowsIn}
 use Rattle.plan_rows.specs.LoggedRows.{entriesFrom, rowAt, logRows}
 use Rattle.plan_rows.proofs.LogLaws.{entries-all, rows-chosen, rows-other, rows-end}
 use Rattle.plan_rows.proofs.Faults.{rows-too-many}
-use Rattle.plan_rows.proofs.Measuring.{Passed, passed-none, passed-more, passed-long, passed-all}
+use Rattle.plan_rows.proofs.Measuring.{MeasuredTo, passed-none, passed-more, passed-long, passed-all}
 use Rattle.plan_rows.proofs.measure_rows.Statement.{statement}
 use Rattle.plan_rows.proofs.measure_rows.Tie as tie
 
 abbrev Inv-loop : tie.InvT-loop
 Inv-loop log count chosen rows bytes₀ i₀ bytes i =
-    (i ≤ count) × (bytes ≤ (3 + row-limit) * i) × Passed (logRows log count chosen) (rowsIn chosen (entriesFrom log count i)) bytes
+    (i ≤ count) × (bytes ≤ (3 + row-limit) * i) × MeasuredTo (logRows log count chosen) (rowsIn chosen (entriesFrom log count i)) bytes
 
 abbrev μ-loop : tie.MeasureT-loop
 μ-loop log count chosen rows bytes₀ i₀ bytes i = count - i
@@ -35,14 +35,14 @@ turn : (c : tie.Then2 Inv-loop μ-loop)
     → let loop = c .before .before .before .loop in
     let start = start (counted (c .before .before)) in
     let args = start .args in
-    Passed (all start)
+    MeasuredTo (all start)
     (rowAt (args .log .now) (args .count) (loop .i) ∷ rowsIn (args .chosen) (entriesFrom (args .log .now) (args .count) (loop .i + 1)))
     (loop .bytes)
 turn c =
     let loop = c .before .before .before .loop in
     let start = start (counted (c .before .before)) in
     let args = start .args in
-    subst (λ (l : List (List ℕ)). Passed (all start) l (loop .bytes))
+    subst (λ (l : List (List ℕ)). MeasuredTo (all start) l (loop .bytes))
     (rows-chosen (args .log .now) (args .count) (loop .i) (args .chosen) (omega arith) (c .if2 .taken)) (loop .inv .2)
 
 count-rows-requires : tie.Need-count-rows-requires Inv-loop μ-loop
@@ -101,7 +101,7 @@ loop-again c =
       omega arith,
       omega arith,
       rw (w .1)
-          (subst (λ (l : List (List ℕ)). Passed (all start) l (loop .bytes))
+          (subst (λ (l : List (List ℕ)). MeasuredTo (all start) l (loop .bytes))
           (rows-other (args .log .now) (args .count) (loop .i) (args .chosen) (omega arith) (w .0 .left)) (loop .inv .2)),
     ))
     (c .if2 .came)
@@ -112,7 +112,7 @@ returns-3 c =
     let before = c .before .before .before in
     let args = start before .args in
     passed-all (before .count-rows .result) (before .count-rows .ensures) (omega arith)
-    (subst (λ (l : List (List ℕ)). Passed (all (start before)) l (loop .bytes))
+    (subst (λ (l : List (List ℕ)). MeasuredTo (all (start before)) l (loop .bytes))
     (rows-end (args .log .now) (args .count) (loop .i) (args .chosen) (omega arith)) (loop .inv .2))
 
 pub measure-rows-spec : {M : Type 1} → statement M

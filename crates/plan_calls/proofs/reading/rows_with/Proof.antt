@@ -5,7 +5,7 @@ use Prim.Native.Nat.{ℕ}
 use native.Mathlib.Omega.{arith}
 use Rattle.model.proofs.CallLaws.{gives-as}
 use Rattle.written_plans.specs.Reading.{Reading, readPlan}
-use Rattle.plan_reading.specs.Turns.{namesOf, chosenOf, Room, Logged, RefusedAs, PlanReadAs}
+use Rattle.plan_reading.specs.Turns.{soughtNames, soughtName, Room, Logged, RefusedAs, PlanReadAs}
 use Rattle.plan_reading.specs.declared.PlanRead.{PlanRead}
 use Rattle.plan_calls.proofs.RowsLaws.{rows-read, log-held, place-within, plan-refused}
 use borrow.Author.Needs.{needs}
@@ -20,10 +20,10 @@ abbrev plan : tie.After-read-plan → List ℕ
 plan c = start c .args .plan .now
 
 abbrev names : tie.After-read-plan → List (List ℕ)
-names c = namesOf (start c .args .list .now) (start c .args .sought)
+names c = soughtNames (start c .args .list .now) (start c .args .sought)
 
 abbrev chosen : tie.After-read-plan → List ℕ
-chosen c = chosenOf (start c .args .list .now) (start c .args .sought)
+chosen c = soughtName (start c .args .list .now) (start c .args .sought)
 
 abbrev read : tie.After-read-plan → Reading
 read c = readPlan (names c) (chosen c) (plan c)
