@@ -126,7 +126,8 @@ returns-4 c =
     let fits = fitting read in
     let at = sized fits in
     rows-asked (plan at) (list at) (chosen at) (work at) (out at) (plan-fits (fits .before .before)) (list-fits fits)
-    (listed read) (omega (arith, tested .if3 .left)) (called .rows-with .last .1 .1 .1 .1 .0) (called .rows-with .result) (called .rows-with .ensures)
+    (listed read) (omega (arith, tested .if3 .left)) (called .rows-with .last .1 .1 .1 .1 .0) (called .rows-with .result)
+    (called .rows-with .ensures)
 
 returns-5 : tie.Need-returns-5
 returns-5 c =

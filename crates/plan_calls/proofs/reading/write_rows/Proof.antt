@@ -46,7 +46,8 @@ not-read-requires c κs = search needs
 returns : tie.Need-returns
 returns c =
     let at = c .before .before .before in
-    gives-as _ _ (c .not-read .ensures) (rows-short (rows (called at)) (out (called at)) (measured at) (omega (arith, c .before .if1 .taken)))
+    gives-as _ _ (c .not-read .ensures)
+    (rows-short (rows (called at)) (out (called at)) (measured at) (omega (arith, c .before .if1 .taken)))
 
 put-rows-requires : tie.Need-put-rows-requires
 put-rows-requires c κs =
