@@ -51,15 +51,18 @@ refused-low c place k out is refuses low =
 -- ---- rows written
 
 module _ (rows : List (List ℕ)) (out : List ℕ) where
+  -- 7 or 9
   pub rows-refused : (k : ℕ) → Refuses (rowsFault rows) k → Gives (writingRows rows) (out ∷ []) (out ∷ []) (plan-rows k 0 0 0)
   rows-refused k refuses = refused-low (writingRows rows) 0 k out refl refuses (omega (arith, refuses .is, rows-low rows))
 
   module _ {count bytes : ℕ} (measured : MeasuredAs rows count bytes) where
+    -- 13
     pub rows-short :
         length out < bytes → Gives (writingRows rows) (out ∷ []) (out ∷ []) (plan-rows output-too-short 0 0 0)
     rows-short short =
         call-one-short (writingRows rows) (rowFields rows) out refl (measured .no-fault) (omega (arith, measured .bytes-are))
 
+    -- the rows at the front of the output
     pub rows-written :
         (out′ : List ℕ) (after : ℕ) → bytes ≤ length out → Put out out′ 0 (rowFields rows) after →
         Gives (writingRows rows) (out ∷ []) (out′ ∷ []) (plan-rows 0 bytes count 0)
@@ -100,16 +103,16 @@ written-at place rows outs outs′ r gives =
       outputs-are = gives .outputs-are;
     }
 
-module _ (names : List (List ℕ)) (chosen : ℕ) (read : Reading) where
-  pub rows-read :
-      {s log : List ℕ} {count : ℕ} → Logged names read s log count → (outs outs′ : List (List ℕ)) (r : PlanRows) →
-      Gives (writingRows (logRows log count chosen)) outs outs′ r → Gives (rowsWith names chosen read) outs outs′ r
-  rows-read logged outs outs′ r gives =
-      let rows = rowsIn chosen (map (entryOf names) (read .met-tags)) in
-      let is = ap (rowsIn chosen) (logged .logged) in
-      subst (λ (n : ℕ). Gives (rowsOr n (read .place) rows) outs outs′ r) (sym (logged .no-fault))
-      (written-at (read .place) rows outs outs′ r
-      (subst (λ (l : List (List ℕ)). Gives (writingRows l) outs outs′ r) is gives))
+-- the rows in the log of a plan's tags are the plan's
+pub rows-read :
+    (names : List (List ℕ)) (chosen : ℕ) (read : Reading) {s log : List ℕ} {count : ℕ} → Logged names read s log count →
+    (outs outs′ : List (List ℕ)) (r : PlanRows) → Gives (writingRows (logRows log count chosen)) outs outs′ r →
+    Gives (rowsWith names chosen read) outs outs′ r
+rows-read names chosen read logged outs outs′ r gives =
+    let rows = rowsIn chosen (map (entryOf names) (read .met-tags)) in
+    let is = ap (rowsIn chosen) (logged .logged) in
+    subst (λ (n : ℕ). Gives (rowsOr n (read .place) rows) outs outs′ r) (sym (logged .no-fault))
+    (written-at (read .place) rows outs outs′ r (subst (λ (l : List (List ℕ)). Gives (writingRows l) outs outs′ r) is gives))
 
 -- a log that holds a plan's tags
 pub log-held :
@@ -122,6 +125,7 @@ module _ (names : List (List ℕ)) (name s : List ℕ) {k p : ℕ} (refused : Re
   pub place-within : p ≤ length s
   place-within = omega (arith, refused .place-is, plan-refusal names name s (omega (arith, refused .number-is, refused .some)) .within)
 
+  -- 14, 15 or 16, with its place
   pub plan-refused :
       (chosen : ℕ) (out : List ℕ) → Gives (rowsWith names chosen (readPlan names name s)) (out ∷ []) (out ∷ []) (plan-rows k 0 0 p)
   plan-refused chosen out =
@@ -137,6 +141,7 @@ module _ (names : List (List ℕ)) (name s : List ℕ) {k p : ℕ} (refused : Re
 -- ---- what is refused before the plan is read
 
 module _ (plan list : List ℕ) (chosen : ℕ) (work out : List ℕ) where
+  -- by any of these
   asked-refused :
       (k : ℕ) → Refuses (askedFault plan list chosen work) k → k < bad-plan →
       Gives (readingRows plan list chosen work) (out ∷ []) (out ∷ []) (plan-rows k 0 0 0)
@@ -144,12 +149,14 @@ module _ (plan list : List ℕ) (chosen : ℕ) (work out : List ℕ) where
   asked-refused k refuses low =
       refused-low (readingRows plan list chosen work) (planReading plan list chosen .place) k out refl (refuses-first _ refuses) low
 
+  -- 1 for the plan
   pub plan-sizes-refused :
       SizesBad plan work ≡ true → Gives (readingRows plan list chosen work) (out ∷ []) (out ∷ []) (plan-rows bad-sizes 0 0 0)
   unfolding askedFault
   plan-sizes-refused bad = asked-refused bad-sizes (refuses-first _ (sizes-refuse plan work bad)) (omega arith)
 
   module _ (plan-fits : SizesBad plan work ≡ false) where
+    -- 1 for the list
     pub list-sizes-refused :
         SizesBad list work ≡ true → Gives (readingRows plan list chosen work) (out ∷ []) (out ∷ []) (plan-rows bad-sizes 0 0 0)
     unfolding askedFault
@@ -158,6 +165,7 @@ module _ (plan list : List ℕ) (chosen : ℕ) (work out : List ℕ) where
         (omega arith)
 
     module _ (list-fits : SizesBad list work ≡ false) where
+      -- the list's own refusals
       pub list-refused :
           (k : ℕ) → readNames list .number ≡ k → 0 < k →
           Gives (readingRows plan list chosen work) (out ∷ []) (out ∷ []) (plan-rows k 0 0 0)
@@ -173,6 +181,7 @@ module _ (plan list : List ℕ) (chosen : ℕ) (work out : List ℕ) where
         names-count : length (namesOf list) ≡ p .names
         names-count = ap length (at .names-are) ∙ length-fields list 0 (p .names)
 
+        -- 9 for a number that names nothing
         pub chosen-refused :
             p .names ≤ chosen → Gives (readingRows plan list chosen work) (out ∷ []) (out ∷ []) (plan-rows bad-row 0 0 0)
         unfolding askedFault
@@ -184,8 +193,7 @@ module _ (plan list : List ℕ) (chosen : ℕ) (work out : List ℕ) where
             (refuses-when (le-leb (length (namesOf list)) chosen (omega (arith, names-count))) (omega arith)))))
             (omega arith)
 
-        -- ---- nothing is refused before the plan is read
-
+        -- by none of these
         none-asked : chosen < p .names → askedFault plan list chosen work ≡ 0
         unfolding askedFault
         none-asked some =
@@ -194,6 +202,7 @@ module _ (plan list : List ℕ) (chosen : ℕ) (work out : List ℕ) where
             (refuses-none (at .accepted)
             (ap (λ (b : Bool). when b bad-row) (lt-leb (length (namesOf list)) chosen (omega (arith, names-count))))))
 
+        -- then the call gives what the plan and its rows come to
         pub rows-asked :
             chosen < p .names → (out′ : List ℕ) (r : PlanRows) →
             Gives (rowsWith (fieldsAt list 0 (p .names)) chosen

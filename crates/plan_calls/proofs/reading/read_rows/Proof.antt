@@ -95,7 +95,7 @@ returns-3 c =
     let at = sized fits in
     gives-as _ _ (c .not-read3 .ensures)
     (chosen-refused (plan at) (list at) (chosen at) (work at) (out at) (plan-fits (fits .before .before)) (list-fits fits)
-    (listed read) (c .before .if3 .taken))
+    (listed read) (omega (arith, c .before .if3 .taken)))
 
 rows-with-requires : tie.Need-rows-with-requires
 rows-with-requires c κs =
@@ -104,7 +104,7 @@ rows-with-requires c κs =
     let at = sized fits in
     let l = listed read in
     let room = plan-room (plan at) (work at) (plan-fits (fits .before .before)) in
-    (l .few, (omega (arith, l .names-end), (list-named l (c .before .before .if3 .left), room)))
+    (l .few, (omega (arith, l .names-end), (list-named l (omega (arith, c .before .before .if3 .left)), room)))
 
 enum-known-read-2 : tie.Need-enum-known-read-2
 enum-known-read-2 c = search needs
@@ -126,7 +126,8 @@ returns-4 c =
     let fits = fitting read in
     let at = sized fits in
     rows-asked (plan at) (list at) (chosen at) (work at) (out at) (plan-fits (fits .before .before)) (list-fits fits)
-    (listed read) (tested .if3 .left) (called .rows-with .last .1 .1 .1 .1 .0) (called .rows-with .result) (called .rows-with .ensures)
+    (listed read) (omega (arith, tested .if3 .left)) (called .rows-with .last .1 .1 .1 .1 .0) (called .rows-with .result)
+    (called .rows-with .ensures)
 
 returns-5 : tie.Need-returns-5
 returns-5 c =

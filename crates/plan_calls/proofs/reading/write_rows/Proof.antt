@@ -46,7 +46,8 @@ not-read-requires c κs = search needs
 returns : tie.Need-returns
 returns c =
     let at = c .before .before .before in
-    gives-as _ _ (c .not-read .ensures) (rows-short (rows (called at)) (out (called at)) (measured at) (c .before .if1 .taken))
+    gives-as _ _ (c .not-read .ensures)
+    (rows-short (rows (called at)) (out (called at)) (measured at) (omega (arith, c .before .if1 .taken)))
 
 put-rows-requires : tie.Need-put-rows-requires
 put-rows-requires c κs =
@@ -78,7 +79,7 @@ returns-2 c =
     let put = c .before .before in
     let at = put .before .before .before .before in
     rows-written (rows (called at)) (out (called at)) (measured at) (put .put-rows .last .1 .1 .1 .0) (put .put-rows .result)
-    (put .before .before .if1 .left) (put .put-rows .ensures)
+    (omega (arith, put .before .before .if1 .left)) (put .put-rows .ensures)
 
 returns-3 : tie.Need-returns-3
 returns-3 c =
