@@ -3,32 +3,28 @@
 use mathlib.Core.Path.{_≡_, refl, sym, ap, _∙_, subst}
 use mathlib.Core.Bool.{Bool, true, false}
 use mathlib.Core.List.{List, [], _∷_, map}
-use Prim.Native.Nat.{ℕ, _+_, _*_, _≤_, _<_}
+use Prim.Native.Nat.{ℕ, _≤_, _<_}
 use native.Mathlib.Omega.{arith}
 use borrow.Author.Tests.{le-leb, lt-leb}
-use lib.Dec.{leb, ltb}
 use lib.ListN.{length, getD}
-use Rattle.base.specs.Limits.{name-limit, when, firstOf, book-rows, rows-bytes, bad-sizes, bad-row, bad-plan, output-too-short}
+use Rattle.base.specs.Limits.{when, firstOf, book-rows, rows-bytes, bad-sizes, bad-row, bad-plan, output-too-short}
 use Rattle.model.specs.Fields.{standard, name-list, readNames}
 use Rattle.model.specs.Tables.{rowFields}
-use Rattle.model.specs.Calls.{Call, Gives, Refuses, tooShort, unless, faultWith, namesOf, sizesFault}
+use Rattle.model.specs.Calls.{Call, Gives, Refuses, tooShort, unless, faultWith, namesOf}
 use Rattle.model.proofs.CallLaws.{refuses-first, refuses-then, refuses-none, refuses-when, call-refused, gives-as}
 use Rattle.model.proofs.CallLaws.{call-one-short, call-one-wrote, SizesBad, sizes-refuse, sizes-pass, sizes-fit}
 use Rattle.model.proofs.LowNumbers.{when-low, first-low, fields-low}
 use Rattle.model.proofs.NameLists.{names-ascend}
-use Rattle.judging.specs.Offsets.{offsetAt, fieldsAt}
+use Rattle.judging.specs.Offsets.{fieldsAt}
 use Rattle.judging.proofs.OffsetLaws.{length-fields}
 use Rattle.fields.proofs.Parts.{ListAt}
 use Rattle.fields.specs.declared.Place as reader
 use Rattle.writing.specs.Writing.{Put}
 use Rattle.writing.proofs.WritingLaws.{written-from-zero}
-use Rattle.written_plans.specs.Reading.{Reading, readPlan, Entry, entryOf, rowsIn, rowsFault}
-use Rattle.written_plans.specs.Logs.{entriesAt}
-use Rattle.written_plans.specs.Calls.{chosenName, planReading, planRows, askedFault, planFault}
+use Rattle.written_plans.specs.Reading.{Reading, readPlan, entryOf, rowsIn, rowsFault}
+use Rattle.written_plans.specs.Calls.{planReading, planRows, askedFault, planFault}
 use Rattle.written_plans.proofs.Numbers.{plan-refusal}
 use Rattle.plan_reading.specs.Turns.{Named, Room, Logged, RefusedAs}
-use Rattle.plan_reading.specs.Turns as reading
-use Rattle.plan_reading.specs.declared.Sought.{Sought}
 use Rattle.plan_rows.specs.LoggedRows.{Held, logRows, MeasuredAs}
 use Rattle.plan_rows.proofs.Faults.{rows-passed, rows-low}
 use Rattle.plan_rows.proofs.Lengths.{rows-length}
@@ -121,14 +117,14 @@ pub log-held :
 log-held room logged =
     record { within = omega (arith, room .short, room .long, logged .few); few = omega (arith, room .short, logged .few) }
 
-module _ (names : List (List ℕ)) (chosen : ℕ) (name s : List ℕ) {k p : ℕ} (refused : RefusedAs (readPlan names name s) k p) where
+module _ (names : List (List ℕ)) (name s : List ℕ) {k p : ℕ} (refused : RefusedAs (readPlan names name s) k p) where
   -- the place of a refusal
   pub place-within : p ≤ length s
   place-within = omega (arith, refused .place-is, plan-refusal names name s (omega (arith, refused .number-is, refused .some)) .within)
 
   pub plan-refused :
-      (out : List ℕ) → Gives (rowsWith names chosen (readPlan names name s)) (out ∷ []) (out ∷ []) (plan-rows k 0 0 p)
-  plan-refused out =
+      (chosen : ℕ) (out : List ℕ) → Gives (rowsWith names chosen (readPlan names name s)) (out ∷ []) (out ∷ []) (plan-rows k 0 0 p)
+  plan-refused chosen out =
       let read = readPlan names name s in
       let high = plan-refusal names name s (omega (arith, refused .number-is, refused .some)) .high in
       gives-as (rowsWith names chosen read) (out ∷ [])
@@ -221,13 +217,15 @@ module _ (plan list : List ℕ) (chosen : ℕ) (work out : List ℕ) where
             Gives (rowsWith names chosen (readPlan names (getD names chosen []) plan)) (out ∷ []) (out′ ∷ []) r)
             (sym (at .names-are)) gives)
 
-      -- what the plan is read with
-      pub room : Room plan work
-      room =
-          let fit = sizes-fit plan work (sizes-pass plan work plan-fits) in
-          record { short = fit .input-fits; long = fit .work-fits }
+-- ---- what a plan is read with
 
--- the names that are sought
+-- a plan and an area whose sizes are not refused
+pub plan-room : (plan work : List ℕ) → SizesBad plan work ≡ false → Room plan work
+plan-room plan work fits =
+    let fit = sizes-fit plan work (sizes-pass plan work fits) in
+    record { short = fit .input-fits; long = fit .work-fits }
+
+-- the names of an accepted list, and the number of one of them
 pub list-named :
     {list : List ℕ} {p : reader.Place} {chosen : ℕ} → ListAt list p → chosen < p .names →
     Named list (record { names = p .names; chosen = chosen })

@@ -80,7 +80,7 @@ pub fn list_book(book: &[u8], work: &mut [u8], text: &mut [u8]) -> Written
 }
 
 // Reads a plan, an XML file, and writes one row field for each of its elements with the chosen name: the numbers of the element's children.
-// `rows-handed-over` of the crate handed_over says what holds of the rows that are written, and of each refusal.
+// `rows-handed-over` of the crate rows_handed_over says what holds of the rows that are written, and of each refusal.
 pub fn rows_of_plan(
     plan: &[u8],
     names: &[u8],

@@ -60,15 +60,16 @@ pub record MakesBook (c : RowsCall) (plan : Plan) (settings : Settings) : Type 0
       readBook settings (c .list ++ (classField class ++ rowsWritten c))
       ≡ accepted-file (file items-met (namesOf (c .list)) class (rowsOf c plan))
 
+-- what holds of every call
 pub record RowsHandedOver : Type 0 where
-  -- a refusal 14, 15 or 16 is the first fault of all in the plan, at its place; with any other refusal the place is 0
+  -- a refusal 14, 15 or 16 is the first fault of all in the plan, at its place; with any other refusal, and with none, the place is 0
   pub first : (c : RowsCall) → bad-plan ≤ c .result .refusal
       → First (namesOf (c .list)) (chosenName (c .list) (c .chosen)) (c .plan) (c .result .refusal) (c .result .at)
   pub no-place : (c : RowsCall) → c .result .refusal < bad-plan → c .result .at ≡ 0
   -- what is not refused is a plan without a fault
   pub is-plan : (c : RowsCall) → c .result .refusal ≡ 0 → (plan : Plan) × (planBytes plan ≡ c .plan)
   pub no-fault : (c : RowsCall) → c .result .refusal ≡ 0 → NoFault c
-  -- its traces are what was written, in at most 17,152 bytes, and at least one of them makes a book
+  -- its traces are what was written, in at most 17,152 bytes; where there is a row, the list and the rows make a book
   pub traced : (c : RowsCall) → c .result .refusal ≡ 0 → (plan : Plan) → planBytes plan ≡ c .plan → Traced c plan
   pub short : (c : RowsCall) → c .result .refusal ≡ 0 → c .result .length ≤ rows-bytes
   pub makes-book : (c : RowsCall) → c .result .refusal ≡ 0 → 1 ≤ c .result .rows → (plan : Plan) → planBytes plan ≡ c .plan

@@ -1,5 +1,4 @@
 -- Which numbers reading refuses with, and where: 14, 15 or 16, at a place within the bytes. Assumes nothing.
-use mathlib.Core.Path.{_≡_}
 use mathlib.Core.List.{List}
 use Prim.Native.Nat.{ℕ, _≤_, _<_}
 use native.Mathlib.Omega.{arith}

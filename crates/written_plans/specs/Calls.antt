@@ -21,7 +21,7 @@ planReading plan list chosen = readPlan (namesOf list) (chosenName list chosen) 
 unfoldable pub planRows : List ℕ → List ℕ → ℕ → List (List ℕ)
 planRows plan list chosen = rowsIn chosen (map (entryOf (namesOf list)) (planReading plan list chosen .met-tags))
 
--- before the plan is read: 1 for the plan or the list; the list's own refusals; 9 for a number that names nothing
+-- before the plan is read: 1 for the plan, the list or the working area; the list's own refusals; 9 for a number that names nothing
 unfoldable pub askedFault : List ℕ → List ℕ → ℕ → List ℕ → ℕ
 askedFault plan list chosen work =
     firstOf (sizesFault plan work)
@@ -29,7 +29,7 @@ askedFault plan list chosen work =
     (firstOf (readNames list .number)
     (when (leb (length (namesOf list)) chosen) bad-row)))
 
--- then 14, 15 or 16, the first in the plan; 7 for a 257th row, and 9 for a row too long
+-- then 14, 15 or 16, the first in the plan; 7 for a 257th row, and 9 for a row too long; 13 comes after these (faultWith of model)
 unfoldable pub planFault : List ℕ → List ℕ → ℕ → List ℕ → ℕ
 planFault plan list chosen work =
     firstOf (askedFault plan list chosen work)

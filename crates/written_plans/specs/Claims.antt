@@ -23,7 +23,7 @@ pub record ReadingTells (names : List (List ℕ)) (chosen s : List ℕ) : Type 0
   pub faultless : readPlan names chosen s .number ≡ 0 → Faultless names chosen s
   pub tags-are : readPlan names chosen s .number ≡ 0 → (plan : Plan) → planBytes plan ≡ s
       → readPlan names chosen s .met-tags ≡ planTags plan
-  -- what has no fault is not refused, which is then a plan
+  -- what has no fault is not refused, and so is a plan
   pub accepts : Faultless names chosen s → readPlan names chosen s .number ≡ 0
 
 -- this number is that of the chosen name, and of no other

@@ -26,7 +26,7 @@ pub data Place : Type 0 where
   inside : List ℕ → List (List ℕ) → Place
   -- after the `<` of a tag
   opened : List (List ℕ) → Place
-  -- in the name of a tag that begins an element, so many bytes of which are read
+  -- in the name of a tag that begins an element, with the bytes of it that are read
   naming : List (List ℕ) → List ℕ → Place
   -- in the white space after it
   named : List (List ℕ) → List ℕ → Place
@@ -125,7 +125,7 @@ ended after p = refusedAt 0 0
 abbrev pub withTags : List Tag → Reading → Reading
 withTags ts r = record { number = r .number; place = r .place; met-tags = ts ++ r .met-tags }
 
--- what the tags met at a byte are refused for
+-- what the tag met at a byte is refused for, 0 where none is met; at one byte no more than one is
 abbrev pub tagsFault : (Tag → ℕ) → List Tag → ℕ
 tagsFault judge [] = 0
 tagsFault judge (t ∷ ts) = judge t

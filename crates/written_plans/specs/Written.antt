@@ -163,7 +163,7 @@ pub record TagAt (s : List ℕ) (p : ℕ) (t : Tag) : Type 0 where
   pub of-plan : In t (planTags plan)
   pub here : drop p (planBytes plan) ≡ t .onward
 
--- 15 at place p: an element inside 16 others
+-- 15 at place p, the byte after the tag's name: an element inside 16 others or more
 abbrev pub Deep : List ℕ → ℕ → Type 0
 Deep s p = (t : Tag) × TagAt s p t × (plan-depth ≤ length (t .around))
 
@@ -171,7 +171,7 @@ Deep s p = (t : Tag) × TagAt s p t × (plan-depth ≤ length (t .around))
 abbrev pub ChildOf : List ℕ → Tag → Type 0
 ChildOf chosen t = (others : List (List ℕ)) × (t .around ≡ chosen ∷ others)
 
--- 16 at place p: a child of an element of the chosen name that is not among the names
+-- 16 at place p, the byte after the tag's name: a child of an element of the chosen name, whose own name is not among the names
 abbrev pub Unknown : List (List ℕ) → List ℕ → List ℕ → ℕ → Type 0
 Unknown names chosen s p = (t : Tag) × TagAt s p t × ChildOf chosen t × (In (t .name) names → ⊥)
 

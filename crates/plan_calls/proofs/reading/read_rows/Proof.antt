@@ -11,7 +11,7 @@ use Rattle.fields.specs.declared.Fields.{Fields}
 use Rattle.fields.specs.declared.Fields.the-variants as answer
 use Rattle.fields.proofs.Parts.{ListAt, list-at, refused-number}
 use Rattle.plan_calls.proofs.RowsLaws.{plan-sizes-refused, list-sizes-refused, list-refused, chosen-refused, rows-asked}
-use Rattle.plan_calls.proofs.RowsLaws.{room, list-named}
+use Rattle.plan_calls.proofs.RowsLaws.{plan-room, list-named}
 use borrow.Author.Needs.{needs}
 use Rattle.plan_calls.proofs.reading.read_rows.Statement.{statement}
 use Rattle.plan_calls.proofs.reading.read_rows.Tie as tie
@@ -103,8 +103,8 @@ rows-with-requires c κs =
     let fits = fitting read in
     let at = sized fits in
     let l = listed read in
-    let lent = room (plan at) (list at) (chosen at) (work at) (out at) (plan-fits (fits .before .before)) (list-fits fits) in
-    (l .few, (omega (arith, l .names-end), (list-named l (c .before .before .if3 .left), lent)))
+    let room = plan-room (plan at) (work at) (plan-fits (fits .before .before)) in
+    (l .few, (omega (arith, l .names-end), (list-named l (c .before .before .if3 .left), room)))
 
 enum-known-read-2 : tie.Need-enum-known-read-2
 enum-known-read-2 c = search needs

@@ -75,7 +75,7 @@ cast-not-read c =
     omega (
       arith,
       start before .pre .1 .1 .1 .short,
-      place-within (names before) (start before .args .sought .chosen) (chosen before) (plan before) (refused at),
+      place-within (names before) (chosen before) (plan before) (refused at),
     )
 
 not-read-requires : tie.Need-not-read-requires
@@ -103,7 +103,7 @@ returns-2 c =
     let at = c .before .before in
     let before = told at in
     gives-as _ _ (c .not-read .ensures)
-    (plan-refused (names before) (start before .args .sought .chosen) (chosen before) (plan before) (refused at)
+    (plan-refused (names before) (chosen before) (plan before) (refused at) (start before .args .sought .chosen)
     (start before .args .out .now))
 
 pub rows-with-spec : {M : Type 1} → statement M
