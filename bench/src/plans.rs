@@ -1,8 +1,9 @@
 //! The plans that are timed, each of as many bytes as a plan may have.
 
-use crate::book::{put_names, short_names, NAME_LIMIT, ROW_LENGTH, ROW_LIMIT};
+use crate::book::{put_names, NAME_LIMIT, ROW_LENGTH, ROW_LIMIT};
 use crate::library::INPUT_LIMIT;
 use crate::random::Random;
+use std::collections::BTreeSet;
 
 /// A plan with the list of names that it is read with.
 pub struct Plan {
@@ -101,9 +102,34 @@ pub fn clinic() -> Plan {
     Plan { bytes, names: DAY_NAMES.map(|name| name.as_bytes().to_vec()).to_vec(), chosen: 1 }
 }
 
-/// 64 names in ascending order: these bytes, then two letters.
-fn names_from(stem: &str) -> Vec<String> {
-    short_names(NAME_LIMIT).iter().map(|letters| format!("{stem}{}", String::from_utf8_lossy(letters))).collect()
+/// The 64 names of a plan of tags, drawn at random.
+#[derive(Clone, Copy)]
+pub enum Names {
+    /// Of so many letters.
+    Letters(usize),
+    /// Of six letters, and none that the library's hash of a name tells from another, so that each is searched for.
+    OneHash,
+}
+
+/// The hash of a name in crates/name_search.
+fn hash(name: &str) -> usize {
+    name.bytes().fold(0, |sum, byte| (31 * sum + usize::from(byte)) % 256)
+}
+
+impl Names {
+    /// The names in ascending order.
+    fn drawn(self) -> Vec<String> {
+        let mut random = Random::new(4);
+        let mut names = BTreeSet::new();
+        while names.len() < NAME_LIMIT {
+            let mut word = |letters| (0..letters).map(|_| char::from(b'a' + random.below(26) as u8)).collect::<String>();
+            match self {
+                Names::Letters(letters) => names.extend([word(letters)]),
+                Names::OneHash => names.extend([word(6)].into_iter().filter(|name| hash(name) == 0)),
+            }
+        }
+        names.into_iter().collect()
+    }
 }
 
 /// Empty elements, each with any of these names but the first, which is the chosen one.
@@ -116,8 +142,8 @@ fn chosen_first(bytes: Vec<u8>, names: Vec<String>) -> Plan {
 }
 
 /// As many chosen elements as a plan may have or has room for, each with 40 empty children of all names.
-pub fn tag_dense(stem: &str) -> Plan {
-    let names = names_from(stem);
+pub fn tag_dense(names: Names) -> Plan {
+    let names = names.drawn();
     let (chosen, outermost) = (&names[0], &names[1]);
     let mut random = Random::new(2);
     let elements = std::iter::repeat_with(|| format!("<{chosen}>{}</{chosen}>", empty_children(&mut random, &names, 40)));
@@ -129,8 +155,8 @@ pub fn tag_dense(stem: &str) -> Plan {
 const NESTED: usize = 14;
 
 /// Chosen elements inside one another, around as many elements as a row may have, which are full of empty children of all names.
-pub fn nested(stem: &str) -> Plan {
-    let names = names_from(stem);
+pub fn nested(names: Names) -> Plan {
+    let names = names.drawn();
     let (chosen, holder) = (&names[0], &names[1]);
     let mut random = Random::new(3);
     let children = INPUT_LIMIT / ROW_LENGTH / format!("<{chosen}/>").len() - 2;

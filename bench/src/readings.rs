@@ -4,7 +4,7 @@ use crate::bars::{Bar, Bars};
 use crate::expat::EXPAT;
 use crate::library::{self, INPUT_LIMIT, WORK_BYTES};
 use crate::measure::{Effort, Timer, Times};
-use crate::plans::{self, Plan};
+use crate::plans::{self, Names, Plan};
 use std::hint::black_box;
 
 /// What the library's time for a plan is held against.
@@ -37,10 +37,12 @@ impl Readings {
     pub fn new() -> Readings {
         let readings = vec![
             Reading::new("plan of a clinic", plans::clinic(), Against::Expat(Bar::ClinicPlan)),
-            Reading::new("tag-dense, 3 letters", plans::tag_dense("m"), Against::Expat(Bar::DensePlan)),
-            Reading::new("tag-dense, 6 letters", plans::tag_dense("meal"), Against::Expat(Bar::DensePlan)),
-            Reading::new("nested, 3 letters", plans::nested("m"), Against::TagDense(1)),
-            Reading::new("nested, 6 letters", plans::nested("meal"), Against::TagDense(2)),
+            Reading::new("tag-dense, 3 letters", plans::tag_dense(Names::Letters(3)), Against::Expat(Bar::DensePlan)),
+            Reading::new("tag-dense, 6 letters", plans::tag_dense(Names::Letters(6)), Against::Expat(Bar::DensePlan)),
+            Reading::new("tag-dense, one hash", plans::tag_dense(Names::OneHash), Against::Expat(Bar::DensePlan)),
+            Reading::new("nested, 3 letters", plans::nested(Names::Letters(3)), Against::TagDense(1)),
+            Reading::new("nested, 6 letters", plans::nested(Names::Letters(6)), Against::TagDense(2)),
+            Reading::new("nested, one hash", plans::nested(Names::OneHash), Against::TagDense(3)),
         ];
         Readings { readings, work: vec![0; WORK_BYTES], out: vec![0; INPUT_LIMIT], timer: Timer::new() }
     }
