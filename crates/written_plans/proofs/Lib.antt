@@ -31,3 +31,5 @@ pub mod Rows
 pub mod FirstFault
 -- KnownChildren: where a plan has no fault, the children of chosen elements are among the names
 pub mod KnownChildren
+-- WorkedPlans: plans written out as bytes, and what they are read as
+pub mod WorkedPlans
