@@ -24,7 +24,7 @@ use Rattle.writing.proofs.WritingLaws.{written-from-zero}
 use Rattle.written_plans.specs.Reading.{Reading, readPlan, entryOf, rowsIn, rowsFault}
 use Rattle.written_plans.specs.Calls.{planReading, planRows, askedFault, planFault}
 use Rattle.written_plans.proofs.Numbers.{plan-refusal}
-use Rattle.plan_reading.specs.Turns.{Named, Room, Logged, RefusedAs}
+use Rattle.plan_reading.specs.Turns.{SoughtIn, Room, Logged, RefusedAs}
 use Rattle.plan_rows.specs.LoggedRows.{Held, logRows, MeasuredAs}
 use Rattle.plan_rows.proofs.Faults.{rows-passed, rows-low}
 use Rattle.plan_rows.proofs.Lengths.{rows-length}
@@ -237,5 +237,5 @@ plan-room plan work fits =
 -- the names of an accepted list, and the number of one of them
 pub list-named :
     {list : List ℕ} {p : reader.Place} {chosen : ℕ} → ListAt list p → chosen < p .names →
-    Named list (record { names = p .names; chosen = chosen })
+    SoughtIn list (record { names = p .names; chosen = chosen })
 list-named at some = record { ascends = names-ascend _ (at .names-read .names-ok); some = some }

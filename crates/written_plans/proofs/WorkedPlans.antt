@@ -4,14 +4,14 @@ use mathlib.Core.Bool.{true}
 use lib.ListN.{replicate}
 use Rattle.base.specs.Lists.{all, any, same, hasRow}
 use Rattle.base.specs.Limits.{too-many}
-use Rattle.model.specs.Fields.{nameOk, numberOf}
-use Rattle.written_plans.specs.Reading.{readPlan, readFrom, beginsName, step, met, tagFault, isChild, ended, afterName, afterEnd}
+use Rattle.model.specs.Fields.{nameOk, nameNumber}
+use Rattle.written_plans.specs.Reading.{readPlan, readPlanFrom, beginsName, step, met, tagFault, isChild, ended, afterName, afterEnd}
 use Rattle.written_plans.specs.Reading.{endBegins, rowsIn, rowAfter, rowsFault}
 use Rattle.written_plans.specs.WorkedPlans.{sameRows, holds, examples, WorkedPlansHold}
 
 -- the examples, one after the other
 examples-hold : all holds examples ≡ true
-unfolding all any same hasRow nameOk numberOf readPlan readFrom beginsName step met tagFault isChild ended afterName afterEnd
+unfolding all any same hasRow nameOk nameNumber readPlan readPlanFrom beginsName step met tagFault isChild ended afterName afterEnd
     endBegins rowsIn rowAfter sameRows
 examples-hold = refl
 
