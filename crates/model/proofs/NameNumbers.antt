@@ -10,7 +10,7 @@ use native.Mathlib.Omega.{arith}
 use lib.Dec.{eqb, ltb}
 use lib.ListN.{length, getD}
 use Rattle.base.specs.Lists.{same, before, hasRow}
-use Rattle.base.proofs.Tests.{told-false, same-tests, tells-eqb, tells-ltb, tells-same, tells-hasRow, le-or-lt, word-dec, before-self}
+use Rattle.base.proofs.Tests.{decided, told-false, same-tests, tells-eqb, tells-ltb, tells-same, tells-hasRow, le-or-lt, word-dec, before-self}
 use Rattle.base.proofs.Tests.{before-trans}
 use Rattle.base.proofs.Places.{nth-in}
 use Rattle.model.specs.Fields.{Ascends, nameNumber}
@@ -52,24 +52,16 @@ number-of-unknown [] n out = refl
 number-of-unknown (x ∷ names) n out =
     number-there n x names (λ e. out (here e)) ∙ ap suc (number-of-unknown names n (λ m. out (there m)))
 
--- a name either stands there or does not
-known-or-not : (names : List (List ℕ)) (n : List ℕ) → In n names ⊎ (In n names → ⊥)
-known-or-not [] n = inr (λ m. List·Memᴰ·not-nil m)
-known-or-not (x ∷ names) n =
-    ⊎-elim (λ e. inl (here e))
-    (λ d. ⊎-elim (λ m. inl (there m)) (λ out. inr (λ m. ⊎-elim d out (List·Memᴰ·cases-cons m))) (known-or-not names n))
-    (word-dec n x)
-
 pub number-within : (names : List (List ℕ)) (n : List ℕ) → nameNumber names n ≤ length names
 number-within names n =
     ⊎-elim (λ (m : In n names). omega (arith, number-of-known names n m .0))
-    (λ (out : In n names → ⊥). omega (arith, number-of-unknown names n out)) (known-or-not names n)
+    (λ (out : In n names → ⊥). omega (arith, number-of-unknown names n out)) (decided (tells-hasRow n names))
 
 -- a number below that of names is the number of one of them
 pub known-by-number : (names : List (List ℕ)) (n : List ℕ) → nameNumber names n < length names → In n names
 known-by-number names n low =
     ⊎-elim (λ (m : In n names). m)
-    (λ (out : In n names → ⊥). let z : ⊥ = omega (arith, number-of-unknown names n out) in absurd z) (known-or-not names n)
+    (λ (out : In n names → ⊥). let z : ⊥ = omega (arith, number-of-unknown names n out) in absurd z) (decided (tells-hasRow n names))
 
 -- and there stands that name
 pub name-of-number : (names : List (List ℕ)) (n : List ℕ) → nameNumber names n < length names → getD names (nameNumber names n) [] ≡ n

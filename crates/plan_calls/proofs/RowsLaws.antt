@@ -29,8 +29,8 @@ use Rattle.plan_rows.specs.LoggedRows.{Held, logRows, MeasuredAs}
 use Rattle.plan_rows.proofs.Faults.{rows-passed, rows-low}
 use Rattle.plan_rows.proofs.Lengths.{rows-length}
 use Rattle.results.specs.declared.PlanRows.{PlanRows}
-use Rattle.results.specs.Says.{plan-rows, not-read, readingRows}
-use Rattle.plan_calls.specs.Parts.{rowsOr, writingRows, rowsWith}
+use Rattle.results.specs.Says.{plan-rows, not-read, rowsOr, readingRows}
+use Rattle.plan_calls.specs.Parts.{writingRows, rowsWith}
 
 -- ---- the answer of a refused call
 
@@ -89,11 +89,11 @@ measured-few rows measured =
 -- rows that are written are those of a plan without a refusal, whatever its place
 written-at :
     (place : ℕ) (rows outs outs′ : List (List ℕ)) (r : PlanRows) → Gives (writingRows rows) outs outs′ r →
-    Gives (rowsOr 0 place rows) outs outs′ r
+    Gives (rowsOr (rowsFault rows) place rows) outs outs′ r
 written-at place rows outs outs′ r gives =
     let fault = faultWith (writingRows rows) outs in
     let low : fault < bad-plan =
-    first-low (rowsFault rows) _ (rows-low rows)
+    first-low (rowsFault rows) _ (omega (arith, rows-low rows))
     (when-low (tooShort (writingRows rows .writes) outs) output-too-short (omega arith)) in
     record {
       answer-is =
@@ -111,7 +111,7 @@ pub rows-read :
 rows-read names chosen read logged outs outs′ r gives =
     let rows = rowsIn chosen (map (entryOf names) (read .met-tags)) in
     let is = ap (rowsIn chosen) (logged .logged) in
-    subst (λ (n : ℕ). Gives (rowsOr n (read .place) rows) outs outs′ r) (sym (logged .no-fault))
+    subst (λ (n : ℕ). Gives (rowsOr (firstOf n (rowsFault rows)) (read .place) rows) outs outs′ r) (sym (logged .no-fault))
     (written-at (read .place) rows outs outs′ r (subst (λ (l : List (List ℕ)). Gives (writingRows l) outs outs′ r) is gives))
 
 -- a log that holds a plan's tags
@@ -213,14 +213,7 @@ module _ (plan list : List ℕ) (chosen : ℕ) (work out : List ℕ) where
             let rows = planRows plan list chosen in
             let read = planReading plan list chosen in
             subst (λ (k : ℕ).
-            Gives
-            (record {
-              refusal = firstOf k (firstOf (read .number) (rowsFault rows));
-              none = not-read (read .place);
-              answer = plan-rows 0 (length (rowFields rows)) (length rows) 0;
-              writes = rowFields rows ∷ [];
-            })
-            (out ∷ []) (out′ ∷ []) r)
+            Gives (rowsOr (firstOf k (firstOf (read .number) (rowsFault rows))) (read .place) rows) (out ∷ []) (out′ ∷ []) r)
             (sym (none-asked some))
             (subst (λ (names : List (List ℕ)).
             Gives (rowsWith names chosen (readPlan names (getD names chosen []) plan)) (out ∷ []) (out′ ∷ []) r)

@@ -1,5 +1,5 @@
 // A plan read in one pass over its bytes, from tag to tag. Of each tag that begins an element two bytes are kept in the log, the number of
-// its name and how many elements are around it; of each open element where its name stands in the plan. Nothing else is copied.
+// its name and how many elements are around it; of each open element where its name stands in the plan, and its number. Nothing is copied.
 pub mod log;
 pub mod pieces;
 pub mod scanning;

@@ -7,8 +7,8 @@ use native.Mathlib.Omega.{arith}
 use lib.ListN.{length, length-append}
 use Rattle.base.specs.Limits.{row-mark, row-limit, rows-bytes}
 use Rattle.model.specs.Tables.{fieldBytes, rowFields}
-use Rattle.written_plans.specs.Reading.{rowsFault}
-use Rattle.plan_rows.proofs.Faults.{shortRows, short-first, short-next, rows-passed}
+use Rattle.written_plans.specs.Reading.{rowsFault, rowsShort}
+use Rattle.plan_rows.proofs.Faults.{short-first, short-next, rows-passed}
 
 -- a row's field stands before those of the rows after it
 pub row-fields-next : (row : List ℕ) (rows : List (List ℕ)) → rowFields (row ∷ rows) ≡ fieldBytes row-mark row ++ rowFields rows
@@ -28,7 +28,7 @@ row-fields-length row rows =
     rw (row-fields-next row rows) (omega (arith, length-append (fieldBytes row-mark row) (rowFields rows), row-field-length row))
 
 -- the fields of rows within their limit
-short-rows-length : (rows : List (List ℕ)) → shortRows rows ≡ true → length (rowFields rows) ≤ (3 + row-limit) * length rows
+short-rows-length : (rows : List (List ℕ)) → rowsShort rows ≡ true → length (rowFields rows) ≤ (3 + row-limit) * length rows
 short-rows-length [] e = rw row-fields-none (omega arith)
 short-rows-length (row ∷ rows) e =
     let low = short-first row rows e in

@@ -8,14 +8,14 @@ use Rattle.base.specs.Limits.{book-rows, row-limit, bad-row}
 use Rattle.base.specs.Lists.{all}
 use Rattle.model.specs.Calls.{Refuses}
 use Rattle.model.specs.Tables.{rowFields}
-use Rattle.written_plans.specs.Reading.{rowsFault}
+use Rattle.written_plans.specs.Reading.{rowsFault, rowsShort}
 use Rattle.plan_rows.specs.LoggedRows.{MeasuredAs}
-use Rattle.plan_rows.proofs.Faults.{shortRows, short-next, short-not, row-too-long, rows-pass}
+use Rattle.plan_rows.proofs.Faults.{short-next, short-not, row-too-long, rows-pass}
 use Rattle.plan_rows.proofs.Lengths.{row-fields-none, row-fields-length}
 
 -- of the rows those before the ones left are within their limit, and their fields have so many bytes
 pub record MeasuredTo (rows left : List (List ℕ)) (bytes : ℕ) : Type 0 where
-  pub short : shortRows left ≡ shortRows rows
+  pub short : rowsShort left ≡ rowsShort rows
   pub sized : bytes + length (rowFields left) ≡ length (rowFields rows)
 
 pub passed-none : (rows : List (List ℕ)) → MeasuredTo rows rows 0
@@ -43,7 +43,7 @@ module _ {rows : List (List ℕ)} {bytes : ℕ} where
 
   -- all rows
   pub passed-all : (count : ℕ) → count ≡ length rows → count ≤ book-rows → MeasuredTo rows [] bytes → MeasuredAs rows count bytes
-  unfolding shortRows all
+  unfolding rowsShort all
   passed-all count e h p =
       let few : length rows ≤ book-rows = omega arith in
       record {

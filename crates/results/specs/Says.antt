@@ -138,16 +138,20 @@ plan-rows refusal length rows at = record { refusal = refusal; length = length; 
 abbrev pub not-read : ℕ → ℕ → PlanRows
 not-read place refusal = plan-rows refusal 0 0 (when (leb bad-plan refusal) place)
 
--- the rows of a plan, by a list of names and the number of one of them
-unfoldable pub readingRows : List ℕ → List ℕ → ℕ → List ℕ → Call PlanRows
-readingRows plan list chosen work =
-    let rows = planRows plan list chosen in
+-- these rows written, or this refusal, a plan's at this place
+abbrev pub rowsOr : ℕ → ℕ → List (List ℕ) → Call PlanRows
+rowsOr refusal place rows =
     record {
-      refusal = planFault plan list chosen work;
-      none = not-read (planReading plan list chosen .place);
+      refusal = refusal;
+      none = not-read place;
       answer = plan-rows 0 (length (rowFields rows)) (length rows) 0;
       writes = rowFields rows ∷ [];
     }
+
+-- the rows of a plan, by a list of names and the number of one of them
+unfoldable pub readingRows : List ℕ → List ℕ → ℕ → List ℕ → Call PlanRows
+readingRows plan list chosen work =
+    rowsOr (planFault plan list chosen work) (planReading plan list chosen .place) (planRows plan list chosen)
 
 -- what rows_of_plan promises
 abbrev pub RowsSays : List ℕ → List ℕ → ℕ → List ℕ → List ℕ → List ℕ → List ℕ → PlanRows → Type 0

@@ -75,7 +75,7 @@ pub fn not_written(refusal: u8) -> Written
     }
 }
 
-// A refused call that writes a plan's rows: none. The offset is 0 but for 14, 15 and 16.
+// A refused call that writes a plan's rows: none. The offset is handed in: that of 14, 15 or 16, and 0 for another refusal.
 pub fn not_read(refusal: u8, at: u32) -> PlanRows
     ensures { λ r. ⌜ r ≡ plan-rows refusal 0 0 at ⌝ }
 {

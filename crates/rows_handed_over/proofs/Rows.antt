@@ -1,17 +1,18 @@
 -- What holds of a plan's rows as calls give them: `rows-handed-over`. First of a call's refusal and place, then of what it wrote. Assumes
 -- nothing.
 use mathlib.Core.Path.{_≡_, refl, sym, ap, ap₂, _∙_, subst}
-use mathlib.Core.Bool.{Bool, true, false, _&&_, not}
+use mathlib.Core.Logic.{_⊎_, inl, inr, ⊎-elim}
+use mathlib.Core.Bool.{Bool, true, false, _&&_}
 use mathlib.Core.List.{List, [], _∷_, _++_, map, List·Memᴰ as In, List·Memᴰ·head as here, List·Memᴰ·tail as there}
 use Prim.Native.Nat.{ℕ, zero, suc, _≤_, _<_}
 use native.Mathlib.Omega.{arith}
-use borrow.Author.Tests.{le-ltb, lt-ltb, le-leb, lt-leb, leb-false}
+use borrow.Author.Tests.{ltb-true, lt-ltb, le-leb, lt-leb, leb-false}
 use lib.Dec.{ltb, leb}
 use lib.ListN.{length}
 use Rattle.base.specs.Limits.{book-rows, row-limit, rows-bytes, bad-sizes, too-many, bad-row, output-too-short, bad-plan, when, firstOf}
 use Rattle.base.specs.Lists.{all}
 use Rattle.base.proofs.Lists.{map-in}
-use Rattle.base.proofs.Tests.{tells-all, tells-itself}
+use Rattle.base.proofs.Tests.{le-or-lt, tells-all, tells-itself}
 use Rattle.model.specs.Fields.{Settings, standard, name-list, readNames, readBook, nameNumber, allBelow, rowOk}
 use Rattle.model.specs.Tables.{classField, rowFields}
 use Rattle.model.specs.Calls.{namesOf, sizesFault, tooShort, faultWith}
@@ -23,13 +24,14 @@ use Rattle.model.proofs.NameLists.{accepted-names}
 use Rattle.model.proofs.NameNumbers.{number-only, number-of-known}
 use Rattle.model.proofs.RowBooks.{rows-make-books}
 use Rattle.written_plans.specs.Written.{Plan, planBytes, First}
-use Rattle.written_plans.specs.Reading.{entryOf, rowsIn, rowsFault}
+use Rattle.written_plans.specs.Reading.{entryOf, rowsIn, rowsFault, rowsShort}
 use Rattle.written_plans.specs.Calls.{chosenName, planReading, planRows, askedFault, planFault}
 use Rattle.written_plans.specs.Claims.{ReadingTells, Faultless, Known}
 use Rattle.written_plans.proofs.FirstFault.{reading-tells}
+use Rattle.written_plans.proofs.Numbers.{plan-refusal}
 use Rattle.written_plans.proofs.Rows.{rows-are-traces}
 use Rattle.written_plans.proofs.KnownChildren.{children-are-known}
-use Rattle.plan_rows.proofs.Faults.{rows-passed, rows-low, shortRows}
+use Rattle.plan_rows.proofs.Faults.{rows-passed, rows-low}
 use Rattle.plan_rows.proofs.Lengths.{rows-length}
 use Rattle.results.specs.declared.PlanRows.{PlanRows}
 use Rattle.results.specs.Says.{plan-rows, readingRows}
@@ -37,8 +39,8 @@ use Rattle.rows_handed_over.specs.Rows.{RowsCall, rowsWritten, tracesIn,
 
 -- ---- numbers of refusals
 
--- what is judged before the plan and after it has numbers below 14
-asked-low : (plan list : List ℕ) (chosen : ℕ) (work : List ℕ) → askedFault plan list chosen work < bad-plan
+-- what is judged before the plan has numbers below 13
+asked-low : (plan list : List ℕ) (chosen : ℕ) (work : List ℕ) → askedFault plan list chosen work < output-too-short
 unfolding askedFault sizesFault
 asked-low plan list chosen work =
     first-low (sizesFault plan work) _ (when-low (SizesBad plan work) bad-sizes (omega arith))
@@ -46,13 +48,30 @@ asked-low plan list chosen work =
     (first-low (readNames list .number) _ (fields-low standard name-list list)
     (when-low (leb (length (namesOf list)) chosen) bad-row (omega arith))))
 
--- where the first of three refusals has a number of 14 or more and only the second can, it is the second
-the-second : (a b c d : ℕ) → a < bad-plan → c < bad-plan → d < bad-plan → bad-plan ≤ firstOf (firstOf a (firstOf b c)) d
-    → firstOf (firstOf a (firstOf b c)) d ≡ b
-the-second zero zero zero d low c-low d-low high = let z : ⊥ = omega arith in absurd z
-the-second zero zero (suc c) d low c-low d-low high = let z : ⊥ = omega arith in absurd z
-the-second zero (suc b) c d low c-low d-low high = refl
-the-second (suc a) b c d low c-low d-low high = let z : ⊥ = omega arith in absurd z
+-- where what was asked, the plan, the rows and the output are judged in this order: a refusal from 14 on is the plan's, and 13 the output's
+the-plans : (a b c : ℕ) (t : Bool) → a < output-too-short → c < output-too-short
+    → bad-plan ≤ firstOf (firstOf a (firstOf b c)) (when t output-too-short)
+    → firstOf (firstOf a (firstOf b c)) (when t output-too-short) ≡ b
+the-plans zero zero zero true low c-low high = let z : ⊥ = omega arith in absurd z
+the-plans zero zero zero false low c-low high = let z : ⊥ = omega arith in absurd z
+the-plans zero zero (suc c) t low c-low high = let z : ⊥ = omega arith in absurd z
+the-plans zero (suc b) c t low c-low high = refl
+the-plans (suc a) b c t low c-low high = let z : ⊥ = omega arith in absurd z
+
+the-outputs : (a b c : ℕ) (t : Bool) → a < output-too-short → (0 < b → bad-plan ≤ b) → c < output-too-short
+    → firstOf (firstOf a (firstOf b c)) (when t output-too-short) ≡ output-too-short → (c ≡ 0) × (t ≡ true)
+the-outputs zero zero zero true low high c-low e = (refl, refl)
+the-outputs zero zero zero false low high c-low e = let z : ⊥ = omega arith in absurd z
+the-outputs zero zero (suc c) t low high c-low e = let z : ⊥ = omega arith in absurd z
+the-outputs zero (suc b) c t low high c-low e =
+    let far : bad-plan ≤ suc b = high (omega arith) in
+    let z : ⊥ = omega arith in absurd z
+the-outputs (suc a) b c t low high c-low e = let z : ⊥ = omega arith in absurd z
+
+-- the first of two that is one
+first-some : (a b : ℕ) → 0 < a → firstOf a b ≡ a
+first-some zero b h = let z : ⊥ = omega arith in absurd z
+first-some (suc a) b h = refl
 
 -- ---- rows that a book may have
 
@@ -67,7 +86,7 @@ entries-below names (n ∷ row) all-in =
 
 -- rows that nothing refuses are short
 short-row : (rows : List (List ℕ)) → rowsFault rows ≡ 0 → (row : List ℕ) → In row rows → leb (length row) row-limit ≡ true
-unfolding shortRows
+unfolding rowsShort
 short-row rows none row m =
     tells-all (λ (r : List ℕ). tells-itself (leb (length r) row-limit)) rows .fact (rows-passed rows none .1) row m
 
@@ -103,11 +122,10 @@ module _ (c : RowsCall) where
   plan-refuses : bad-plan ≤ c .result .refusal → c .result .refusal ≡ number
   unfolding readingRows planFault
   plan-refuses high =
-      let short = when-low (tooShort (rowFields rows ∷ []) (c .out ∷ [])) output-too-short (omega arith) in
       let big : bad-plan ≤ fault = omega (arith, refusal) in
       refusal
-      ∙ the-second (askedFault (c .plan) (c .list) (c .chosen) (c .work)) number (rowsFault rows) _
-      (asked-low (c .plan) (c .list) (c .chosen) (c .work)) (rows-low rows) short big
+      ∙ the-plans (askedFault (c .plan) (c .list) (c .chosen) (c .work)) number (rowsFault rows)
+      (tooShort (rowFields rows ∷ []) (c .out ∷ [])) (asked-low (c .plan) (c .list) (c .chosen) (c .work)) (rows-low rows) big
 
   -- and comes with its place; other refusals come with 0
   place-is : c .result .at ≡ when (leb bad-plan (c .result .refusal)) place
@@ -225,22 +243,70 @@ module _ (c : RowsCall) where
                 ∙ books .with-class (c .list) class (rowsOf c plan) (asked (parts .0) .0) ok rows-ok;
           }
 
-  -- ---- when nothing is refused
+  -- ---- which refusal it is
 
-  accepts :
-      askedFault (c .plan) (c .list) (c .chosen) (c .work) ≡ 0 → NoFault c → (plan : Plan) → planBytes plan ≡ c .plan →
-      rowsFault (rowsOf c plan) ≡ 0 → length (rowFields (rowsOf c plan)) ≤ length (c .out) → c .result .refusal ≡ 0
+  asked-first : 0 < askedFault (c .plan) (c .list) (c .chosen) (c .work)
+      → c .result .refusal ≡ askedFault (c .plan) (c .list) (c .chosen) (c .work)
+  unfolding readingRows planFault
+  asked-first some =
+      let asked-fault = askedFault (c .plan) (c .list) (c .chosen) (c .work) in
+      let whole = first-some asked-fault (firstOf number (rowsFault rows)) some in
+      refusal ∙ ap (λ (k : ℕ). firstOf k (when (tooShort (rowFields rows ∷ []) (c .out ∷ [])) output-too-short)) whole
+      ∙ first-some asked-fault _ some
+
+  -- two first faults are one
+  one-first : (n p : ℕ) → First names chosen (c .plan) n p → (m q : ℕ) → First names chosen (c .plan) m q → (n ≡ m) × (p ≡ q)
+  one-first n p f m q g =
+      go (f .first m q (g .fault)) (g .first n p (f .fault))
+    where
+      go : (p < q) ⊎ ((p ≡ q) × (n ≤ m)) → (q < p) ⊎ ((q ≡ p) × (m ≤ n)) → (n ≡ m) × (p ≡ q)
+      go (inl h) (inl k) = let z : ⊥ = omega arith in absurd z
+      go (inl h) (inr k) = let z : ⊥ = omega (arith, k .0) in absurd z
+      go (inr h) (inl k) = let z : ⊥ = omega (arith, h .0) in absurd z
+      go (inr h) (inr k) = (omega (arith, h .1, k .1), h .0)
+
+  told-as : askedFault (c .plan) (c .list) (c .chosen) (c .work) ≡ 0 → (n p : ℕ) → First names chosen (c .plan) n p
+      → (c .result .refusal ≡ n) × (c .result .at ≡ p)
   unfolding readingRows planFault planReading
-  accepts asked-none free plan bytes rows-none room =
-      let read-none : number ≡ 0 = told .accepts free in
-      let traced : rows ≡ rowsOf c plan = traces-read asked-none read-none plan bytes in
-      let fits : rowsFault rows ≡ 0 = subst (λ z. rowsFault z ≡ 0) (sym traced) rows-none in
-      let space : length (rowFields rows) ≤ length (c .out) = subst (λ z. length (rowFields z) ≤ length (c .out)) (sym traced) room in
+  told-as fine n p f =
+      let some : 0 < number =
+      ⊎-elim (λ (few : number ≤ 0). absurd (told .faultless (omega arith) n p (f .fault))) (λ (h : 0 < number). h) (le-or-lt number 0) in
+      let same = one-first number place (told .first some) n p f in
+      let high = plan-refusal names chosen (c .plan) some .high in
+      let short = tooShort (rowFields rows ∷ []) (c .out ∷ []) in
+      let is : c .result .refusal ≡ number =
+      refusal ∙ ap (λ (k : ℕ). firstOf (firstOf k (firstOf number (rowsFault rows))) (when short output-too-short)) fine
+      ∙ ap (λ (k : ℕ). firstOf k (when short output-too-short)) (first-some number (rowsFault rows) some)
+      ∙ first-some number (when short output-too-short) some in
+      let at-place : c .result .at ≡ place =
+      place-is ∙ ap (λ (b : Bool). when b place) (le-leb bad-plan (c .result .refusal) (omega (arith, is, high))) in
+      (is ∙ same .0, at-place ∙ same .1)
+
+  judged : askedFault (c .plan) (c .list) (c .chosen) (c .work) ≡ 0 → NoFault c → (plan : Plan) → planBytes plan ≡ c .plan
+      → c .result .refusal
+      ≡ firstOf (rowsFault (rowsOf c plan)) (when (ltb (length (c .out)) (length (rowFields (rowsOf c plan)))) output-too-short)
+  unfolding readingRows planFault planReading
+  judged fine free plan bytes =
+      let none : number ≡ 0 = told .accepts free in
       let call = readingRows (c .plan) (c .list) (c .chosen) (c .work) in
-      let long : tooShort (rowFields rows ∷ []) (c .out ∷ []) ≡ false =
-      short-is call (rowFields rows) (c .out) refl ∙ le-ltb (length (c .out)) (length (rowFields rows)) space in
-      refusal
-      ∙ refuses-none (refuses-none asked-none (refuses-none read-none fits)) (ap (λ b. when b output-too-short) long)
+      let short = tooShort (rowFields rows ∷ []) (c .out ∷ []) in
+      refusal ∙ ap (λ (k : ℕ). firstOf (firstOf k (firstOf number (rowsFault rows))) (when short output-too-short)) fine
+      ∙ ap (λ (k : ℕ). firstOf (firstOf k (rowsFault rows)) (when short output-too-short)) none
+      ∙ ap (λ (b : Bool). firstOf (rowsFault rows) (when b output-too-short)) (short-is call (rowFields rows) (c .out) refl)
+      ∙ ap (λ (l : List (List ℕ)). firstOf (rowsFault l) (when (ltb (length (c .out)) (length (rowFields l))) output-too-short))
+      (traces-read fine none plan bytes)
+
+  enough : rows-bytes ≤ length (c .out) → c .result .refusal ≡ output-too-short → ⊥
+  unfolding readingRows planFault planReading
+  enough room e =
+      let call = readingRows (c .plan) (c .list) (c .chosen) (c .work) in
+      let outputs =
+      the-outputs (askedFault (c .plan) (c .list) (c .chosen) (c .work)) number (rowsFault rows)
+      (tooShort (rowFields rows ∷ []) (c .out ∷ [])) (asked-low (c .plan) (c .list) (c .chosen) (c .work))
+      (λ some. plan-refusal names chosen (c .plan) some .high) (rows-low rows) (sym refusal ∙ e) in
+      let short : length (c .out) < length (rowFields rows) =
+      ltb-true (length (c .out)) (length (rowFields rows)) (sym (short-is call (rowFields rows) (c .out) refl) ∙ outputs .1) in
+      omega (arith, rows-length rows (outputs .0))
 
 -- ---- all of it
 
@@ -254,5 +320,8 @@ rows-handed-over =
       traced = traced;
       short = short;
       makes-book = λ c accepted some plan bytes settings. makes-book c accepted plan bytes some settings;
-      accepts = accepts;
+      asked-first = asked-first;
+      told = told-as;
+      judged = judged;
+      enough = enough;
     }

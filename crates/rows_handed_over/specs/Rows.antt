@@ -1,10 +1,11 @@
 -- What is handed over with a plan's rows, said of calls of rows_of_plan, and of plans_read_rows for C: what a refusal of the plan tells;
--- what is written where there is none; and when there is none. `rows-handed-over` of proofs/Rows.antt proves it. Assumes nothing.
+-- what is written where there is none; and which refusal it is. `rows-handed-over` of proofs/Rows.antt proves it. Assumes nothing.
 use mathlib.Core.Path.{_≡_}
 use mathlib.Core.List.{List, _++_, map}
 use Prim.Native.Nat.{ℕ, _≤_, _<_}
+use lib.Dec.{ltb}
 use lib.ListN.{length, take}
-use Rattle.base.specs.Limits.{bad-plan, rows-bytes, items-met}
+use Rattle.base.specs.Limits.{rows-bytes, items-met, output-too-short, bad-plan, when, firstOf}
 use Rattle.model.specs.Fields.{Class, ClassOk, Settings, file, readBook, accepted-file, nameNumber}
 use Rattle.model.specs.Tables.{classField, rowFields}
 use Rattle.model.specs.Calls.{namesOf}
@@ -74,7 +75,16 @@ pub record RowsHandedOver : Type 0 where
   pub short : (c : RowsCall) → c .result .refusal ≡ 0 → c .result .length ≤ rows-bytes
   pub makes-book : (c : RowsCall) → c .result .refusal ≡ 0 → 1 ≤ c .result .rows → (plan : Plan) → planBytes plan ≡ c .plan
       → (settings : Settings) → MakesBook c plan settings
-  -- a plan without a fault is not refused, where nothing is wrong with what was asked, with its rows and with the output's length
-  pub accepts : (c : RowsCall) → askedFault (c .plan) (c .list) (c .chosen) (c .work) ≡ 0 → NoFault c
-      → (plan : Plan) → planBytes plan ≡ c .plan → rowsFault (rowsOf c plan) ≡ 0
-      → length (rowFields (rowsOf c plan)) ≤ length (c .out) → c .result .refusal ≡ 0
+  -- what is refused, in order: what is wrong with what was asked; then the first fault of the plan, at its place; then 7 and 9 for the
+  -- traces, and 13 for the output
+  pub asked-first : (c : RowsCall) → 0 < askedFault (c .plan) (c .list) (c .chosen) (c .work)
+      → c .result .refusal ≡ askedFault (c .plan) (c .list) (c .chosen) (c .work)
+  pub told : (c : RowsCall) → askedFault (c .plan) (c .list) (c .chosen) (c .work) ≡ 0 → (number place : ℕ)
+      → First (namesOf (c .list)) (chosenName (c .list) (c .chosen)) (c .plan) number place
+      → (c .result .refusal ≡ number) × (c .result .at ≡ place)
+  pub judged : (c : RowsCall) → askedFault (c .plan) (c .list) (c .chosen) (c .work) ≡ 0 → NoFault c
+      → (plan : Plan) → planBytes plan ≡ c .plan
+      → c .result .refusal
+      ≡ firstOf (rowsFault (rowsOf c plan)) (when (ltb (length (c .out)) (length (rowFields (rowsOf c plan)))) output-too-short)
+  -- an output of 17,152 bytes is never too short
+  pub enough : (c : RowsCall) → rows-bytes ≤ length (c .out) → c .result .refusal ≡ output-too-short → ⊥

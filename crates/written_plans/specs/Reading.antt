@@ -172,8 +172,10 @@ rowsIn chosen [] = []
 rowsIn chosen (e ∷ entries) =
     cond (eqb (e .number) chosen) (rowAfter (e .depth) entries ∷ rowsIn chosen entries) (rowsIn chosen entries)
 
+-- every row is within its limit
+unfoldable pub rowsShort : List (List ℕ) → Bool
+rowsShort rows = all (λ (row : List ℕ). leb (length row) row-limit) rows
+
 -- 7 for a 257th row, then 9 for a row too long
 unfoldable pub rowsFault : List (List ℕ) → ℕ
-rowsFault rows =
-    firstOf (when (ltb book-rows (length rows)) too-many)
-    (when (not (all (λ (row : List ℕ). leb (length row) row-limit) rows)) bad-row)
+rowsFault rows = firstOf (when (ltb book-rows (length rows)) too-many) (when (not (rowsShort rows)) bad-row)

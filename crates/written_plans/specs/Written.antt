@@ -156,7 +156,7 @@ pub record Impossible (s : List ℕ) (p : ℕ) : Type 0 where
   pub possible-before : (plan : Plan) × (take p (planBytes plan) ≡ take p s)
   pub not-here : (plan : Plan) → take (suc p) (planBytes plan) ≡ take (suc p) s → ⊥
 
--- some plan has the bytes up to and including the one at place p, which in it is the byte after this tag's name
+-- some plan has the bytes up to and including the one at place p, which in it is the byte after this tag's name; so 14 does not stand there
 pub record TagAt (s : List ℕ) (p : ℕ) (t : Tag) : Type 0 where
   pub plan : Plan
   pub alike : take (suc p) (planBytes plan) ≡ take (suc p) s

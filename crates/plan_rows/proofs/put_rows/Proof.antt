@@ -9,11 +9,11 @@ use native.Mathlib.Omega.{arith}
 use lib.ListN.{length}
 use Rattle.base.specs.Limits.{row-limit, row-mark}
 use Rattle.model.specs.Tables.{fieldBytes, rowFields}
-use Rattle.written_plans.specs.Reading.{rowsIn}
+use Rattle.written_plans.specs.Reading.{rowsIn, rowsShort}
 use Rattle.writing.proofs.TextLaws.{Writing, begins, keeps-length, room, goes, finishes}
 use Rattle.plan_rows.specs.LoggedRows.{entriesFrom, rowAt, logRows}
 use Rattle.plan_rows.proofs.LogLaws.{entries-all, rows-chosen, rows-other, rows-end}
-use Rattle.plan_rows.proofs.Faults.{shortRows, short-first, short-next, rows-passed}
+use Rattle.plan_rows.proofs.Faults.{short-first, short-next, rows-passed}
 use Rattle.plan_rows.proofs.Lengths.{row-fields-next, row-fields-none}
 use Rattle.plan_rows.proofs.put_rows.Statement.{statement}
 use Rattle.plan_rows.proofs.put_rows.Tie as tie
@@ -21,7 +21,7 @@ use Rattle.plan_rows.proofs.put_rows.Tie as tie
 abbrev Inv-loop : tie.InvT-loop
 Inv-loop log count chosen out₀ at₀ i₀ out at i =
     let left = rowsIn chosen (entriesFrom log count i) in
-    (i ≤ count) × (shortRows left ≡ true) × Writing out₀ 0 (rowFields (logRows log count chosen)) out at (rowFields left)
+    (i ≤ count) × (rowsShort left ≡ true) × Writing out₀ 0 (rowFields (logRows log count chosen)) out at (rowFields left)
 
 abbrev μ-loop : tie.MeasureT-loop
 μ-loop log count chosen out₀ at₀ i₀ out at i = count - i
@@ -62,7 +62,7 @@ short : (c : tie.Then1 Inv-loop μ-loop) → length (row c) ≤ row-limit
 short c =
     let loop = c .before .before .before .loop in
     let start = start (c .before .before) in
-    short-first (row c) (from start (loop .i + 1)) (sym (ap shortRows (chosen c)) ∙ loop .inv .1)
+    short-first (row c) (from start (loop .i + 1)) (sym (ap rowsShort (chosen c)) ∙ loop .inv .1)
 
 -- and its field the first
 turn : (c : tie.Then1 Inv-loop μ-loop)
@@ -112,12 +112,12 @@ loop-again c =
     ⊎-elim
     (λ w. let then : tie.Then1 Inv-loop μ-loop = record { before = c .before; if1 = w .0 } in (
       omega arith,
-      sym (short-next (row then) left (short then)) ∙ sym (ap shortRows (chosen then)) ∙ loop .inv .1,
+      sym (short-next (row then) left (short then)) ∙ sym (ap rowsShort (chosen then)) ∙ loop .inv .1,
       rw (w .5, w .6) (goes (fieldBytes row-mark (row then)) (rowFields left) (turn then) (w .2 .ensures)),
     ))
     (λ w. let other = rows-other (args .log .now) (args .count) (loop .i) (args .chosen) (omega arith) (w .0 .left) in (
       omega arith,
-      sym (ap shortRows other) ∙ loop .inv .1,
+      sym (ap rowsShort other) ∙ loop .inv .1,
       rw (w .1, w .2) (subst (Left start (loop .out) (loop .at)) (ap rowFields other) (loop .inv .2)),
     ))
     (c .if1 .came)
