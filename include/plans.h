@@ -132,7 +132,7 @@ typedef struct {
     uint64_t next_names; /* the names that may come next, from the state reached: bit n for name n */
 } plans_walked;
 
-/* What reading a plan's rows gives back. Where it is refused, all but `refusal` is 0, and `at` where the refusal has no place. */
+/* What reading a plan's rows gives back. Where it is refused, `length` and `rows` are 0, and `at` is 0 but for 14, 15 and 16. */
 typedef struct {
     uint8_t refusal; /* 0, or the refusal */
     uint32_t length; /* how many bytes of row fields were written; 0 where the plan has no element of the chosen name */
@@ -184,7 +184,7 @@ plans_written plans_list(const uint8_t *book, size_t book_len,
  * Reads a plan, and writes a row field for each of its elements of one name to the front of `out`, in the order of their start tags:
  * the numbers of the element's children, in their order. `names` is a list of names (name fields, and nothing else); `chosen` is the
  * number of the elements' name in it. The list, a class field or none, and the rows of one plan or more, at least one and at most
- * PLANS_BOOK_ROWS, make a book for plans_build.
+ * PLANS_BOOK_ROWS, make a book whose fields plans_build accepts; its prefix tree may still be too large (10).
  * A plan is one outermost element with white space (20 09 0D 0A) around it, of start tags <a>, end tags </a>, empty-element tags <a/>
  * and text of any bytes but < and &. White space may stand right after a tag's name. There are no attributes, comments, declarations
  * or references, and no byte order mark. Names are those of a book. An outermost element of the chosen name, and elements of that name
