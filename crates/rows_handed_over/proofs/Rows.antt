@@ -3,18 +3,18 @@
 use mathlib.Core.Path.{_≡_, refl, sym, ap, ap₂, _∙_, subst}
 use mathlib.Core.Logic.{_⊎_, inl, inr, ⊎-elim}
 use mathlib.Core.Bool.{Bool, true, false, _&&_}
-use mathlib.Core.List.{List, [], _∷_, _++_, map, List·Memᴰ as In, List·Memᴰ·head as here, List·Memᴰ·tail as there}
+use mathlib.Core.List.{List, [], _∷_, _++_, map, flatMap, append-assoc, List·Memᴰ as In, List·Memᴰ·head as here, List·Memᴰ·tail as there}
 use Prim.Native.Nat.{ℕ, zero, suc, _≤_, _<_}
 use native.Mathlib.Omega.{arith}
 use borrow.Author.Tests.{ltb-true, lt-ltb, le-leb, lt-leb, leb-false}
 use lib.Dec.{ltb, leb}
 use lib.ListN.{length}
-use Rattle.base.specs.Limits.{book-rows, row-limit, rows-bytes, bad-sizes, too-many, bad-row, output-too-short, bad-plan, when, firstOf}
+use Rattle.base.specs.Limits.{row-mark, book-rows, row-limit, rows-bytes, bad-sizes, too-many, bad-row, output-too-short, bad-plan, when, firstOf}
 use Rattle.base.specs.Lists.{all}
-use Rattle.base.proofs.Lists.{map-in}
+use Rattle.base.proofs.Lists.{map-in, flatMap-in}
 use Rattle.base.proofs.Tests.{le-or-lt, tells-all, tells-itself}
 use Rattle.model.specs.Fields.{Settings, standard, name-list, readNames, readBook, nameNumber, allBelow, rowOk}
-use Rattle.model.specs.Tables.{classField, rowFields}
+use Rattle.model.specs.Tables.{fieldBytes, classField, rowFields}
 use Rattle.model.specs.Calls.{namesOf, sizesFault, tooShort, faultWith}
 use Rattle.model.specs.Claims.{RowsOk}
 use Rattle.model.proofs.FieldLaws.{first-of, when-none}
@@ -32,10 +32,11 @@ use Rattle.written_plans.proofs.Numbers.{plan-refusal}
 use Rattle.written_plans.proofs.Rows.{rows-are-traces}
 use Rattle.written_plans.proofs.KnownChildren.{children-are-known}
 use Rattle.plan_rows.proofs.Faults.{rows-passed, rows-low}
-use Rattle.plan_rows.proofs.Lengths.{rows-length}
+use Rattle.plan_rows.proofs.Lengths.{row-fields-none, rows-length}
 use Rattle.results.specs.declared.PlanRows.{PlanRows}
 use Rattle.results.specs.Says.{plan-rows, readingRows}
-use Rattle.rows_handed_over.specs.Rows.{RowsCall, rowsWritten, tracesIn, rowsOf, NoFault, Traced, MakesBook, RowsHandedOver}
+use Rattle.rows_handed_over.specs.Rows.{RowsCall, rowsWritten, tracesIn, rowsOf, NoFault, Traced, MakesBook, ReadWith, allRows}
+use Rattle.rows_handed_over.specs.Rows.{RowsHandedOver}
 
 -- ---- numbers of refusals
 
@@ -89,6 +90,18 @@ short-row : (rows : List (List ℕ)) → rowsFault rows ≡ 0 → (row : List �
 unfolding rowsShort
 short-row rows none row m =
     tells-all (λ (r : List ℕ). tells-itself (leb (length r) row-limit)) rows .fact (rows-passed rows none .1) row m
+
+-- rows after an accepted list
+rows-book :
+    (list bytes : List ℕ) (rows : List (List ℕ)) → readNames list .number ≡ 0 → RowsOk (namesOf list) rows → bytes ≡ rowFields rows →
+    (settings : Settings) → MakesBook list bytes rows settings
+rows-book list bytes rows fine ok is settings =
+    let books = rows-make-books settings in
+    record {
+      without-class = ap (λ (z : List ℕ). readBook settings (list ++ z)) is ∙ books .without-class list rows fine ok;
+      with-class = λ class class-ok.
+          ap (λ (z : List ℕ). readBook settings (list ++ (classField class ++ z))) is ∙ books .with-class list class rows fine class-ok ok;
+    }
 
 module _ (c : RowsCall) where
   abbrev names : List (List ℕ)
@@ -221,27 +234,19 @@ module _ (c : RowsCall) where
           }
 
       -- each row is one that a book may have
-      row-fits : (row : List ℕ) → In row (rowsOf c plan) → rowOk (length names) row ≡ true
+      row-fits : (row : List ℕ) → In row rows → rowOk (length names) row ≡ true
       row-fits row m =
-          let from = map-in (map (nameNumber names)) (tracesIn c plan) m in
-          let below = subst (λ z. allBelow (length names) z ≡ true) (sym (from .2)) (entries-below names (from .0) (known (from .0) (from .1))) in
-          ap₂ (λ (a b : Bool). a && b) (short-row (rowsOf c plan) (subst (λ z. rowsFault z ≡ 0) rows-traced (parts .2)) row m) below
+          let from = map-in (map (nameNumber names)) (tracesIn c plan) (subst (λ z. In row z) rows-traced m) in
+          let below = entries-below names (from .0) (known (from .0) (from .1)) in
+          ap₂ (λ (a b : Bool). a && b) (short-row rows (parts .2) row m)
+          (subst (λ z. allBelow (length names) z ≡ true) (sym (from .2)) below)
 
-      makes-book : 1 ≤ c .result .rows → (settings : Settings) → MakesBook c plan settings
+      makes-book : 1 ≤ c .result .rows → (settings : Settings) → MakesBook (c .list) (rowsWritten c) (rowsOf c plan) settings
       makes-book some settings =
-          let counted = ap (λ (r : PlanRows). r .rows) answer-is ∙ ap length rows-traced in
-          let few = rows-passed (rowsOf c plan) (subst (λ z. rowsFault z ≡ 0) rows-traced (parts .2)) .0 in
-          let rows-ok : RowsOk names (rowsOf c plan) = record { some = omega arith; few = few; each = row-fits } in
-          let books = rows-make-books settings in
-          let wrote = traced .bytes-are in
-          record {
-            without-class =
-                ap (λ (z : List ℕ). readBook settings (c .list ++ z)) wrote
-                ∙ books .without-class (c .list) (rowsOf c plan) (asked (parts .0) .0) rows-ok;
-            with-class = λ class ok.
-                ap (λ (z : List ℕ). readBook settings (c .list ++ (classField class ++ z))) wrote
-                ∙ books .with-class (c .list) class (rowsOf c plan) (asked (parts .0) .0) ok rows-ok;
-          }
+          let counted = ap (λ (r : PlanRows). r .rows) answer-is in
+          let rows-ok : RowsOk names rows = record { some = omega arith; few = rows-passed rows (parts .2) .0; each = row-fits } in
+          subst (λ z. MakesBook (c .list) (rowsWritten c) z settings) rows-traced
+          (rows-book (c .list) (rowsWritten c) rows (asked (parts .0) .0) rows-ok (front .bytes-are) settings)
 
   -- ---- which refusal it is
 
@@ -308,6 +313,49 @@ module _ (c : RowsCall) where
       ltb-true (length (c .out)) (length (rowFields rows)) (sym (short-is call (rowFields rows) (c .out) refl) ∙ outputs .1) in
       omega (arith, rows-length rows (outputs .0))
 
+-- ---- several calls
+
+-- the fields of two lists of rows
+fields-parts : (rows more : List (List ℕ)) → rowFields (rows ++ more) ≡ rowFields rows ++ rowFields more
+unfolding rowFields flatMap
+fields-parts [] more = refl
+fields-parts (row ∷ rows) more =
+    ap (λ (z : List ℕ). fieldBytes row-mark row ++ z) (fields-parts rows more)
+    ∙ sym (append-assoc (fieldBytes row-mark row) (rowFields rows) (rowFields more))
+
+-- what they wrote are the fields of all their rows
+all-written : (list : List ℕ) (calls : List RowsCall) → ReadWith list calls → flatMap rowsWritten calls ≡ rowFields (allRows calls)
+unfolding flatMap
+all-written list [] read = sym row-fields-none
+all-written list (c ∷ calls) read =
+    ap₂ (λ (a b : List ℕ). a ++ b) (front c (read c (here refl) .1) .bytes-are) (all-written list calls (λ d m. read d (there m)))
+    ∙ sym (fields-parts (rows c) (allRows calls))
+
+-- each of these rows is one that a book may have
+all-fit : (list : List ℕ) (calls : List RowsCall) → ReadWith list calls → (row : List ℕ) → In row (allRows calls)
+    → rowOk (length (namesOf list)) row ≡ true
+all-fit list calls read row m =
+    let from = flatMap-in (λ (c : RowsCall). rows c) calls m in
+    let c = from .0 in
+    let told-list = read c (from .1) in
+    let plan = is-plan c (told-list .1) in
+    subst (λ (z : List ℕ). rowOk (length (namesOf z)) row ≡ true) (told-list .0)
+    (row-fits c (told-list .1) (plan .0) (plan .1) row (from .2))
+
+-- the list was accepted by any of them
+list-read : (list : List ℕ) (calls : List RowsCall) → ReadWith list calls → 1 ≤ length (allRows calls) → readNames list .number ≡ 0
+unfolding flatMap
+list-read list [] read some = let z : ⊥ = omega arith in absurd z
+list-read list (c ∷ calls) read some =
+    let told-list = read c (here refl) in
+    subst (λ (z : List ℕ). readNames z .number ≡ 0) (told-list .0) (asked c (parts c (told-list .1) .0) .0)
+
+make-book : (list : List ℕ) (calls : List RowsCall) → ReadWith list calls → 1 ≤ length (allRows calls)
+    → length (allRows calls) ≤ book-rows → (settings : Settings) → MakesBook list (flatMap rowsWritten calls) (allRows calls) settings
+make-book list calls read some few settings =
+    rows-book list (flatMap rowsWritten calls) (allRows calls) (list-read list calls read some)
+    (record { some = some; few = few; each = all-fit list calls read }) (all-written list calls read) settings
+
 -- ---- all of it
 
 pub rows-handed-over : RowsHandedOver
@@ -320,6 +368,7 @@ rows-handed-over =
       traced = traced;
       short = short;
       makes-book = λ c accepted some plan bytes settings. makes-book c accepted plan bytes some settings;
+      make-book = make-book;
       asked-first = asked-first;
       told = told-as;
       judged = judged;

@@ -1,17 +1,17 @@
 -- What is handed over with a plan's rows, said of calls of rows_of_plan, and of plans_read_rows for C: what a refusal of the plan tells;
 -- what is written where there is none; and which refusal it is. `rows-handed-over` of proofs/Rows.antt proves it. Assumes nothing.
 use mathlib.Core.Path.{_≡_}
-use mathlib.Core.List.{List, _++_, map}
+use mathlib.Core.List.{List, _++_, map, flatMap, List·Memᴰ as In}
 use Prim.Native.Nat.{ℕ, _≤_, _<_}
 use lib.Dec.{ltb}
 use lib.ListN.{length, take}
-use Rattle.base.specs.Limits.{rows-bytes, items-met, output-too-short, bad-plan, when, firstOf}
+use Rattle.base.specs.Limits.{book-rows, rows-bytes, items-met, output-too-short, bad-plan, when, firstOf}
 use Rattle.model.specs.Fields.{Class, ClassOk, Settings, file, readBook, accepted-file, nameNumber}
 use Rattle.model.specs.Tables.{classField, rowFields}
 use Rattle.model.specs.Calls.{namesOf}
 use Rattle.written_plans.specs.Written.{Plan, planBytes, traces, First}
 use Rattle.written_plans.specs.Reading.{rowsFault}
-use Rattle.written_plans.specs.Calls.{chosenName, askedFault}
+use Rattle.written_plans.specs.Calls.{chosenName, planRows, askedFault}
 use Rattle.written_plans.specs.Claims.{Faultless, Known}
 use Rattle.results.specs.declared.PlanRows.{PlanRows}
 use Rattle.results.specs.Says.{RowsSays}
@@ -52,14 +52,20 @@ pub record Traced (c : RowsCall) (plan : Plan) : Type 0 where
   -- every child of a chosen element is one of the list's names
   pub known : Known (namesOf (c .list)) (tracesIn c plan)
 
--- the list, a class field or none, and the rows written make a book, which is read without a refusal of its fields
-pub record MakesBook (c : RowsCall) (plan : Plan) (settings : Settings) : Type 0 where
+-- this list, a class field or none, and these bytes make a book with these rows, which is read without a refusal of its fields
+pub record MakesBook (list bytes : List ℕ) (rows : List (List ℕ)) (settings : Settings) : Type 0 where
   pub without-class :
-      readBook settings (c .list ++ rowsWritten c)
-      ≡ accepted-file (file items-met (namesOf (c .list)) (settings .default-class) (rowsOf c plan))
+      readBook settings (list ++ bytes) ≡ accepted-file (file items-met (namesOf list) (settings .default-class) rows)
   pub with-class : (class : Class) → ClassOk class →
-      readBook settings (c .list ++ (classField class ++ rowsWritten c))
-      ≡ accepted-file (file items-met (namesOf (c .list)) class (rowsOf c plan))
+      readBook settings (list ++ (classField class ++ bytes)) ≡ accepted-file (file items-met (namesOf list) class rows)
+
+-- calls that read plans with this list and were not refused
+abbrev pub ReadWith : List ℕ → List RowsCall → Type 0
+ReadWith list calls = (c : RowsCall) → In c calls → (c .list ≡ list) × (c .result .refusal ≡ 0)
+
+-- their rows, one call after the other, as the reading has them
+abbrev pub allRows : List RowsCall → List (List ℕ)
+allRows calls = flatMap (λ (c : RowsCall). planRows (c .plan) (c .list) (c .chosen)) calls
 
 -- what holds of every call
 pub record RowsHandedOver : Type 0 where
@@ -74,7 +80,11 @@ pub record RowsHandedOver : Type 0 where
   pub traced : (c : RowsCall) → c .result .refusal ≡ 0 → (plan : Plan) → planBytes plan ≡ c .plan → Traced c plan
   pub short : (c : RowsCall) → c .result .refusal ≡ 0 → c .result .length ≤ rows-bytes
   pub makes-book : (c : RowsCall) → c .result .refusal ≡ 0 → 1 ≤ c .result .rows → (plan : Plan) → planBytes plan ≡ c .plan
-      → (settings : Settings) → MakesBook c plan settings
+      → (settings : Settings) → MakesBook (c .list) (rowsWritten c) (rowsOf c plan) settings
+  -- so do the rows of several plans, one call after the other
+  pub make-book : (list : List ℕ) (calls : List RowsCall) → ReadWith list calls
+      → 1 ≤ length (allRows calls) → length (allRows calls) ≤ book-rows
+      → (settings : Settings) → MakesBook list (flatMap rowsWritten calls) (allRows calls) settings
   -- what is refused, in order: what is wrong with what was asked; then the first fault of the plan, at its place; then 7 and 9 for the
   -- traces, and 13 for the output
   pub asked-first : (c : RowsCall) → 0 < askedFault (c .plan) (c .list) (c .chosen) (c .work)
