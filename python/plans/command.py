@@ -10,7 +10,7 @@ from .differences import Difference, compare
 from .fields import ENTRY_LIMIT, ROW_LIMIT, Book, Class, Refused, Row, Table, read_table, write_book
 from .files import Failure, Input, Kind, label_of, put, read_input, say, write_output
 from .models import Built, Outcome, Walked, build, judged_book, judged_table, list_book, list_table, rewrite, walk
-from .plan_rows import Names, Plan, collected, judge_book, missing, names_in, read_plan, rows_of
+from .plan_rows import NO_BOOK, Names, Plan, collected, judge_book, missing, names_in, read_plan, rows_alone, rows_of
 from .showing import counted, cut, nearest, plain, shown
 from .texts import BadClass, BadText, Text, name_problem, read_class, read_text, write_text
 
@@ -36,10 +36,6 @@ class Model:
     book: Optional[Book]
     built: Built
     table: Table
-
-
-def told(source: Input, problem: BadText) -> List[str]:
-    return [f"{source.label}:{one.line}: {one.reason}" for one in problem.problems]
 
 
 def name_lines(names: Mapping[str, int]) -> List[str]:
@@ -93,7 +89,7 @@ def book_of(source: Input, asked: Asked, copies: bool = False, wanted: str = "a 
     try:
         book = text_book(source, asked, copies) if source.kind is Kind.TEXT else judged_book(source.data)
     except BadText as problem:
-        raise Failure(*told(source, problem)) from None
+        raise Failure(*source.faulty_lines(problem)) from None
     except Refused as problem:
         raise source.refused(problem) from None
     return book if asked.named_class is None else Book(book.names, asked.named_class, book.rows)
@@ -197,7 +193,7 @@ def judged(source: Input, asked: Asked) -> Tuple[bool, List[str]]:
             return True, [f"{source.label}: accepted: a text of {counts}"]
         return True, [f"{source.label}: accepted: {accepted_fields(source)}"]
     except BadText as problem:
-        return False, told(source, problem)
+        return False, source.faulty_lines(problem)
     except Refused as problem:
         what = f" (this is {source.kind.value})" if source.kind in (Kind.PLAN, Kind.EMPTY, Kind.NEITHER, Kind.ARCHIVE) else ""
         return False, [f"{source.label}: refused: {problem}{what}"]
@@ -289,18 +285,37 @@ def read_plans(asked: Asked) -> Tuple[List[Plan], bool]:
     return plans, len(plans) == len(asked.words)
 
 
-def read_all_rows(plans: Sequence[Plan], names: Names, asked: Asked) -> Tuple[List[Sequence[Row]], bool]:
-    """The rows of each plan, and whether none is refused; each is told of."""
+def rows_told(plan: Plan, rows: Optional[Sequence[Row]], element: str) -> str:
+    """What is said of a plan that is not refused: how many rows it gave; or how many names it has, where these are too many for a list."""
+    if rows is None:
+        return f"{plan.source.label}: {counted(len(plan.children | {element}), 'name')}"
+    none = "" if rows else f": it has {missing([plan], element)}"
+    return f"{plan.source.label}: {counted(len(rows), 'row')}{none}"
+
+
+def read_all_rows(plans: Sequence[Plan], names: Optional[Names], asked: Asked) -> Tuple[List[Sequence[Row]], bool]:
+    """The rows of each plan, and whether none is refused; each is told of. Without a list of names each is read by its own."""
     rows: List[Sequence[Row]] = []
     for plan in plans:
         try:
-            rows.append(rows_of(plan, names, asked.element))
+            own = rows_alone(plan, asked.element) if names is None else rows_of(plan, names, asked.element)
             if not asked.quiet:
-                none = "" if rows[-1] else f": it has {missing([plan], asked.element)}"
-                say(f"{plan.source.label}: {counted(len(rows[-1]), 'row')}{none}")
+                say(rows_told(plan, own, asked.element))
+            rows.append(own or ())
         except Failure as problem:
             problem.say()
     return rows, len(rows) == len(plans)
+
+
+def names_of(plans: Sequence[Plan], asked: Asked) -> Names:
+    """The list of names, from the file that is given or of all plans; where these have too many, each is told of first."""
+    if asked.names is not None:
+        return names_in(asked.names, asked.element)
+    try:
+        return collected(plans, asked.element)
+    except Failure:
+        read_all_rows(plans, None, asked)
+        raise
 
 
 def row_notes(plans: Sequence[Plan], book: Book) -> List[str]:
@@ -313,13 +328,14 @@ def row_notes(plans: Sequence[Plan], book: Book) -> List[str]:
 
 def rows_to_book(asked: Asked) -> int:
     """Every plan is read, and all that is wrong is told, before a book is written."""
-    problem = name_problem(asked.element)
+    problem = "--element needs a name" if asked.element[:1] in ("", "-") else name_problem(asked.element)
     if problem:
         raise usage("rows", problem)
     plans, all_read = read_plans(asked)
-    names = names_in(asked.names, asked.element) if asked.names is not None else collected(plans, asked.element)
+    names = names_of(plans, asked)
     rows, none_refused = read_all_rows(plans, names, asked)
     if not all_read or not none_refused:
+        say(NO_BOOK)
         return ERROR
     book = Book(names.names, asked.named_class, tuple(row for own in rows for row in own))
     if not book.rows:
@@ -355,7 +371,7 @@ SUBCOMMANDS: Dict[str, Subcommand] = {
 
 
 def usage(name: str, reason: str) -> Failure:
-    return Failure(f"plans {name}: {plain(cut(reason, 120))} ('plans {name} --help' shows how)")
+    return Failure(f"plans {name}: {reason} ('plans {name} --help' shows how)")
 
 
 def judge_words(name: str, words: Sequence[str], names: Optional[str]) -> None:
@@ -381,8 +397,10 @@ def parsed(name: str, words: Sequence[str]) -> Optional[Asked]:
         named_class = read_class(options["--class"]) if "--class" in options else None
         if name == "rows" and "--element" not in options:
             raise usage(name, "say which element's children are the rows, as --element day")
-    except (getopt.GetoptError, BadClass) as problem:
+    except BadClass as problem:
         raise usage(name, str(problem)) from None
+    except getopt.GetoptError as problem:
+        raise usage(name, plain(cut(str(problem), 120))) from None
     return Asked(tuple(rest), options.get("-o"), named_class, "-q" in options, "--tree" in options,
                  options.get("--element", ""), options.get("--names"))
 

@@ -9,7 +9,7 @@ from typing import List, Optional, Sequence
 
 from .fields import INPUT_LIMIT, ROW, STATE, Refused, kind_of
 from .showing import cut, plain
-from .texts import UTF_16
+from .texts import UTF_16, BadText
 
 TEXT_LIMIT = 4 * 1024 * 1024
 NAME_CUT = 200
@@ -53,6 +53,9 @@ class Input:
 
     def refused(self, problem: Refused) -> Failure:
         return Failure(f"{self.label}: {problem}")
+
+    def faulty_lines(self, problem: BadText) -> List[str]:
+        return [f"{self.label}:{one.line}: {one.reason}" for one in problem.problems]
 
 
 def label_of(path: str, standard: str) -> str:

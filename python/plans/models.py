@@ -140,8 +140,8 @@ def walk(table: Union[Table, Bytes], day: Iterable[str]) -> Walked:
 def _list_bytes(names: Union[Iterable[str], Bytes]) -> bytes:
     if isinstance(names, (bytes, bytearray, memoryview)):
         return bytes(names)
-    given = tuple(names)
-    if isinstance(names, str) or not all(isinstance(name, str) for name in given):
+    given = tuple(names) if isinstance(names, Iterable) and not isinstance(names, str) else (None,)
+    if not all(isinstance(name, str) for name in given):
         raise TypeError("a list of names must be given as its names, each a str, such as ['day', 'lunch'], or as its bytes")
     return write_names(given)
 

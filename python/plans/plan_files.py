@@ -3,10 +3,11 @@ where the library refuses a plan, in words. The format is in docs/FORMATS.md."""
 import re
 from collections import Counter
 from dataclasses import dataclass
+from itertools import islice
 from typing import Iterator, List, NamedTuple, Optional, Tuple
 
-from .fields import ENTRY_LIMIT, NAME_BYTES
-from .showing import plain, shown
+from .fields import ENTRY_LIMIT, NAME_BYTES, ROW_LIMIT
+from .showing import WORD_CUT, cut, plain, shown
 from .texts import name_problem
 
 DEPTH_LIMIT = 16
@@ -18,11 +19,17 @@ LINE_ENDS = re.compile(rb"\r\n|\r|\n")
 WORD = re.compile(rb"[^\s<>/=&]*")
 ATTRIBUTE = re.compile(rb"([^\s<>/=&]+)[ \t\r\n]*=")
 REFERENCE = re.compile(rb"&#?[A-Za-z0-9]+;")
+# references to < and &, which no text has
+LESS = re.compile(rb"&(?:lt|#0*60|#x0*3c);", re.IGNORECASE)
+AND = re.compile(rb"&(?:amp|#0*38|#x0*26);", re.IGNORECASE)
+NO_TEXT = re.compile("[\udc80-\udcff]")  # a byte that is not UTF-8
+PICTURES = (b"\x89PNG", b"\xff\xd8\xff", b"GIF8")
 # what stands after <, and what it is
 SPECIAL = [(b"?xml", "a declaration, <?xml ..?>"), (b"?", "a processing instruction, <?..?>"), (b"!--", "a comment, <!--..-->"),
            (b"!DOCTYPE", "a document type, <!DOCTYPE ..>"), (b"![CDATA[", "a CDATA section, <![CDATA[..]]>"),
            (b"!", "a declaration, <!..>")]
 TAKE_OUT = "a plan has none: take it out"
+IN_WORDS = "a < in the text has to be written in words"
 
 
 class Tag(NamedTuple):
@@ -46,6 +53,10 @@ class Scan:
         """Where the first element of this name begins that has too many children."""
         counts = Counter(tag.parent for tag in self.children(element))
         return min((self.tags[number].at for number, count in counts.items() if count > ENTRY_LIMIT), default=None)
+
+    def too_many(self, element: str) -> Optional[int]:
+        """Where the first element of this name begins that is one row too many."""
+        return next(islice((tag.at for tag in self.tags if tag.name == element), ROW_LIMIT, None), None)
 
 
 def scan(plan: bytes) -> Scan:
@@ -93,7 +104,11 @@ def _no_plan(plan: bytes) -> Optional[str]:
     if plan.startswith(b"\xef\xbb\xbf"):
         return "a byte order mark stands before the plan: save it as UTF-8 without one"
     if plan.startswith(b"\1"):
-        return "this is no plan, but fields, such as a book or a table"
+        return "this is no plan, but fields, such as a book or a table, which the other sub-commands read"
+    if plan.startswith(b"%PDF"):
+        return "this is no plan, but a PDF: give the plan as XML"
+    if plan.startswith(PICTURES):
+        return "this is no plan, but a picture: give the plan as XML"
     return None
 
 
@@ -131,6 +146,8 @@ def _outside(plan: bytes, at: int, scanned: Scan) -> str:
     if b"<" not in plan:
         return "this is no plan: it has no tag"
     if not scanned.tags or at < scanned.tags[0].at:
+        if plan[at] < 32 or NO_TEXT.match(_decoded(plan[at:at + 4])):
+            return f"this is no plan: it begins with {_letter(plan, at)}, and a plan with <"
         return f"{_letter(plan, at)} stands before the outermost element: only white space may"
     if plan[at:at + 1] != b"<":
         return f"{_letter(plan, at)} stands after the end of the outermost element: only white space may"
@@ -146,13 +163,17 @@ def _reference(plan: bytes, at: int) -> str:
     found = REFERENCE.match(plan, at)
     if not found:
         return "an & stands in the text, and a plan's text has none: write it in words, such as 'and'"
-    what = _decoded(found[0])
-    return f"the reference {what} stands here, and a plan's text has no &: write the letter itself, or 'and' for &amp;"
+    instead = "the letter itself"
+    if LESS.fullmatch(found[0]):
+        instead = "it in words, such as 'under'"
+    elif AND.fullmatch(found[0]):
+        instead = "it in words, such as 'and'"
+    return f"the reference {cut(_decoded(found[0]), WORD_CUT)} stands here, and a plan's text has no &: write {instead}"
 
 
 def _end_tag(plan: bytes, slash: int, scanned: Scan) -> str:
     if not scanned.open:
-        return "an end tag stands where no element is open"
+        return "an end tag stands where no element is open: a plan begins with a start tag"
     due = f"</{_open_name(scanned)}>"
     name = WORD.match(plan, slash + 1)[0]
     if not name and plan[slash + 1:slash + 2] in (b" ", b"\t", b"\r", b"\n"):
@@ -163,7 +184,7 @@ def _end_tag(plan: bytes, slash: int, scanned: Scan) -> str:
     return f"the end tag of {shown(_decoded(name))} stands where {due} must: {_open_name(scanned)} was opened in line {opened}"
 
 
-def _start_tag(plan: bytes, at: int, start: int) -> str:
+def _start_tag(plan: bytes, at: int, start: int, scanned: Scan) -> str:
     """What is wrong in a start tag: its name, an attribute, or how it ends."""
     word = WORD.match(plan, start + 1)
     name = _decoded(word[0])
@@ -171,13 +192,14 @@ def _start_tag(plan: bytes, at: int, start: int) -> str:
         return f"/ and > belong together: write <{plain(name)}/>"
     attribute = ATTRIBUTE.match(plan, at)
     if at > word.end() and attribute:
-        what = plain(_decoded(attribute[1]))
-        return f"an attribute, {what}=, stands in the tag of {plain(name)}, and {TAKE_OUT}, or make an element of it"
+        what = plain(cut(_decoded(attribute[1]), WORD_CUT))
+        return f"an attribute, {what}=, stands in the tag of {plain(name)}, and {TAKE_OUT}, or write it as text"
     if at >= word.end() or not word[0]:
         found = _letter(plan, at)
         return (f"{found} stands in the tag of {plain(name)}, which must end with > or />" if name
-                else f"{found} stands after <, where a tag's name must begin: a < in the text has to be written in words")
-    return name_problem(name) or f"{_letter(plan, at)} stands in the name {shown(name)}"
+                else f"{found} stands after <, where a tag's name must begin: {IN_WORDS}")
+    problem = name_problem(name) or f"{_letter(plan, at)} stands in the name {shown(name)}"
+    return f"{problem}; {IN_WORDS}" if at == start + 1 and plan[at] < 128 and scanned.open else problem
 
 
 def what_stands(plan: bytes, at: int) -> str:
@@ -195,7 +217,7 @@ def what_stands(plan: bytes, at: int) -> str:
             return special
         if plan[start + 1:start + 2] == b"/":
             return _end_tag(plan, start + 1, scanned)
-        return _start_tag(plan, at, start)
+        return _start_tag(plan, at, start, scanned)
     return _reference(plan, at) if scanned.open else _outside(plan, at, scanned)
 
 

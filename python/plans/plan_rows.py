@@ -1,16 +1,18 @@
 """From plan files to the rows of one book, for the command: names collected or taken from a file, each plan read by the library, and
 refusals in words."""
 from dataclasses import dataclass
-from typing import FrozenSet, Iterable, List, Optional, Sequence, Set, Tuple
+from itertools import count
+from typing import FrozenSet, Iterable, Optional, Sequence, Set, Tuple
 
 from .fields import ENTRY_LIMIT, INPUT_LIMIT, NAME_LIMIT, REFUSALS, ROW_LIMIT, STATE_LIMIT, Book, Refused, Row
 from .files import Failure, Input, Kind, read_input
 from .models import build, front_names, judged_book, judged_table, read_rows
 from .plan_files import DEPTH_LIMIT, place_of, scan, tag_at, what_stands
 from .showing import nearest
-from .texts import BYTE_ORDER_MARK, LINE_ENDS, SMALLER, cells_of, decoded, name_problem
+from .texts import SMALLER, BadText, names_in_text
 
 SIZES, TOO_MANY, BAD_ROW, TREE_TOO_LARGE, BAD_PLAN, TOO_DEEP, UNKNOWN_CHILD = 1, 7, 9, 10, 14, 15, 16
+NO_BOOK = "plans rows: no book is written"
 
 
 @dataclass(frozen=True)
@@ -37,33 +39,25 @@ def read_plan(path: str, element: str) -> Plan:
     return plan_of(read_input(path, texts=False), element)
 
 
-def _too_many_names(label: str) -> Failure:
-    return Failure(f"{label}: with this file there are over {NAME_LIMIT} different names: at most {NAME_LIMIT} are allowed; {SMALLER}")
-
-
 def collected(plans: Iterable[Plan], element: str) -> Names:
     """The element's name and those of its children, over all plans."""
     names: Set[str] = {element}
     for plan in plans:
         names.update(plan.children)
         if len(names) > NAME_LIMIT:
-            raise _too_many_names(plan.source.label)
+            over = f"over {NAME_LIMIT} different names: at most {NAME_LIMIT} are allowed; {SMALLER}"
+            raise Failure(f"{plan.source.label}: with this file there are {over}", NO_BOOK)
     return Names(tuple(sorted(names)), None)
 
 
 def _names_in_text(source: Input) -> Tuple[str, ...]:
-    """The names of a text, sorted: parted as those of a day are, in any number of lines."""
-    lines = LINE_ENDS.split(decoded(source.data).removeprefix(BYTE_ORDER_MARK))
-    names: Set[str] = set()
-    problems: List[str] = []
-    for number, line in enumerate(lines, 1):
-        found = cells_of(line)[0]
-        problems += [f"{source.label}:{number}: {problem}" for problem in map(name_problem, found) if problem]
-        names.update(found)
-    if problems:
-        raise Failure(*problems)
+    """The names of a text, sorted."""
+    try:
+        names = names_in_text(source.data)
+    except BadText as problem:
+        raise Failure(*source.faulty_lines(problem)) from None
     if len(names) > NAME_LIMIT:
-        raise _too_many_names(source.label)
+        raise Failure(f"{source.label}: this list has {len(names)} names, and a list has at most {NAME_LIMIT}: take some out")
     return tuple(sorted(names))
 
 
@@ -104,9 +98,9 @@ def names_in(path: str, element: str) -> Names:
 def _unknown_child(plan: Plan, at: int, names: Names, element: str) -> str:
     child = tag_at(plan.source.data, at)
     near = nearest(child, [name for name in names.names if name != element])
-    meant = f"; did you mean {near}?" if near else ""
+    meant = f"did you mean {near}?" if near else "add it there, or correct the plan"
     where = names.source.label if names.source else "the list of names"
-    return f"{child}, a child of {element}, is not in {where}{meant}"
+    return f"{child}, a child of {element}, is not in {where}; {meant}"
 
 
 def _explained(plan: Plan, problem: Refused, names: Names, element: str) -> str:
@@ -115,7 +109,7 @@ def _explained(plan: Plan, problem: Refused, names: Names, element: str) -> str:
     if problem.number == SIZES:
         return f"the plan is over {INPUT_LIMIT:,} bytes: give it in parts, each with one outermost element"
     if problem.number == TOO_MANY:
-        return f"over {ROW_LIMIT} elements {element} in one plan: at most {ROW_LIMIT} rows are allowed; give fewer"
+        return f"over {ROW_LIMIT} elements {element} in one plan: at most {ROW_LIMIT} rows are allowed; divide the plan, or take some out"
     if problem.number == BAD_ROW:
         return f"an element {element} of over {ENTRY_LIMIT} children: at most {ENTRY_LIMIT} are allowed; {SMALLER}"
     if problem.number == BAD_PLAN:
@@ -130,6 +124,8 @@ def _explained(plan: Plan, problem: Refused, names: Names, element: str) -> str:
 def _placed(plan: Plan, problem: Refused, element: str) -> str:
     """The file, with line and column where the refusal has a place."""
     at = problem.offset
+    if problem.number == TOO_MANY:
+        at = scan(plan.source.data).too_many(element)
     if problem.number == BAD_ROW:
         at = scan(plan.source.data).too_long(element)
     return plan.source.label if at is None else f"{plan.source.label}:{place_of(plan.source.data, at)}"
@@ -142,6 +138,17 @@ def rows_of(plan: Plan, names: Names, element: str) -> Tuple[Row, ...]:
     except Refused as problem:
         said = _explained(plan, problem, names, element)
         raise Failure(f"{_placed(plan, problem, element)}: refusal {problem.number}: {said}") from None
+
+
+def rows_alone(plan: Plan, element: str) -> Optional[Tuple[Row, ...]]:
+    """The plan's rows by the names that it has itself. None where these are too many for a list; the plan is then read for an element
+    that it does not have, which finds what is wrong with it as a plan. A Failure as of rows_of."""
+    own = plan.children | {element}
+    if len(own) <= NAME_LIMIT:
+        return rows_of(plan, Names(tuple(sorted(own)), None), element)
+    other = next(name for name in map("_{}".format, count()) if name not in plan.elements)
+    rows_of(plan, Names((other,), None), other)
+    return None
 
 
 def missing(plans: Sequence[Plan], element: str) -> str:
@@ -169,4 +176,4 @@ def judge_book(plans: Sequence[Plan], rows: Sequence[Sequence[Row]], book: Book)
     try:
         build(book)
     except Refused as problem:
-        raise Failure(_over_limit(plans, rows, problem.number)) from None
+        raise Failure(_over_limit(plans, rows, problem.number), NO_BOOK) from None

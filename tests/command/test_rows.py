@@ -25,6 +25,8 @@ NAMES = ("breakfast", "day", "lunch", "snack")
 ROWS = (("breakfast", "lunch"), (), ("breakfast", "snack", "lunch"))
 NOTES = "1 plan: 3 rows, 3 different rows; 4 names:\n  breakfast 2, day 0, lunch 2, snack 1\n"
 BOOK = plans.write_book(plans.Book(NAMES, None, ROWS))
+NO_BOOK = "plans rows: no book is written"
+IN_WORDS = "a < in the text has to be written in words"
 
 # a plan, the place of its refusal 14, and what is said
 FAULTS = [
@@ -39,17 +41,27 @@ FAULTS = [
     ("<plan><![CDATA[x]]></plan>", "1:8",
      "a CDATA section, <![CDATA[..]]>, stands here, and a plan has none: write its text by itself, without < and &"),
     ("<plan>\r\n  <day date='1'/></plan>", "2:8",
-     "an attribute, date=, stands in the tag of day, and a plan has none: take it out, or make an element of it"),
+     "an attribute, date=, stands in the tag of day, and a plan has none: take it out, or write it as text"),
+    (f"<plan {6000 * 'x'}='1'/>", "1:7",
+     f"an attribute, {40 * 'x'}...=, stands in the tag of plan, and a plan has none: take it out, or write it as text"),
     ("<plan>\r  <day\n\tdate = '1'/></plan>", "3:2",
-     "an attribute, date=, stands in the tag of day, and a plan has none: take it out, or make an element of it"),
+     "an attribute, date=, stands in the tag of day, and a plan has none: take it out, or write it as text"),
     ("<plan>Müsli & Obst</plan>", "1:13", "an & stands in the text, and a plan's text has none: write it in words, such as 'and'"),
     ("<plan>&uuml;</plan>", "1:7",
-     "the reference &uuml; stands here, and a plan's text has no &: write the letter itself, or 'and' for &amp;"),
+     "the reference &uuml; stands here, and a plan's text has no &: write the letter itself"),
+    *((f"<plan>{what}</plan>", "1:7", f"the reference {what} stands here, and a plan's text has no &: write it in words, such as '{word}'")
+      for what, word in [("&lt;", "under"), ("&#60;", "under"), ("&#x3C;", "under"), ("&#X03c;", "under"),
+                         ("&amp;", "and"), ("&#38;", "and"), ("&#x26;", "and")]),
     ("\ufeff<plan/>", "1:1", "a byte order mark stands before the plan: save it as UTF-8 without one"),
     ("<plan/>".encode("utf-16"), "1:1", "this is UTF-16, and a plan is not: save it as UTF-8 without a byte order mark"),
     ("<plan/>".encode("utf-16-le"), "1:2", "this is UTF-16, and a plan is not: save it as UTF-8 without a byte order mark"),
     (b"PK\x03\x04...", "1:1", "this is an archive, such as a word processor's own file: save the plan as XML"),
-    (BOOK, "1:1", "this is no plan, but fields, such as a book or a table"),
+    (BOOK, "1:1", "this is no plan, but fields, such as a book or a table, which the other sub-commands read"),
+    (b"%PDF-1.7\n1 0 obj\n<</Type/Catalog>>", "1:1", "this is no plan, but a PDF: give the plan as XML"),
+    (b"\x89PNG\r\n\x1a\n<", "1:1", "this is no plan, but a picture: give the plan as XML"),
+    (b" \x90<a/>", "1:2", "this is no plan: it begins with the byte 90, and a plan with <"),
+    (b"\0\2<a/>", "1:1", "this is no plan: it begins with the byte 00, and a plan with <"),
+    ("\xa0<a/>", "1:1", "the byte C2 stands before the outermost element: only white space may"),
     (bytes(range(128, 256)), "1:1", "this is no plan: it has no tag"),
     ("lunch tea\n", "1:1", "this is no plan: it has no tag"),
     ("Monday <plan/>", "1:1", "'M' stands before the outermost element: only white space may"),
@@ -58,7 +70,7 @@ FAULTS = [
     ("<plan/><plan/>", "1:8",
      "a second outermost element begins here, and a plan has one: put each into a file of its own, or one element around them"),
     ("<plan></plan></plan>", "1:14", "an end tag stands after the end of the outermost element: take it out, or open its element"),
-    ("</plan>", "1:2", "an end tag stands where no element is open"),
+    ("</plan>", "1:2", "an end tag stands where no element is open: a plan begins with a start tag"),
     ("<plan>\n<meal></plan>", "2:9", "the end tag of 'plan' stands where </meal> must: meal was opened in line 2"),
     ("<ab></a>", "1:8", "the end tag of 'a' stands where </ab> must: ab was opened in line 1"),
     ("<ab></abc>", "1:9", "the end tag of 'abc' stands where </ab> must: ab was opened in line 1"),
@@ -66,13 +78,18 @@ FAULTS = [
     ("<plan></plan x>", "1:14", "the end tag holds more than its name: write </plan>"),
     ("<plan></plan/>", "1:13", "the end tag holds more than its name: write </plan>"),
     ("<plan>1 < 2</plan>", "1:10",
-     "white space stands after <, where a tag's name must begin: a < in the text has to be written in words"),
+     f"white space stands after <, where a tag's name must begin: {IN_WORDS}"),
+    ("<plan>under <5 g</plan>", "1:14", f"the name '5' must begin with an ASCII letter, _ or :; write _5; {IN_WORDS}"),
     ("<plan/ >", "1:7", "/ and > belong together: write <plan/>"),
     ("<plan tea>", "1:7", "'t' stands in the tag of plan, which must end with > or />"),
     ("<plan<tea/></plan>", "1:6", "'<' stands in the tag of plan, which must end with > or />"),
     ("<9am/>", "1:2", "the name '9am' must begin with an ASCII letter, _ or :; write _9am"),
     ("<plan><Frühstück/></plan>", "1:10",
      "the name 'Frühstück' holds 'ü', which the format does not allow yet: ASCII letters, digits, _ : . and - are; write fruehstueck"),
+    ('<plan><tea"/></plan>', "1:11",
+     "the name 'tea\"' holds '\"', which the format does not allow yet: ASCII letters, digits, _ : . and - are; write tea"),
+    ("<plan><main\xa0meal/></plan>", "1:12",
+     "the name 'main\xa0meal' holds a no-break space (U+00A0), and no name may; write main_meal"),
     (f"<{33 * 'x'}/>", "1:34", f"the name '{33 * 'x'}' has 33 letters: at most 32 are allowed; write {32 * 'x'}"),
     ("<plan>\n<meal>soup", "2:11", "the file ends while meal, opened in line 2, is open: it was cut off, or </meal> is missing"),
     ("<plan>\n<meal", "2:6", "the file ends inside the tag '<meal': it was cut off, or the > is missing"),
@@ -117,7 +134,9 @@ class Good(InFolder):
         self.put("names", plans.write_names(names))
         self.put("names.book", plans.write_book(plans.Book(names, None, ((),))))
         self.put("names.table", plans.build(plans.Book(names, None, ((),))).table)
-        for given in ("names.txt", "names", "names.book", "names.table"):
+        self.put("days.txt", "sep=;\nclass = last 1\nnames = day tea\nbreakfast snack lunch\n-\nlunch;snack\nnames = day # again\n")
+        self.put("long.txt", " ".join(20 * names) + "\n")
+        for given in ("names.txt", "names", "names.book", "names.table", "days.txt", "long.txt"):
             self.answers(0, "", "rows", "week.xml", "--element", "day", "--names", given, "-q", "-o", "out")
             self.assertEqual((self.folder / "out").read_bytes(), plans.write_book(plans.Book(names, None, ROWS)))
 
@@ -132,8 +151,8 @@ class Good(InFolder):
 
 
 class Refused(InFolder):
-    def refused(self, said: str, *words: str, **settings):
-        self.fails(said, "rows", *words, "-o", "out", **settings)
+    def refused(self, said: str, *words: str):
+        self.fails(f"{said}\n{NO_BOOK}", "rows", *words, "-o", "out")
 
     def test_each_fault_of_a_plan(self):
         for plan, place, said in FAULTS:
@@ -146,7 +165,7 @@ class Refused(InFolder):
         self.refused("plan.xml:2:12: refusal 16: lunhc, a child of day, is not in names.txt; did you mean lunch?",
                      "plan.xml", "--element", "day", "--names", "names.txt")
         self.put("plan.xml", "<plan><day>\n<x/></day></plan>")
-        self.refused("plan.xml:2:3: refusal 16: x, a child of day, is not in names.txt",
+        self.refused("plan.xml:2:3: refusal 16: x, a child of day, is not in names.txt; add it there, or correct the plan",
                      "plan.xml", "--element", "day", "--names", "names.txt")
 
     def test_too_deep(self):
@@ -157,9 +176,9 @@ class Refused(InFolder):
         self.answers(0, "", "rows", "plan.xml", "--element", "a", "-q", "-o", "out")
 
     def test_limits_of_one_plan(self):
-        self.put("plan.xml", "<plan>" + 257 * "<day/>" + "</plan>")
-        self.refused("plan.xml: refusal 7: over 256 elements day in one plan: at most 256 rows are allowed; give fewer",
-                     "plan.xml", "--element", "day")
+        self.put("plan.xml", "<plan>" + 256 * "<day/>" + "\n <tea/><day/><day/></plan>")
+        self.refused("plan.xml:2:8: refusal 7: over 256 elements day in one plan: at most 256 rows are allowed; divide the plan, or take "
+                     "some out", "plan.xml", "--element", "day")
         smaller = "take a smaller element, such as a meal in place of a day"
         self.put("plan.xml", "<plan><day/>\n <day>" + 65 * "<tea/>" + "</day></plan>")
         self.refused(f"plan.xml:2:2: refusal 9: an element day of over 64 children: at most 64 are allowed; {smaller}",
@@ -173,7 +192,7 @@ class Refused(InFolder):
     def counted(self, end: str, rows: str, said: str):
         self.put("one.xml", "<plan>" + rows + "</plan>")
         self.put("two.xml", "<plan>" + end + "</plan>")
-        self.answers(2, "", "rows", "one.xml", "two.xml", "--element", "day", "-q", "-o", "out", said=said + "\n")
+        self.answers(2, "", "rows", "one.xml", "two.xml", "--element", "day", "-q", "-o", "out", said=f"{said}\n{NO_BOOK}\n")
         self.assertEqual(self.left(), ["one.xml", "two.xml"])
 
     def test_limits_of_all_plans(self):
@@ -188,6 +207,27 @@ class Refused(InFolder):
         self.counted(rows[7], "".join(rows[:7]),
                      f"two.xml: with this plan the prefix tree needs over 512 states; give fewer plans, or {smaller}")
 
+    def test_all_plans_are_told_of_where_there_are_too_many_names(self):
+        row = "<day>" + "".join(f"<n{i}/>" for i in range(60)) + "</day>"
+        more = row + "<day>" + "".join(f"<m{i}/>" for i in range(10)) + "</day>"
+        for name, plan in [("one", row), ("two", more), ("three", more + "\n&"), ("four", more + 15 * "<a>" + "\n<a>"), ("five", "<_0/>"),
+                           ("six", row.replace("n", "k") + 255 * "<day/>" + "\n<day/>"), ("seven", f"<_0>{more}</_0>")]:
+            self.put(name, f"<plan>{plan}</plan>")
+        self.put("eight", f"<plan>{more}{65536 * ' '}</plan>")
+        smaller = "take a smaller element, such as a meal in place of a day"
+        said = [
+            "one: 1 row", "two: 71 names", "three:2:1: refusal 14: an & stands in the text, and a plan's text has none: write it in words, "
+            "such as 'and'", "four:2:3: refusal 15: a stands inside 16 other elements: at most 15 are allowed; nest less deeply",
+            "five: 0 rows: it has no element day",
+            "six:2:1: refusal 7: over 256 elements day in one plan: at most 256 rows are allowed; divide the plan, or take some out",
+            "seven: 71 names", "eight: refusal 1: the plan is over 65,535 bytes: give it in parts, each with one outermost element",
+            f"two: with this file there are over 64 different names: at most 64 are allowed; {smaller}", NO_BOOK]
+        for quiet in ([], ["-q"]):
+            told = [line for line in said if not quiet or "refusal" in line or line in said[-2:]]
+            self.answers(2, "", "rows", "one", "two", "three", "four", "five", "six", "seven", "eight", "--element", "day", *quiet,
+                         "-o", "out", said="".join(line + "\n" for line in told))
+        self.assertNotIn("out", self.left())
+
     def test_all_plans_are_told_of(self):
         self.put("bad.xml", "<plan>&</plan>")
         self.put("good.xml", "<day/>")
@@ -195,7 +235,7 @@ class Refused(InFolder):
         before = self.left()
         self.answers(2, "", "rows", "none.xml", "bad.xml", "folder", "good.xml", "--element", "day", "-o", "out", said=(
             "plans: none.xml: No such file or directory\nplans: folder: Is a directory\nbad.xml:1:7: refusal 14: an & stands in the text, "
-            "and a plan's text has none: write it in words, such as 'and'\ngood.xml: 1 row\n"))
+            "and a plan's text has none: write it in words, such as 'and'\ngood.xml: 1 row\n" + NO_BOOK + "\n"))
         self.assertEqual(self.left(), before)
 
     def test_no_row(self):
@@ -212,19 +252,19 @@ class Refused(InFolder):
         wanted = "names are wanted: a text, a list of names, a book or a table"
         many = " ".join(f"n{i}" for i in range(65))
         yet = "which the format does not allow yet: ASCII letters, digits, _ : . and - are"
-        over = "there are over 64 different names: at most 64 are allowed; take a smaller element, such as a meal in place of a day"
         for name, data, said in [
                 ("days.txt", "Day lunch\n", "days.txt: day is not in this list, which must hold the element's own name; did you mean Day?"),
                 ("bad.txt", "day\nsnäck\n", f"bad.txt:2: the name 'snäck' holds 'ä', {yet}; write snaeck"),
-                ("many.txt", many, f"many.txt: with this file {over}"),
+                ("many.txt", many, "many.txt: this list has 65 names, and a list has at most 64: take some out"),
+                ("set.txt", "day\nmeal = day\n", "set.txt:2: 'meal' cannot be set: only 'class =' and 'names =' can"),
                 ("empty", "", f"empty: this is an empty file; {wanted}"),
                 ("other.xml", "<day/>", f"other.xml: this is a plan, in XML ('plans rows' makes a book of plans); {wanted}"),
                 ("list", field(1, b"b") + field(1, b"a"), f"list: refusal 6: {plans.REFUSALS[6]}"),
                 ("cut", field(1, b"day")[:-1], f"cut: refusal 2: {plans.REFUSALS[2]}"),
                 ("bad.book", field(1, b"day") + field(3, b"\1"), f"bad.book: offset 6: refusal 9: {plans.REFUSALS[9]}")]:
             self.put(name, data)
-            self.refused(said, "plan.xml", "--element", "day", "--names", name)
-        self.refused("plans: none: No such file or directory", "plan.xml", "--element", "day", "--names", "none")
+            self.fails(said, "rows", "plan.xml", "--element", "day", "--names", name, "-o", "out")
+        self.fails("plans: none: No such file or directory", "rows", "plan.xml", "--element", "day", "--names", "none", "-o", "out")
 
     def test_usage(self):
         self.put("plan.xml", "<day/>")
@@ -233,6 +273,11 @@ class Refused(InFolder):
         self.fails(f"plans rows: say which element's children are the rows, as --element day {how}", "rows", "plan.xml")
         self.fails(f"plans rows: the name 'main meal' holds a space, and no name may; write main_meal {how}",
                    "rows", "plan.xml", "--element", "main meal")
+        yet = "which the format does not allow yet: ASCII letters, digits, _ : . and - are"
+        self.fails(f"plans rows: the name '{40 * 'é'}...' holds 'é', {yet}; write {32 * 'e'} {how}",
+                   "rows", "plan.xml", "--element", 50 * "é")
+        for words in (["-o", "out"], ["--names", "names.txt"], [""]):
+            self.fails(f"plans rows: --element needs a name {how}", "rows", "plan.xml", "--element", *words)
         self.fails(f"plans rows: standard input can be read once {how}", "rows", "-", "--names", "-", "--element", "day")
         self.fails(f"plans rows: k is '9': it must be a number from 1 to 8 {how}", "rows", "plan.xml", "--element", "day", "--class", "9 9")
         self.fails("plans list: there is no option --element here ('plans list --help' shows how)", "list", "plan.xml", "--element", "day")
@@ -356,7 +401,7 @@ class Module(unittest.TestCase):
         for plan in ("<day/>", 5, None):
             with self.assertRaisesRegex(TypeError, f"^a plan's bytes must be given, not {type(plan).__name__}$"):
                 plans.read_rows(plan, ("day",), "day")
-        for names in ("day", [b"day"], [5]):
+        for names in ("day", [b"day"], [5], None, 5):
             with self.assertRaisesRegex(TypeError, "^a list of names must be given as its names"):
                 plans.read_rows(b"<day/>", names, "day")
         with self.assertRaisesRegex(ValueError, "^the name 'thé' cannot be written: it is not ASCII"):
