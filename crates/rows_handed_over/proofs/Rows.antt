@@ -9,8 +9,7 @@ use native.Mathlib.Omega.{arith}
 use borrow.Author.Tests.{ltb-true, lt-ltb, le-leb, lt-leb, leb-false}
 use lib.Dec.{ltb, leb}
 use lib.ListN.{length}
-use Rattle.base.specs.Limits.{row-mark, book-rows, row-limit, rows-bytes, bad-sizes, too-many, bad-row, output-too-short, bad-plan, when, firstOf}
-use Rattle.base.specs.Lists.{all}
+use Rattle.base.specs.Limits.{row-mark, book-rows, row-limit, rows-bytes, bad-sizes, bad-row, output-too-short, bad-plan, when, firstOf}
 use Rattle.base.proofs.Lists.{map-in, flatMap-in}
 use Rattle.base.proofs.Tests.{le-or-lt, tells-all, tells-itself}
 use Rattle.model.specs.Fields.{Settings, standard, name-list, readNames, readBook, nameNumber, allBelow, rowOk}
@@ -18,7 +17,7 @@ use Rattle.model.specs.Tables.{fieldBytes, classField, rowFields}
 use Rattle.model.specs.Calls.{namesOf, sizesFault, tooShort, faultWith}
 use Rattle.model.specs.Claims.{RowsOk}
 use Rattle.model.proofs.FieldLaws.{first-of, when-none}
-use Rattle.model.proofs.CallLaws.{SizesBad, refusal-is, answer-by, answered, one-wrote, short-is, FrontOf, front-of, refuses-none}
+use Rattle.model.proofs.CallLaws.{SizesBad, refusal-is, answer-by, answered, one-wrote, short-is, FrontOf, front-of}
 use Rattle.model.proofs.LowNumbers.{when-low, first-low, fields-low}
 use Rattle.model.proofs.NameLists.{accepted-names}
 use Rattle.model.proofs.NameNumbers.{number-only, number-of-known}

@@ -1,11 +1,10 @@
 -- Where a plan has no fault, every child of a chosen element is among the names. Assumes nothing.
-use mathlib.Core.Path.{_≡_, refl, sym, ap, subst}
+use mathlib.Core.Path.{_≡_, refl, sym, subst}
 use mathlib.Core.Logic.{inr, ⊎-elim}
 use mathlib.Core.Bool.{Bool, true, false, cond}
 use mathlib.Core.List.{List, [], _∷_, _++_, List·Memᴰ as In, List·Memᴰ·head as here, List·Memᴰ·tail as there}
 use mathlib.Core.List.{List·Memᴰ·not-nil, List·Memᴰ·cases-cons, List·Memᴰ·append-cases, Memᴰ·append-left, Memᴰ·append-right}
 use Prim.Native.Nat.{ℕ}
-use lib.ListN.{take}
 use Rattle.base.specs.Limits.{unknown-child}
 use Rattle.base.specs.Lists.{same}
 use Rattle.base.proofs.Tests.{decided, tells-same, tells-hasRow}
