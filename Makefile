@@ -25,7 +25,7 @@ help:
 	@echo "make test-install  an installation: every example built by pkg-config alone, and nothing left after uninstall"
 	@echo "make seeded-fault  faults put into copies of the library, which test-outside must find"
 	@echo "make fuzz SECONDS=600   the comparison of test-outside with new inputs, as long as asked"
-	@echo "make bench         what calls cost, as multiples of one memset and beside a second implementation"
+	@echo "make bench         what calls cost, as multiples of one memset, beside a second implementation and beside expat"
 	@echo "make bench-search SECONDS=300   looks for books that cost more"
 	@echo "make fmt           puts every .rt and .antt file into the layout"
 
@@ -61,7 +61,7 @@ check: kit
 lib: $(LIBRARY) $(SHARED)
 
 $(LIBRARY): always
-	@scripts/anew $@ handed_over rt staticlib plans
+	@scripts/anew $@ 'handed_over rows_handed_over' rt staticlib plans
 
 $(SHARED): $(LIBRARY) VERSION scripts/plans.map
 	@command -v gcc >/dev/null || { echo "make: the command 'gcc' is missing: it is in Debian's package gcc"; exit 1; }

@@ -13,7 +13,7 @@
  * - The caller's duties, which a call cannot see, and without which nothing is promised: each buffer has the length that is said; a
  *   buffer that a call writes overlaps no other buffer of that call (those that are only read may overlap); and nobody else touches
  *   the buffers during the call.
- * - Any bytes may be passed as book, table and row: what is wrong with them is told by a refusal.
+ * - Any bytes may be passed as book, table, row, plan and list of names: what is wrong with them is told by a refusal.
  * - The working area is of PLANS_WORK_BYTES or more. What it holds before the call does not matter. After the call every byte of
  *   it is 0, also where the call is refused, and also where the area was too short.
  * - A call uses no global state: calls on different buffers may run at the same time. It takes less than 40 KiB of stack (measured,
@@ -31,12 +31,12 @@ extern "C" {
 #endif
 
 /* The version of this header and of the library beside it. scripts/header writes this line from the file VERSION. */
-#define PLANS_VERSION "1.0.0"
+#define PLANS_VERSION "1.1.0"
 
 /* The least length of a working area, in bytes. */
 #define PLANS_WORK_BYTES 65536
 
-/* The longest table or book, in bytes. */
+/* The longest table, book, plan or list of names, in bytes. */
 #define PLANS_INPUT_LIMIT 65535
 
 /* No table that plans_build writes is longer, in bytes (proved). A table from elsewhere may have up to PLANS_INPUT_LIMIT. */
@@ -45,22 +45,28 @@ extern "C" {
 /* A text of so many bytes is long enough for the listing of every book (proved). */
 #define PLANS_LISTING_BYTES 32768
 
+/* An output of so many bytes is long enough for the rows of every plan (proved): 256 rows, each of 3 bytes and up to 64 entries. */
+#define PLANS_ROWS_BYTES 17152
+
 /* At most so many names, each of 1 to so many bytes. */
 #define PLANS_NAME_LIMIT 64
 #define PLANS_NAME_BYTES 32
 
-/* At most so many rows in a book, each of 0 to so many entries; a row that is walked has the same limit. */
+/* At most so many rows in a book, and from a plan, each of 0 to so many entries; a row that is walked has the same limit. */
 #define PLANS_BOOK_ROWS 256
 #define PLANS_ROW_LIMIT 64
 
 /* At most so many states, of a table and of a book's prefix tree. */
 #define PLANS_STATE_LIMIT 512
 
+/* At most so many elements of a plan are open at one time: an element may stand inside 15 others, and not inside 16. */
+#define PLANS_PLAN_DEPTH 16
+
 /* k of a context and j of last names are at most this. */
 #define PLANS_SETTING_LIMIT 8
 
 /* The marks of fields: a field is its mark, its content's length in two bytes, the high byte first, and its content. A book is
- * names, at most one class, and rows; a table is names, one class, and states. */
+ * names, at most one class, and rows; a table is names, one class, and states; a list of names is names alone. */
 enum {
     PLANS_NAME_MARK = 1,  /* names stand in strictly ascending byte order and are numbered from 0 */
     PLANS_CLASS_MARK = 2, /* three bytes: kind and two settings */
@@ -90,7 +96,10 @@ enum {
     PLANS_TREE_TOO_LARGE = 10,
     PLANS_BAD_STATE = 11,
     PLANS_BAD_NUMBERING = 12,
-    PLANS_OUTPUT_TOO_SHORT = 13
+    PLANS_OUTPUT_TOO_SHORT = 13,
+    PLANS_BAD_PLAN = 14,
+    PLANS_TOO_DEEP = 15,
+    PLANS_UNKNOWN_CHILD = 16
 };
 
 /* What `outcome` says of a walk that is not refused. */
@@ -122,6 +131,14 @@ typedef struct {
     uint32_t walked;     /* how many of the row's names can be walked: the longest beginning is row[0] to row[walked - 1] */
     uint64_t next_names; /* the names that may come next, from the state reached: bit n for name n */
 } plans_walked;
+
+/* What reading a plan's rows gives back. Where it is refused, `length` and `rows` are 0, and `at` is 0 but for 14, 15 and 16. */
+typedef struct {
+    uint8_t refusal; /* 0, or the refusal */
+    uint32_t length; /* how many bytes of row fields were written; 0 where the plan has no element of the chosen name */
+    uint32_t rows;   /* how many rows they are */
+    uint32_t at;     /* of 14, 15 and 16: the place in the plan, a byte counted from 0; else 0 */
+} plans_plan_rows;
 
 /*
  * Builds the table of a book, to the front of `out`: the prefix tree of its rows, joined by the rules of its class until none
@@ -163,6 +180,32 @@ plans_written plans_list(const uint8_t *book, size_t book_len,
                          uint8_t *work, size_t work_len,
                          uint8_t *text, size_t text_len);
 
+/*
+ * Reads a plan, and writes a row field for each of its elements of one name to the front of `out`, in the order of their start tags:
+ * the numbers of the element's children, in their order. `names` is a list of names (name fields, and nothing else); `chosen` is the
+ * number of the elements' name in it. The list, a class field or none, and the rows of one plan or more, at least one and at most
+ * PLANS_BOOK_ROWS, make a book whose fields plans_build accepts; its prefix tree may still be too large (10).
+ * A plan is one outermost element with white space (20 09 0D 0A) around it, of start tags <a>, end tags </a>, empty-element tags <a/>
+ * and text of any bytes but < and &. White space may stand right after a tag's name. There are no attributes, comments, declarations
+ * or references, and no byte order mark. Names are those of a book. An outermost element of the chosen name, and elements of that name
+ * inside one another, each give a row. A plan without such an element gives no row, which is no refusal: `length` and `rows` are 0.
+ * Reads `plan` and `names`; writes `work` (zeros) and `out`. Bytes of `out` beyond the rows are left as they were, and where the call is
+ * refused all of `out` is. Refusals, the first that applies:
+ *   1 for the plan, the list and the working area;
+ *   2 to 7 of the list's fields, in its order, 3 for a mark that is no name's, and 4 if the list is empty;
+ *   9 where `chosen` is no name's number;
+ *   then whichever of these stands first in the plan, the lower number where two stand at one byte; `at` tells that byte:
+ *     14 at the first byte, or at the end (`at` is then `plan_len`), that no plan can have there;
+ *     15 an element inside PLANS_PLAN_DEPTH others, at the byte after its tag's name;
+ *     16 a child of an element of the chosen name that is not in the list, at the byte after its tag's name;
+ *   7 for a 257th row; 9 for a row over 64 entries; 13. An output of PLANS_ROWS_BYTES is always enough.
+ */
+plans_plan_rows plans_read_rows(const uint8_t *plan, size_t plan_len,
+                                const uint8_t *names, size_t names_len,
+                                uint8_t chosen,
+                                uint8_t *work, size_t work_len,
+                                uint8_t *out, size_t out_len);
+
 /* What a refusal's number says, in words; never null. scripts/header writes the cases from python/plans/refusals.txt. */
 static inline const char *plans_refusal_text(unsigned number)
 {
@@ -176,11 +219,14 @@ static inline const char *plans_refusal_text(unsigned number)
     case PLANS_NAME_ORDER: return "a name not above the one before";
     case PLANS_TOO_MANY: return "a 65th name, 257th row or 513th state";
     case PLANS_BAD_CLASS: return "a class field of another length or value than allowed";
-    case PLANS_BAD_ROW: return "a row over 64 entries, or an entry that is no name's number";
+    case PLANS_BAD_ROW: return "a row over 64 entries, or an entry or chosen number that is no name's";
     case PLANS_TREE_TOO_LARGE: return "the prefix tree needs over 512 states, the root counted";
     case PLANS_BAD_STATE: return "a state field of wrong length, first byte, or arc names";
     case PLANS_BAD_NUMBERING: return "an arc to no state, a state never met, or states not numbered first-met";
-    case PLANS_OUTPUT_TOO_SHORT: return "the output is shorter than the table, or the text than the listing";
+    case PLANS_OUTPUT_TOO_SHORT: return "the output is shorter than the table, the rows or the listing";
+    case PLANS_BAD_PLAN: return "a byte, or the end, where no plan has it";
+    case PLANS_TOO_DEEP: return "an element inside 16 others";
+    case PLANS_UNKNOWN_CHILD: return "a child of an element of the chosen name that is not in the list";
     default: return "no refusal has this number";
     }
 }

@@ -1,6 +1,6 @@
 /*
- * Books and tables written and read field by field, for C99 and C++. There is nothing to link, nothing is allocated, and no byte
- * outside the buffers that are handed in is read or written.
+ * Books, tables and lists of names written and read field by field, for C99 and C++. There is nothing to link, nothing is allocated, and
+ * no byte outside the buffers that are handed in is read or written.
  *
  * A book is written name by name, then its class, then row by row:
  *
@@ -15,6 +15,9 @@
  *     if (book.overflowed)
  *         ..                              (the buffer was too short)
  *     built = plans_build(book.bytes, book.length, ..);
+ *
+ * The names alone are a list of names, as plans_read_rows takes it; behind them and the class it can write the rows of plans straight
+ * into the book's buffer, as examples/rows.c does.
  *
  * Nothing is judged here but lengths: whether names, class and rows are such as a book may have is what plans_build says.
  */
@@ -134,7 +137,7 @@ static inline int plans_read_field(plans_reader *from, plans_field *field)
     return 1;
 }
 
-/* The name with this number, in a book or a table: 1, and its field; or 0 where there is none, and `name` is left as it was. */
+/* The name with this number, in a book, a table or a list: 1, and its field; or 0 where there is none, and `name` is left as it was. */
 static inline int plans_name_of(const uint8_t *bytes, size_t length, unsigned number, plans_field *name)
 {
     plans_reader from = plans_read_from(bytes, length);
@@ -150,7 +153,7 @@ static inline int plans_name_of(const uint8_t *bytes, size_t length, unsigned nu
     return 0;
 }
 
-/* The number of a name, in a book or a table: what stands for the name in a row; or -1 where there is no such name. */
+/* The number of a name, in a book, a table or a list: what stands for the name in a row; or -1 where there is no such name. */
 static inline int plans_number_of(const uint8_t *bytes, size_t length, const char *name)
 {
     plans_reader from = plans_read_from(bytes, length);

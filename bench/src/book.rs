@@ -82,16 +82,20 @@ fn put_field(bytes: &mut Vec<u8>, mark: u8, body: &[u8]) {
     bytes.extend_from_slice(body);
 }
 
+pub fn put_names(bytes: &mut Vec<u8>, names: &[Vec<u8>]) {
+    names.iter().for_each(|name| put_field(bytes, 1, name));
+}
+
+pub fn put_rows(bytes: &mut Vec<u8>, rows: &[Vec<u8>]) {
+    rows.iter().for_each(|row| put_field(bytes, 3, row));
+}
+
 impl Book {
     pub fn bytes(&self) -> Vec<u8> {
         let mut bytes = Vec::new();
-        for name in &self.names {
-            put_field(&mut bytes, 1, name);
-        }
+        put_names(&mut bytes, &self.names);
         put_field(&mut bytes, 2, &self.class.settings());
-        for row in &self.rows {
-            put_field(&mut bytes, 3, row);
-        }
+        put_rows(&mut bytes, &self.rows);
         bytes
     }
 

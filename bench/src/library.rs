@@ -4,7 +4,7 @@
 mod calls;
 
 use calls::Call;
-pub use calls::{Built, Walked, Written};
+pub use calls::{Built, RowsGiven, Walked, Written};
 
 pub const WORK_BYTES: usize = 65_536;
 pub const INPUT_LIMIT: usize = 65_535;
@@ -24,6 +24,14 @@ pub fn list(book: &[u8], work: &mut [u8], text: &mut [u8]) -> Written {
 pub fn walk(table: &[u8], row: &[u8], work: &mut [u8]) -> Walked {
     // SAFETY: as in call
     unsafe { calls::plans_walk(table.as_ptr(), table.len(), row.as_ptr(), row.len(), work.as_mut_ptr(), work.len()) }
+}
+
+/// The rows of the elements of a plan whose name has the number `chosen` in this list.
+pub fn read_rows(plan: &[u8], list: &[u8], chosen: u8, work: &mut [u8], out: &mut [u8]) -> RowsGiven {
+    let (plan_len, list_len, work_len, out_len) = (plan.len(), list.len(), work.len(), out.len());
+    let (work, out) = (work.as_mut_ptr(), out.as_mut_ptr());
+    // SAFETY: as in call
+    unsafe { calls::plans_read_rows(plan.as_ptr(), plan_len, list.as_ptr(), list_len, chosen, work, work_len, out, out_len) }
 }
 
 fn call<R>(call: Call<R>, input: &[u8], work: &mut [u8], out: &mut [u8]) -> R {

@@ -1,14 +1,18 @@
-//! What builds and walks cost, against a second implementation in two variants that is written for speed, and against bars.
+//! What builds and walks cost, against a second implementation in two variants that is written for speed; what reading plans costs,
+//! against expat; and all against bars.
 //! With `search SECONDS`: looks for books that cost the library most, and keeps them under bench/books.
 
 mod bars;
 mod book;
 mod cases;
 mod clock;
+mod expat;
 mod fast;
 mod library;
 mod measure;
+mod plans;
 mod random;
+mod readings;
 mod run;
 mod search;
 mod sides;

@@ -32,6 +32,11 @@ impl<const N: usize> Times<N> {
         self.memset
     }
 
+    /// The calls in nanoseconds.
+    pub fn nanoseconds(&self) -> [f64; N] {
+        self.calls
+    }
+
     /// The calls as multiples of the memset.
     pub fn in_memsets(&self) -> [f64; N] {
         self.calls.map(|time| time / self.memset)

@@ -1,9 +1,10 @@
-//! The bench: every case compared and timed, growth, stack, and the bars.
+//! The bench: every case compared and timed, growth, plans, stack, and the bars.
 
 use crate::bars::{Bar, Bars};
 use crate::book::{Book, Class, CLASSES};
 use crate::cases;
 use crate::measure::{Effort, Times};
+use crate::readings::Readings;
 use crate::sides::Sides;
 use crate::stack;
 use std::time::Duration;
@@ -38,16 +39,20 @@ pub fn run() -> Result<bool, String> {
     let mut timed = builds()?;
     timed.extend(walks(&mut sides)?);
     let mut growth = growth();
+    let mut readings = Readings::new();
     for case in timed.iter_mut().chain(&mut growth) {
         case.compare(&mut sides)?;
     }
+    readings.compare()?;
     for _ in 0..PASSES {
         for case in timed.iter_mut().chain(&mut growth) {
             case.time(&mut sides);
         }
+        readings.time(EFFORT);
     }
     show_cases(&timed, &mut bars);
     show_growth(&growth);
+    readings.show(&mut bars);
     show_stack(&mut bars);
     Ok(bars.show())
 }

@@ -4,6 +4,7 @@ use crate::bars::Bar;
 use crate::book::CLASSES;
 use crate::cases;
 use crate::library::{self, INPUT_LIMIT, WORK_BYTES};
+use crate::plans::{self, Names};
 use std::alloc::{alloc, dealloc, handle_alloc_error, Layout};
 use std::ffi::c_void;
 use std::hint::black_box;
@@ -53,6 +54,17 @@ pub fn calls() -> Vec<(Bar, String, usize)> {
         black_box(library::walk(&table, &[0; 64], &mut work));
     });
     calls.push((Bar::Stack, "walk of 64, 512 states".to_string(), walking - empty));
+    for (name, plan) in [
+        ("plan of a clinic", plans::clinic()),
+        ("tag-dense", plans::tag_dense(Names::Letters(3))),
+        ("nested", plans::nested(Names::Letters(3))),
+    ] {
+        let list = plan.list();
+        let reading = used(&mut || {
+            black_box(library::read_rows(&plan.bytes, &list, plan.chosen, &mut work, &mut out));
+        });
+        calls.push((Bar::ReadingStack, format!("read rows, {name}"), reading - empty));
+    }
     calls
 }
 

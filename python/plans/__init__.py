@@ -4,15 +4,22 @@
     table = plans.build(book).table
     plans.walk(table, ["breakfast", "lunch"])
 
+A plan in XML gives its days as rows:
+
+    names = ("breakfast", "day", "lunch")
+    rows = plans.read_rows(b"<week><day><breakfast>tea</breakfast><lunch/></day></week>", names, "day")
+    plans.list_book(plans.Book(names, None, rows))
+
 The inferring and judging is done by the proved library (libplans.so, include/plans.h). Nothing is kept between calls. What the
 library refuses is raised as Refused. The formats are in docs/FORMATS.md.
 """
 from pathlib import Path
 
 from .differences import Difference, compare
-from .fields import (DEFAULT_CLASS, REFUSALS, Book, Class, Refused, State, Table, read_book, read_table, write_book, write_table)
+from .fields import (DEFAULT_CLASS, REFUSALS, Book, Class, Refused, State, Table, read_book, read_table, write_book, write_names,
+                     write_table)
 from .library import LibraryMissing
-from .models import Built, Outcome, Walked, build, judged_book, judged_table, list_book, list_table, rewrite, walk
+from .models import Built, Outcome, Walked, build, judged_book, judged_table, list_book, list_table, read_rows, rewrite, walk
 from .texts import BadClass, BadText, Problem, Text, read_class, read_text, write_class, write_text
 
 
@@ -26,5 +33,5 @@ def _version() -> str:
 __version__ = _version()
 __all__ = ["DEFAULT_CLASS", "REFUSALS", "BadClass", "BadText", "Book", "Built", "Class", "Difference", "LibraryMissing",
            "Outcome", "Problem", "Refused", "State", "Table", "Text", "Walked", "build", "compare", "judged_book",
-           "judged_table", "list_book", "list_table", "read_book", "read_class", "read_table", "read_text", "rewrite", "walk",
-           "write_book", "write_class", "write_table", "write_text"]
+           "judged_table", "list_book", "list_table", "read_book", "read_class", "read_rows", "read_table", "read_text", "rewrite",
+           "walk", "write_book", "write_class", "write_names", "write_table", "write_text"]

@@ -1,14 +1,16 @@
 """The command `plans`: its sub-commands over the module. Each gives its exit status; an error is a Failure."""
 import getopt
 import textwrap
+from collections import Counter
 from dataclasses import dataclass
-from typing import Callable, Dict, Iterable, List, NamedTuple, Optional, Sequence, Tuple
+from typing import Callable, Dict, Iterable, List, Mapping, NamedTuple, Optional, Sequence, Tuple
 
 from . import drawings, helps
 from .differences import Difference, compare
 from .fields import ENTRY_LIMIT, ROW_LIMIT, Book, Class, Refused, Row, Table, read_table, write_book
 from .files import Failure, Input, Kind, label_of, put, read_input, say, write_output
 from .models import Built, Outcome, Walked, build, judged_book, judged_table, list_book, list_table, rewrite, walk
+from .plan_rows import NO_BOOK, Names, Plan, collected, judge_book, missing, names_in, read_plan, rows_alone, rows_of
 from .showing import counted, cut, nearest, plain, shown
 from .texts import BadClass, BadText, Text, name_problem, read_class, read_text, write_text
 
@@ -23,6 +25,8 @@ class Asked:
     named_class: Optional[Class]
     quiet: bool
     tree: bool
+    element: str
+    names: Optional[str]
 
 
 @dataclass(frozen=True)
@@ -34,19 +38,19 @@ class Model:
     table: Table
 
 
-def told(source: Input, problem: BadText) -> List[str]:
-    return [f"{source.label}:{one.line}: {one.reason}" for one in problem.problems]
-
-
-def notes(source: Input, text: Text, copies: bool) -> List[str]:
-    """What was read of a text, so that slips of the pen are seen."""
-    names = text.names()
-    different = counted(len(set(text.days)), "different day")
-    lines = [f"{source.label}: {counted(len(text.days), 'day')}, {different}; {counted(len(names), 'name')}:"]
+def name_lines(names: Mapping[str, int]) -> List[str]:
+    """Each name with how often it stands there, so that slips of the pen are seen."""
     # a hard space keeps a name and its count in one line
     words = ", ".join(f"{name}\xa0{names[name]:,}" for name in sorted(names, key=lambda name: (name.lower(), name)))
     wrapped = textwrap.wrap(words, 80, initial_indent="  ", subsequent_indent="  ", break_long_words=False, break_on_hyphens=False)
-    lines += [line.replace("\xa0", " ") for line in wrapped]
+    return [line.replace("\xa0", " ") for line in wrapped]
+
+
+def notes(source: Input, text: Text, copies: bool) -> List[str]:
+    """What was read of a text."""
+    names = text.names()
+    different = counted(len(set(text.days)), "different day")
+    lines = [f"{source.label}: {counted(len(text.days), 'day')}, {different}; {counted(len(names), 'name')}:", *name_lines(names)]
     if text.blank_lines:
         passed = counted(text.blank_lines, "blank line")
         lines.append(f"{source.label}: {passed} passed over (a single - is the empty day)")
@@ -85,7 +89,7 @@ def book_of(source: Input, asked: Asked, copies: bool = False, wanted: str = "a 
     try:
         book = text_book(source, asked, copies) if source.kind is Kind.TEXT else judged_book(source.data)
     except BadText as problem:
-        raise Failure(*told(source, problem)) from None
+        raise Failure(*source.faulty_lines(problem)) from None
     except Refused as problem:
         raise source.refused(problem) from None
     return book if asked.named_class is None else Book(book.names, asked.named_class, book.rows)
@@ -114,8 +118,8 @@ def listing(asked: Asked) -> int:
     return YES
 
 
-def written(asked: Asked, source: Input, data: bytes, what: str) -> int:
-    write_output(asked.out, data, [source])
+def written(asked: Asked, sources: Sequence[Input], data: bytes, what: str) -> int:
+    write_output(asked.out, data, sources)
     if asked.out not in (None, "-") and not asked.quiet:
         say(f"{label_of(asked.out, '')}: {what}")
     return YES
@@ -128,7 +132,7 @@ def building(asked: Asked) -> int:
     except Refused as problem:
         raise source.refused(problem) from None
     counts = f"{counted(built.states, 'state')}, {counted(built.joins, 'join')}, {counted(len(built.table), 'byte')}"
-    return written(asked, source, built.table, counts)
+    return written(asked, [source], built.table, counts)
 
 
 def day_of(words: Sequence[str]) -> Row:
@@ -189,9 +193,9 @@ def judged(source: Input, asked: Asked) -> Tuple[bool, List[str]]:
             return True, [f"{source.label}: accepted: a text of {counts}"]
         return True, [f"{source.label}: accepted: {accepted_fields(source)}"]
     except BadText as problem:
-        return False, told(source, problem)
+        return False, source.faulty_lines(problem)
     except Refused as problem:
-        what = f" (this is {source.kind.value})" if source.kind in (Kind.EMPTY, Kind.NEITHER, Kind.ARCHIVE) else ""
+        what = f" (this is {source.kind.value})" if source.kind in (Kind.PLAN, Kind.EMPTY, Kind.NEITHER, Kind.ARCHIVE) else ""
         return False, [f"{source.label}: refused: {problem}{what}"]
 
 
@@ -253,7 +257,7 @@ def to_book(asked: Asked) -> int:
     if source.kind is Kind.BOOK:
         raise wrong_kind(source, "a text")
     data = write_book(book_of(source, asked, copies=True, wanted="a text"))
-    return written(asked, source, data, counted(len(data), "byte"))
+    return written(asked, [source], data, counted(len(data), "byte"))
 
 
 def picturing(asked: Asked) -> int:
@@ -268,6 +272,82 @@ def picturing(asked: Asked) -> int:
     except drawings.NotDrawn as problem:
         raise Failure(f"plans picture: {problem}") from None
     return YES
+
+
+def read_plans(asked: Asked) -> Tuple[List[Plan], bool]:
+    """The plans that can be read, and whether all can; those that cannot are told of."""
+    plans = []
+    for path in asked.words:
+        try:
+            plans.append(read_plan(path, asked.element))
+        except Failure as problem:
+            problem.say()
+    return plans, len(plans) == len(asked.words)
+
+
+def rows_told(plan: Plan, rows: Optional[Sequence[Row]], element: str) -> str:
+    """What is said of a plan that is not refused: how many rows it gave; or how many names it has, where these are too many for a list."""
+    if rows is None:
+        return f"{plan.source.label}: {counted(len(plan.children | {element}), 'name')}"
+    none = "" if rows else f": it has {missing([plan], element)}"
+    return f"{plan.source.label}: {counted(len(rows), 'row')}{none}"
+
+
+def read_all_rows(plans: Sequence[Plan], names: Optional[Names], asked: Asked) -> Tuple[List[Sequence[Row]], bool]:
+    """The rows of each plan, and whether none is refused; each is told of. Without a list of names each is read by its own."""
+    rows: List[Sequence[Row]] = []
+    for plan in plans:
+        try:
+            own = rows_alone(plan, asked.element) if names is None else rows_of(plan, names, asked.element)
+            if not asked.quiet:
+                say(rows_told(plan, own, asked.element))
+            rows.append(own or ())
+        except Failure as problem:
+            problem.say()
+    return rows, len(rows) == len(plans)
+
+
+def names_of(plans: Sequence[Plan], asked: Asked) -> Names:
+    """The list of names, from the file that is given or of all plans; where these have too many, each is told of first."""
+    if asked.names is not None:
+        return names_in(asked.names, asked.element)
+    try:
+        return collected(plans, asked.element)
+    except Failure:
+        read_all_rows(plans, None, asked)
+        raise
+
+
+def row_notes(plans: Sequence[Plan], book: Book) -> List[str]:
+    """What was read of plans."""
+    different = counted(len(set(book.rows)), "different row")
+    front = f"{counted(len(plans), 'plan')}: {counted(len(book.rows), 'row')}, {different}; {counted(len(book.names), 'name')}:"
+    counts = Counter(name for row in book.rows for name in row)
+    return [front, *name_lines({name: counts[name] for name in book.names})]
+
+
+def rows_to_book(asked: Asked) -> int:
+    """Every plan is read, and all that is wrong is told, before a book is written."""
+    problem = "--element needs a name" if asked.element[:1] in ("", "-") else name_problem(asked.element)
+    if problem:
+        raise usage("rows", problem)
+    plans, all_read = read_plans(asked)
+    names = names_of(plans, asked)
+    rows, none_refused = read_all_rows(plans, names, asked)
+    if not all_read or not none_refused:
+        say(NO_BOOK)
+        return ERROR
+    book = Book(names.names, asked.named_class, tuple(row for own in rows for row in own))
+    if not book.rows:
+        say(f"plans rows: {missing(plans, asked.element)} in {counted(len(plans), 'plan')}: there is no row, and no book is written")
+        return NO
+    judge_book(plans, rows, book)
+    data = write_book(book)
+    if not asked.quiet:
+        for line in row_notes(plans, book):
+            say(line)
+    inputs = [plan.source for plan in plans] + ([names.source] if names.source else [])
+    return written(asked, inputs, data, counted(len(data), "byte"))
 
 
 class Subcommand(NamedTuple):
@@ -286,37 +366,43 @@ SUBCOMMANDS: Dict[str, Subcommand] = {
     "text": Subcommand(to_text, ("-o",), "one file"),
     "book": Subcommand(to_book, ("--class", "-o"), "one file"),
     "picture": Subcommand(picturing, ("--tree", "--class", "-o"), "one file"),
+    "rows": Subcommand(rows_to_book, ("--element", "--names", "--class", "-o"), "one file or more"),
 }
 
 
 def usage(name: str, reason: str) -> Failure:
-    return Failure(f"plans {name}: {plain(cut(reason, 120))} ('plans {name} --help' shows how)")
+    return Failure(f"plans {name}: {reason} ('plans {name} --help' shows how)")
 
 
-def judge_words(name: str, words: Sequence[str]) -> None:
+def judge_words(name: str, words: Sequence[str], names: Optional[str]) -> None:
     files = SUBCOMMANDS[name].files
     enough = {"one file": len(words) == 1, "two files": len(words) == 2}.get(files, len(words) > 0)
     if not enough:
         raise usage(name, f"{files} must be given, not {len(words)}")
-    if files in ("two files", "one file or more") and words.count("-") > 1:
+    if files in ("two files", "one file or more") and [*words, names].count("-") > 1:
         raise usage(name, "standard input can be read once")
 
 
 def parsed(name: str, words: Sequence[str]) -> Optional[Asked]:
     """What is asked; None where help is."""
     try:
-        given, rest = getopt.gnu_getopt(list(words), "o:qh", ["class=", "tree", "help"])
+        given, rest = getopt.gnu_getopt(list(words), "o:qh", ["class=", "tree", "element=", "names=", "help"])
         options = dict(given)
         if "-h" in options or "--help" in options:
             return None
         strange = [option for option in options if option not in ("-q", *SUBCOMMANDS[name].options)]
         if strange:
             raise usage(name, f"there is no option {strange[0]} here")
-        judge_words(name, rest)
+        judge_words(name, rest, options.get("--names"))
         named_class = read_class(options["--class"]) if "--class" in options else None
-    except (getopt.GetoptError, BadClass) as problem:
+        if name == "rows" and "--element" not in options:
+            raise usage(name, "say which element's children are the rows, as --element day")
+    except BadClass as problem:
         raise usage(name, str(problem)) from None
-    return Asked(tuple(rest), options.get("-o"), named_class, "-q" in options, "--tree" in options)
+    except getopt.GetoptError as problem:
+        raise usage(name, plain(cut(str(problem), 120))) from None
+    return Asked(tuple(rest), options.get("-o"), named_class, "-q" in options, "--tree" in options,
+                 options.get("--element", ""), options.get("--names"))
 
 
 def run(words: Sequence[str]) -> int:

@@ -28,7 +28,8 @@ REFUSALS = _words()
 
 
 class Refused(Exception):
-    """A refusal: its number, its words, and where the field begins that it concerns, if that is known."""
+    """A refusal: its number, its words, and its offset, if that is known: where the field begins that it concerns; of 14, 15 and 16
+    the place in the plan."""
 
     def __init__(self, number: int, offset: Optional[int] = None):
         self.number = number
@@ -265,6 +266,11 @@ class _Numbers:
         if name not in self.names:
             raise ValueError(f"the name {name!r} cannot be written: it is not among the names")
         return _fitted(self.names[name], 1)
+
+
+def write_names(names: Sequence[str]) -> bytes:
+    """A list of names as its bytes, in the order given. They are not judged; ValueError as for a book."""
+    return _front(names, None)
 
 
 def write_book(book: Book) -> bytes:

@@ -1,6 +1,7 @@
 """Files for the command: read no further than needed, told apart by their first bytes, and written whole or not at all."""
 import enum
 import os
+import re
 import stat
 import time
 from dataclasses import dataclass
@@ -8,10 +9,11 @@ from typing import List, Optional, Sequence
 
 from .fields import INPUT_LIMIT, ROW, STATE, Refused, kind_of
 from .showing import cut, plain
-from .texts import UTF_16
+from .texts import UTF_16, BadText
 
 TEXT_LIMIT = 4 * 1024 * 1024
 NAME_CUT = 200
+PLAN_FRONT = re.compile(rb"(?:\xef\xbb\xbf)?[ \t\r\n]*<")
 STANDARD = "-"
 
 
@@ -20,6 +22,7 @@ class Kind(enum.Enum):
     BOOK = "a book"
     TABLE = "a table"
     FIELDS = "neither a book nor a table: no row and no state follows its names"
+    PLAN = "a plan, in XML ('plans rows' makes a book of plans)"
     EMPTY = "an empty file"
     NEITHER = "neither a text nor fields, which begin with the byte 01"
     ARCHIVE = "an archive, such as a spreadsheet's own file: save it as CSV or as text"
@@ -51,6 +54,9 @@ class Input:
     def refused(self, problem: Refused) -> Failure:
         return Failure(f"{self.label}: {problem}")
 
+    def faulty_lines(self, problem: BadText) -> List[str]:
+        return [f"{self.label}:{one.line}: {one.reason}" for one in problem.problems]
+
 
 def label_of(path: str, standard: str) -> str:
     return standard if path == STANDARD else cut(plain(path), NAME_CUT) or "''"
@@ -81,18 +87,19 @@ def _kind(data: bytes) -> Kind:
         return Kind.ARCHIVE
     if b"\0" in data and data[:2] not in UTF_16:
         return Kind.NEITHER
-    return Kind.TEXT
+    return Kind.PLAN if PLAN_FRONT.match(data) else Kind.TEXT
 
 
-def read_input(path: str) -> Input:
-    """The file, or standard input for '-'. Fields are read to one byte over their limit, which is enough to refuse them."""
+def read_input(path: str, texts: bool = True) -> Input:
+    """The file, or standard input for '-'. Fields and plans are read to one byte over their limit, which is enough to refuse them; so
+    is a text where none is wanted."""
     label = label_of(path, "standard input")
     file = 0
     try:
         file = 0 if path == STANDARD else os.open(path, os.O_RDONLY | os.O_CLOEXEC)
         data = _read_to(file, INPUT_LIMIT + 1)
         kind = _kind(data)
-        if kind is Kind.TEXT and len(data) > INPUT_LIMIT:
+        if texts and kind is Kind.TEXT and len(data) > INPUT_LIMIT:
             data += _read_to(file, TEXT_LIMIT + 1 - len(data))
             kind = _kind(data)
     except OSError as problem:

@@ -12,6 +12,7 @@ days, and other days are held against it.
   plans text BOOK             a book as text
   plans book TEXT -o BOOK     a text as a book
   plans picture FILE -o SVG   a drawing (svg, png or pdf)
+  plans rows PLAN... -o BOOK  plans in XML as a book, by --element NAME
 
 A FILE is a text, a book or a table; - is standard input.
   -o FILE        where to write; without it, to standard output
@@ -131,5 +132,23 @@ colour.
   label="context (2,1): 2 states, 0 joins"
 """
 
+ROWS = """\
+plans rows PLAN... --element NAME [--names FILE] [--class CLASS] [-o BOOK] [-q]
+
+Reads plans in XML and writes one book: a row for each element of that name, the
+names of its children in order. A plan is one element of tags and text, with no
+attribute, comment, declaration or &. The book's names are the element's and its
+children's, sorted; --names takes them from FILE instead, a text of names or a
+list of names, a book or a table, and a child that is not there is refused. No
+book is written if a plan is refused, or if none has the element (status 1).
+
+  $ echo '<plan><day><tea>hot</tea><cake/></day><day/></plan>' > week.xml
+  $ plans rows week.xml --element day -o week.book
+  week.xml: 2 rows
+  1 plan: 2 rows, 2 different rows; 3 names:
+    cake 1, day 0, tea 1
+  week.book: 27 bytes
+"""
+
 SUBCOMMANDS = {"list": LIST, "build": BUILD, "walk": WALK, "check": CHECK, "diff": DIFF, "text": TEXT, "book": BOOK,
-               "picture": PICTURE}
+               "picture": PICTURE, "rows": ROWS}

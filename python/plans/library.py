@@ -1,4 +1,4 @@
-"""The library's four calls through ctypes, as include/plans.h declares them. Every buffer lives for one call."""
+"""The library's five calls through ctypes, as include/plans.h declares them. Every buffer lives for one call."""
 import ctypes
 import functools
 import os
@@ -10,6 +10,7 @@ FILES = ("libplans.so.1", "libplans.so")
 
 WORK_BYTES = 65536
 LISTING_BYTES = 32768
+ROWS_BYTES = 17152
 
 
 class LibraryMissing(Exception):
@@ -29,10 +30,17 @@ class WalkedLayout(ctypes.Structure):
                 ("walked", ctypes.c_uint32), ("next_names", ctypes.c_uint64)]
 
 
-# each call's result; each takes three slices, a slice being (pointer, length)
-RESULTS = {"plans_build": BuiltLayout, "plans_rewrite": BuiltLayout, "plans_walk": WalkedLayout, "plans_list": WrittenLayout}
+class PlanRowsLayout(ctypes.Structure):
+    _fields_ = [("refusal", ctypes.c_uint8), ("length", ctypes.c_uint32), ("rows", ctypes.c_uint32), ("at", ctypes.c_uint32)]
+
+
+# each call's result, and what it takes: slices, a slice being (pointer, length), and numbers
+RESULTS = {"plans_build": BuiltLayout, "plans_rewrite": BuiltLayout, "plans_walk": WalkedLayout, "plans_list": WrittenLayout,
+           "plans_read_rows": PlanRowsLayout}
 READ = [ctypes.c_char_p, ctypes.c_size_t]
 LENT = [ctypes.c_void_p, ctypes.c_size_t]
+TAKEN = {"plans_build": READ + LENT + LENT, "plans_rewrite": READ + LENT + LENT, "plans_walk": READ + READ + LENT,
+         "plans_list": READ + LENT + LENT, "plans_read_rows": READ + READ + [ctypes.c_uint8] + LENT + LENT}
 
 
 def _folders() -> List[Path]:
@@ -61,7 +69,7 @@ def _calls(path: str) -> ctypes.CDLL:
         for name, result in RESULTS.items():
             call = getattr(library, name)
             call.restype = result
-            call.argtypes = READ + (READ + LENT if name == "plans_walk" else LENT + LENT)
+            call.argtypes = TAKEN[name]
     except (OSError, AttributeError) as problem:
         raise LibraryMissing(f"{path} is not this library: {problem}") from None
     return library
@@ -82,3 +90,11 @@ def written_by(name: str, data: bytes, room: int) -> Tuple[ctypes.Structure, byt
 def walked(table: bytes, row: bytes) -> WalkedLayout:
     work = ctypes.create_string_buffer(WORK_BYTES)
     return _call("plans_walk")(table, len(table), row, len(row), work, WORK_BYTES)
+
+
+def plan_rows(plan: bytes, names: bytes, chosen: int) -> Tuple[PlanRowsLayout, bytes]:
+    """What the reading of a plan gives back, and the row fields that it wrote."""
+    work = ctypes.create_string_buffer(WORK_BYTES)
+    out = ctypes.create_string_buffer(ROWS_BYTES)
+    result = _call("plans_read_rows")(plan, len(plan), names, len(names), chosen, work, WORK_BYTES, out, ROWS_BYTES)
+    return result, out.raw[:result.length]

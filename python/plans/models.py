@@ -5,7 +5,7 @@ from typing import Callable, Iterable, Sequence, Tuple, TypeVar, Union
 
 from . import library
 from .fields import (ENTRY_LIMIT, INPUT_LIMIT, NAME, Book, Bytes, Refused, Row, Table, as_bytes, fields_of, read_book, read_table,
-                     write_book, write_table)
+                     write_book, write_names, write_table)
 
 File = TypeVar("File", Book, Table)
 
@@ -105,11 +105,11 @@ def list_table(table: Union[Table, Bytes]) -> str:
     return "".join(line + "\n" for line in lines)
 
 
-def _front_names(table: bytes) -> Sequence[str]:
-    """The names at the front, unjudged: the call judges the table."""
+def front_names(data: bytes) -> Sequence[str]:
+    """The names at the front of a table, a book or a list of names, unjudged: a call judges them."""
     names = []
     try:
-        for _, mark, body in fields_of(table):
+        for _, mark, body in fields_of(data):
             if mark != NAME:
                 break
             names.append(body.decode("latin-1"))
@@ -122,7 +122,7 @@ def walk(table: Union[Table, Bytes], day: Iterable[str]) -> Walked:
     """Walks a day's names over a table from its start. A name that the table does not have stops the walk."""
     data = _table_bytes(table)
     day = _day(day)
-    names = _front_names(data)
+    names = front_names(data)
     numbers = {name: number for number, name in enumerate(names[:256])}
     known = next((place for place, name in enumerate(day) if name not in numbers), len(day))
     if len(day) > ENTRY_LIMIT:
@@ -135,3 +135,26 @@ def walk(table: Union[Table, Bytes], day: Iterable[str]) -> Walked:
     outcome = Outcome(result.outcome) if known == len(day) else Outcome.STOPS
     following = tuple(name for number, name in enumerate(names) if result.next_names >> number & 1)
     return Walked(outcome, day[:result.walked], following)
+
+
+def _list_bytes(names: Union[Iterable[str], Bytes]) -> bytes:
+    if isinstance(names, (bytes, bytearray, memoryview)):
+        return bytes(names)
+    given = tuple(names) if isinstance(names, Iterable) and not isinstance(names, str) else (None,)
+    if not all(isinstance(name, str) for name in given):
+        raise TypeError("a list of names must be given as its names, each a str, such as ['day', 'lunch'], or as its bytes")
+    return write_names(given)
+
+
+def read_rows(plan: Bytes, names: Union[Iterable[str], Bytes], element: str) -> Tuple[Row, ...]:
+    """The rows of a plan: for each element of this name, in the order of start tags, the names of its children. None is no fault. The
+    names, ascending, are those that the plan's rows may hold, the element's own among them; also as the bytes of a list of names.
+    Refused has the place in the plan as its offset for 14, 15 and 16. Names that cannot be written are a ValueError (see write_book)."""
+    data = _list_bytes(names)
+    known = front_names(data)
+    # a number that is no name's where the list has no such name, or too many: the call refuses it
+    chosen = min(known.index(element), 255) if element in known else 255
+    result, rows = library.plan_rows(as_bytes(plan, "a plan's bytes"), data, chosen)
+    if result.refusal:
+        raise Refused(result.refusal, result.at if result.refusal >= 14 else None)
+    return tuple(tuple(known[entry] for entry in body) for _, _, body in fields_of(rows))

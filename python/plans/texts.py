@@ -20,6 +20,7 @@ FRONT = re.compile(r'[\s",;]*')
 SETTING = re.compile(r'([^\s",;=#]*)[\s",;]*=([^#]*)')
 SMALLER = "take a smaller element, such as a meal in place of a day"
 BYTE_ORDER_MARK = "\ufeff"
+NO_BREAK = "\u00a0\u202f"
 UTF_16 = {b"\xff\xfe": "utf-16-le", b"\xfe\xff": "utf-16-be"}
 
 
@@ -71,17 +72,24 @@ def write_class(named_class: Class) -> str:
     return "seen" if named_class.kind == SEEN else f"last {named_class.one}"
 
 
-def name_problem(name: str) -> Optional[str]:
-    """Why the word is no name, with a suggestion, or None."""
+def _space(letter: str) -> str:
+    """What a space is called."""
+    if letter == " ":
+        return "a space"
+    return f"a {'no-break ' if letter in NO_BREAK else ''}space (U+{ord(letter):04X})"
+
+
+def name_problem(name: str, in_cell: bool = False) -> Optional[str]:
+    """Why the word is no name, with a suggestion, or None; of a text's cell, that it may have been cut by a line break."""
     if NAME_SHAPE.fullmatch(name) and len(name) <= NAME_BYTES:
         return None
     allowed = len(NAME_SHAPE.match("a" + name)[0]) - 1
     wrong = name[allowed:allowed + 1]
     if wrong and unicodedata.category(wrong) == "Zs":
-        reason = "holds a space, and no name may"
+        reason = f"holds {_space(wrong)}, and no name may"
     elif wrong:
         reason = f"holds {shown(wrong)}, which the format does not allow yet: ASCII letters, digits, _ : . and - are"
-        reason += " (a cell may not hold a line break)" if name.count('"') % 2 else ""
+        reason += " (a cell may not hold a line break)" if in_cell and name.count('"') % 2 else ""
     elif len(name) > NAME_BYTES:
         reason = f"has {len(name)} letters: at most {NAME_BYTES} are allowed"
     else:
@@ -244,9 +252,48 @@ class _Reader:
             if name == EMPTY_DAY:
                 self.wrong(number, f"{shown(name)} stands for the empty day, in a line of its own")
                 continue
-            problem = name_problem(name)
+            problem = name_problem(name, in_cell=True)
             if problem:
                 self.wrong(number, problem)
+
+    def read(self, data: Union[str, bytes]) -> None:
+        """All lines of the text, as far as it is read."""
+        text = data if isinstance(data, str) else decoded(data)
+        lines = LINE_ENDS.split(text.removeprefix(BYTE_ORDER_MARK))
+        if not lines[-1]:
+            lines.pop()
+        try:
+            for number, line in enumerate(lines, 1):
+                self.line(number, line)
+            self.end(len(lines))
+        except _Enough:
+            pass
+        if self.problems:
+            raise BadText(self.problems)
+
+    def end(self, lines: int) -> None:
+        """What a text of so many lines lacks."""
+        if not self.days:
+            self.wrong(max(1, lines), "the text ends without a day (a single - is the empty day)")
+        elif not self.declared and not any(self.days):
+            self.wrong(lines, "the text has no name: a book needs one, used or not ('names =' declares it)")
+
+
+class _NamesReader(_Reader):
+    """The names alone: those that lines declare and those of days, of any number and in any order; the class is passed over."""
+
+    def setting(self, number: int, what: str, cells: List[str]) -> None:
+        if what == "names":
+            self.names(number, cells)
+            self.declared.update(cells)
+        elif what != "class":
+            super().setting(number, what, cells)
+
+    def day(self, number: int, names: Row) -> None:
+        self.declared.update(names)
+
+    def end(self, lines: int) -> None:
+        """Nothing is lacking: whoever wants the names looks at them."""
 
 
 def decoded(data: bytes) -> str:
@@ -258,23 +305,16 @@ def decoded(data: bytes) -> str:
 
 def read_text(data: Union[str, bytes]) -> Text:
     """What the text says; BadText, with every faulty line (up to 1,000 faults), if it describes no book."""
-    text = data if isinstance(data, str) else decoded(data)
-    lines = LINE_ENDS.split(text.removeprefix(BYTE_ORDER_MARK))
-    if not lines[-1]:
-        lines.pop()
     reader = _Reader()
-    try:
-        for number, line in enumerate(lines, 1):
-            reader.line(number, line)
-        if not reader.days:
-            reader.wrong(max(1, len(lines)), "the text ends without a day (a single - is the empty day)")
-        elif not reader.declared and not any(reader.days):
-            reader.wrong(len(lines), "the text has no name: a book needs one, used or not ('names =' declares it)")
-    except _Enough:
-        pass
-    if reader.problems:
-        raise BadText(reader.problems)
+    reader.read(data)
     return Text(reader.named_class, frozenset(reader.declared), tuple(reader.days), tuple(reader.lines), reader.blank_lines)
+
+
+def names_in_text(data: bytes) -> FrozenSet[str]:
+    """The names of a text of names or of days, in any number of lines; BadText as of read_text."""
+    reader = _NamesReader()
+    reader.read(data)
+    return frozenset(reader.declared)
 
 
 def write_text(book: Book) -> str:

@@ -112,10 +112,10 @@ static void longest_content(void)
 static void words_of_refusals(void)
 {
     check("the words for 0", strcmp(plans_refusal_text(PLANS_OK), "no refusal") == 0);
-    for (unsigned one = 0; one < 14; one++)
-        for (unsigned other = 0; other <= 14; other++)
+    for (unsigned one = 0; one < 17; one++)
+        for (unsigned other = 0; other <= 17; other++)
             check("other words for another", one == other || strcmp(plans_refusal_text(one), plans_refusal_text(other)) != 0);
-    check("14 is no refusal's number", strcmp(plans_refusal_text(14), plans_refusal_text(255)) == 0);
+    check("17 is no refusal's number", strcmp(plans_refusal_text(17), plans_refusal_text(255)) == 0);
 }
 
 int main(void)

@@ -9,7 +9,7 @@ import sys
 from pathlib import Path
 
 ROOT = Path(__file__).resolve().parents[2]
-STRUCTS = {"plans_built": "Built", "plans_walked": "Walked", "plans_written": "Written"}
+STRUCTS = {"plans_built": "Built", "plans_walked": "Walked", "plans_written": "Written", "plans_plan_rows": "PlanRows"}
 TYPES = {"uint8_t": "u8", "uint32_t": "u32", "uint64_t": "u64"}
 # a slice passes as a pointer and a length
 SLICES = {"const uint8_t *": "&[u8]", "uint8_t *": "&mut [u8]"}
@@ -31,24 +31,27 @@ def library_structs(text):
 
 
 def header_functions(text):
-    """Each function's result and arguments, slices put together again."""
+    """Each function's result and arguments, a slice's pointer and length as one."""
     functions = {}
     for result, name, arguments in re.findall(r"^(\w+) (plans_\w+)\((.*?)\);", text, re.S | re.M):
         parts = [" ".join(part.split()) for part in arguments.split(",")]
-        slices = []
-        for pointer, length in zip(parts[::2], parts[1::2]):
-            kind, argument = re.fullmatch(r"(.*\*)(\w+)", pointer).groups()
-            kind = re.sub(r"\s*\*", " *", kind)
-            whole = length == f"size_t {argument}_len"
-            slices.append((argument, SLICES.get(kind, kind) if whole else f"{kind} without its length"))
-        functions[name] = (STRUCTS.get(result, result), slices)
+        taken = []
+        for part, following in zip(parts, [*parts[1:], ""]):
+            kind, argument = re.fullmatch(r"(.*?)(\w+)", part).groups()
+            kind = re.sub(r"\s*\*", " *", kind).strip()
+            if kind in SLICES:
+                whole = following == f"size_t {argument}_len"
+                taken.append((argument, SLICES[kind] if whole else f"{kind} without its length"))
+            elif kind != "size_t":
+                taken.append((argument, TYPES.get(kind, kind)))
+        functions[name] = (STRUCTS.get(result, result), taken)
     return functions
 
 
 def library_functions(text):
     functions = {}
     for name, arguments, result in re.findall(r'pub extern "C" fn (\w+)\((.*?)\) -> (\w+)', text, re.S):
-        functions[name] = (result, re.findall(r"(\w+): (&(?:mut )?\[u8\])", arguments))
+        functions[name] = (result, re.findall(r"(\w+): ([^,]*[^,\s])", arguments))
     return functions
 
 

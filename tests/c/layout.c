@@ -19,3 +19,9 @@ _Static_assert(offsetof(plans_walked, next_names) == 8, "plans_walked.next_names
 _Static_assert(sizeof(plans_written) == 8, "size of plans_written");
 _Static_assert(offsetof(plans_written, refusal) == 0, "plans_written.refusal");
 _Static_assert(offsetof(plans_written, length) == 4, "plans_written.length");
+
+_Static_assert(sizeof(plans_plan_rows) == 16, "size of plans_plan_rows");
+_Static_assert(offsetof(plans_plan_rows, refusal) == 0, "plans_plan_rows.refusal");
+_Static_assert(offsetof(plans_plan_rows, length) == 4, "plans_plan_rows.length");
+_Static_assert(offsetof(plans_plan_rows, rows) == 8, "plans_plan_rows.rows");
+_Static_assert(offsetof(plans_plan_rows, at) == 12, "plans_plan_rows.at");

@@ -145,6 +145,23 @@ plans_walked walk(const writing *table, const uint8_t *row, size_t row_len, size
     return walked;
 }
 
+plans_plan_rows read_rows(const writing *plan, const writing *list, uint8_t chosen, size_t work_len, size_t out_len, writing *rows)
+{
+    lent all = lend_all(plan, work_len, out_len);
+    uint8_t *names = lend_copy(list->bytes, list->length);
+    plans_plan_rows read = plans_read_rows(all.input, plan->length, names, list->length, chosen, all.work, work_len, all.out, out_len);
+
+    check("the list of names is as it was", same(names, list->bytes, list->length));
+    check("rows have a length, and none has none", (read.rows > 0) == (read.length > 0));
+    if (read.refusal != PLANS_OK)
+        check("a refusal gives zeros else", read.length == 0 && read.rows == 0);
+    if (read.refusal < PLANS_BAD_PLAN)
+        check("14, 15 and 16 alone have a place", read.at == 0);
+    take_back(all, plan, read.length, rows);
+    free(names);
+    return read;
+}
+
 void put_field(writing *to, uint8_t mark, const void *content, size_t length)
 {
     plans_writer writer = plans_write_to(to->bytes, sizeof to->bytes);

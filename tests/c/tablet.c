@@ -1,5 +1,6 @@
 /* The library used as the tablet's program uses it: builds a book, walks rows, offers the names that may come next, lists a book,
- * and meets each refusal. All of it runs in a thread with a stack of STACK_BYTES, which scripts/test-c sets; 0 leaves the system's own. */
+ * reads the rows of plans, and meets each refusal. All of it runs in a thread with a stack of STACK_BYTES, which scripts/test-c sets;
+ * 0 leaves the system's own. */
 #include <pthread.h>
 #include <stdio.h>
 #include <string.h>
@@ -15,6 +16,8 @@ static const char letters[] = "bdls";
 static writing book;
 static writing table;
 static writing again;
+static writing plan;
+static writing listed_names;
 
 static size_t row_of(const char *day, uint8_t *row)
 {
@@ -150,6 +153,149 @@ static void list_it(void)
     check("1: no working area", list(&book, 0, length, &again).refusal == PLANS_BAD_SIZES);
 }
 
+static void put_text(const char *text)
+{
+    memcpy(plan.bytes + plan.length, text, strlen(text));
+    plan.length += strlen(text);
+}
+
+/* A text over and over. */
+static void repeat(const char *text, size_t times)
+{
+    for (size_t i = 0; i < times; i++)
+        put_text(text);
+}
+
+static plans_plan_rows read_into(size_t out_len)
+{
+    return read_rows(&plan, &listed_names, 0, PLANS_WORK_BYTES, out_len, &again);
+}
+
+static plans_plan_rows read_text(const char *text)
+{
+    plan.length = 0;
+    put_text(text);
+    return read_into(PLANS_ROWS_BYTES);
+}
+
+/* The list of the names b (number 0), d and l. */
+static void start_list(void)
+{
+    listed_names.length = 0;
+    put_field(&listed_names, PLANS_NAME_MARK, "b", 1);
+    put_field(&listed_names, PLANS_NAME_MARK, "d", 1);
+    put_field(&listed_names, PLANS_NAME_MARK, "l", 1);
+}
+
+/* The rows of a plan, and a book made of them. */
+static void read_plans(void)
+{
+    static const uint8_t fields[] = {3, 0, 2, 0, 2, 3, 0, 0};
+    static const char text[] = " <w>\n<d>x > y<b>soup</b ><l />\x80</d><d/></w>\r\t";
+    plans_plan_rows read;
+
+    start_list();
+    plan.length = 0;
+    put_text(text);
+    read = read_rows(&plan, &listed_names, 1, PLANS_WORK_BYTES, PLANS_ROWS_BYTES, &again);
+    check("a plan's rows are read", read.refusal == PLANS_OK && read.rows == 2 && read.length == sizeof fields);
+    check("to row fields", memcmp(again.bytes, fields, sizeof fields) == 0);
+    book = listed_names;
+    memcpy(book.bytes + book.length, again.bytes, again.length);
+    book.length += again.length;
+    check("the list and the rows are a book", build_all().refusal == PLANS_OK);
+    read = read_rows(&plan, &listed_names, 1, PLANS_WORK_BYTES, sizeof fields, &again);
+    check("an output just long enough", read.refusal == PLANS_OK);
+    read = read_rows(&plan, &listed_names, 1, PLANS_WORK_BYTES, sizeof fields - 1, &again);
+    check("13: an output one byte short", read.refusal == PLANS_OUTPUT_TOO_SHORT);
+    read = read_rows(&plan, &listed_names, 0, PLANS_WORK_BYTES, 0, &again);
+    check("13: no output, for one row without entries", read.refusal == PLANS_OUTPUT_TOO_SHORT);
+    read = read_text("<w><l/></w>");
+    check("no such element is no refusal", read.refusal == PLANS_OK && read.rows == 0 && read.length == 0);
+}
+
+/* Refusals 1 to 9 of a plan's list and sizes. */
+static void refused_lists(void)
+{
+    start_list();
+    plan.length = 0;
+    put_text("<w/>");
+    check("9: no name has the number", read_rows(&plan, &listed_names, 3, PLANS_WORK_BYTES, 0, &again).refusal == PLANS_BAD_ROW);
+    check("1: a short working area", read_rows(&plan, &listed_names, 0, PLANS_WORK_BYTES - 1, 0, &again).refusal == PLANS_BAD_SIZES);
+    check("1: no working area", read_rows(&plan, &listed_names, 0, 0, 0, &again).refusal == PLANS_BAD_SIZES);
+    plan.length = PLANS_INPUT_LIMIT + 1;
+    memset(plan.bytes, ' ', plan.length);
+    check("1: a plan of 65,536 bytes", read_into(0).refusal == PLANS_BAD_SIZES);
+    plan.length--;
+    check("14: one of 65,535", read_into(0).refusal == PLANS_BAD_PLAN);
+    plan.length = 0;
+    listed_names.length--;
+    check("2: a name cut off", read_into(0).refusal == PLANS_CUT_OFF);
+    listed_names.length = 0;
+    check("4: no names", read_into(0).refusal == PLANS_UNFINISHED);
+    put_field(&listed_names, PLANS_ROW_MARK, NULL, 0);
+    check("3: a row in the list", read_into(0).refusal == PLANS_MISPLACED);
+}
+
+static void refused_text(const char *what, const char *text, uint8_t number, uint32_t at)
+{
+    plans_plan_rows read = read_text(text);
+
+    check(what, read.refusal == number && read.at == at);
+}
+
+/* Refusals 14, 15 and 16, with their places, and 7 and 9 of a whole plan. */
+static void refused_plans(void)
+{
+    start_list();
+    refused_text("14: no element", "", PLANS_BAD_PLAN, 0);
+    refused_text("14: a declaration", "<?xml?><w/>", PLANS_BAD_PLAN, 1);
+    refused_text("14: the end of the plan", "<w>", PLANS_BAD_PLAN, 3);
+    refused_text("14: another end tag", "<ab></a>", PLANS_BAD_PLAN, 7);
+    refused_text("14: a second element", "<w/> <w/>", PLANS_BAD_PLAN, 5);
+    refused_text("16: a child not in the list", "<b><w/></b>", PLANS_UNKNOWN_CHILD, 5);
+    refused_text("14 comes before 16 at one byte", "<b><w=\"1\"/></b>", PLANS_BAD_PLAN, 5);
+    refused_text("16 stands before a 14", "<b><w a=\"1\"/></b>", PLANS_UNKNOWN_CHILD, 5);
+    plan.length = 0;
+    repeat("<w>", PLANS_PLAN_DEPTH);
+    repeat("</w>", PLANS_PLAN_DEPTH);
+    check("sixteen levels", read_into(0).refusal == PLANS_OK);
+    plan.length = 0;
+    repeat("<w>", PLANS_PLAN_DEPTH);
+    put_text("<w/>");
+    check("15: a seventeenth", read_into(0).refusal == PLANS_TOO_DEEP);
+    check("15: its place", read_into(0).at == 3 * PLANS_PLAN_DEPTH + 2);
+    plan.length = 0;
+    put_text("<w>");
+    repeat("<b/>", PLANS_BOOK_ROWS + 1);
+    put_text("</w>");
+    check("7: a 257th row", read_into(PLANS_ROWS_BYTES).refusal == PLANS_TOO_MANY);
+    plan.length = 0;
+    put_text("<b>");
+    repeat("<l/>", PLANS_ROW_LIMIT + 1);
+    put_text("</b>");
+    check("9: a row of 65", read_into(PLANS_ROWS_BYTES).refusal == PLANS_BAD_ROW);
+}
+
+/* As many rows as there may be, fifteen of them as long as may be. */
+static void most_rows(void)
+{
+    plans_plan_rows read;
+
+    start_list();
+    plan.length = 0;
+    put_text("<w>");
+    for (size_t i = 0; i < 15; i++) {
+        put_text("<b>");
+        repeat("<l/>", PLANS_ROW_LIMIT);
+        put_text("</b>");
+    }
+    repeat("<b/>", PLANS_BOOK_ROWS - 15);
+    put_text("</w>");
+    read = read_into(PLANS_ROWS_BYTES);
+    check("256 rows", read.refusal == PLANS_OK && read.rows == PLANS_BOOK_ROWS && read.length == 256 * 3 + 15 * 64);
+}
+
 static void refused_build(const char *what, uint8_t number)
 {
     check(what, build_all().refusal == number);
@@ -274,6 +420,10 @@ static void *tablet(void *unused)
     refused_fields();
     refused_counts();
     refused_states();
+    read_plans();
+    refused_lists();
+    refused_plans();
+    most_rows();
     return unused;
 }
 

@@ -1,5 +1,5 @@
-/* Eight threads call the library at the same time, each with areas of its own, on one book that all read: each must get what one
- * thread alone got. scripts/test-install builds it with the thread sanitizer. The last line is 'N passed, M failed'. */
+/* Eight threads call the library at the same time, each with areas of its own, on one book and one plan that all read: each must get
+ * what one thread alone got. scripts/test-install builds it with the thread sanitizer. The last line is 'N passed, M failed'. */
 #include <pthread.h>
 #include <stdio.h>
 #include <string.h>
@@ -14,15 +14,19 @@ typedef struct {
     uint8_t table[PLANS_TABLE_BYTES];
     uint8_t again[PLANS_TABLE_BYTES];
     uint8_t text[PLANS_LISTING_BYTES];
+    uint8_t rows[PLANS_ROWS_BYTES];
     size_t table_len;
     size_t text_len;
+    size_t rows_len;
     plans_walked walked;
     unsigned wrong;
 } areas;
 
 static const uint8_t day[] = {1, 3, 0};
+static const char plan[] = "<week><dinner><snack/>soup<lunch /></dinner><dinner/></week>";
 static uint8_t book_bytes[256];
 static plans_writer book;
+static size_t list_len; /* the book's names, which are its first bytes */
 static areas alone;
 static areas lent[THREADS];
 
@@ -35,6 +39,7 @@ static void write_book(void)
     book = plans_write_to(book_bytes, sizeof book_bytes);
     for (size_t i = 0; i < 4; i++)
         plans_write_name(&book, names[i]);
+    list_len = book.length;
     plans_write_class(&book, PLANS_CONTEXT, 2, 1);
     for (size_t i = 0; i < 3; i++)
         plans_write_row(&book, days[i], sizeof days[i]);
@@ -46,18 +51,22 @@ static int call_all(areas *to)
     plans_built built = plans_build(book.bytes, book.length, to->work, sizeof to->work, to->table, sizeof to->table);
     plans_built again = plans_rewrite(to->table, built.length, to->work, sizeof to->work, to->again, sizeof to->again);
     plans_written written = plans_list(book.bytes, book.length, to->work, sizeof to->work, to->text, sizeof to->text);
+    plans_plan_rows read = plans_read_rows((const uint8_t *)plan, strlen(plan), book.bytes, list_len, 1, to->work, sizeof to->work,
+                                           to->rows, sizeof to->rows);
 
     to->walked = plans_walk(to->table, built.length, day, sizeof day, to->work, sizeof to->work);
     to->table_len = built.length;
     to->text_len = written.length;
+    to->rows_len = read.length;
     return built.refusal == PLANS_OK && again.refusal == PLANS_OK && written.refusal == PLANS_OK && to->walked.refusal == PLANS_OK &&
-           again.length == built.length && memcmp(to->again, to->table, built.length) == 0;
+           read.refusal == PLANS_OK && read.rows == 2 && again.length == built.length && memcmp(to->again, to->table, built.length) == 0;
 }
 
 static int as_alone(const areas *to)
 {
     return to->table_len == alone.table_len && memcmp(to->table, alone.table, alone.table_len) == 0 &&
            to->text_len == alone.text_len && memcmp(to->text, alone.text, alone.text_len) == 0 &&
+           to->rows_len == alone.rows_len && memcmp(to->rows, alone.rows, alone.rows_len) == 0 &&
            to->walked.outcome == alone.walked.outcome && to->walked.walked == alone.walked.walked &&
            to->walked.next_names == alone.walked.next_names && to->walked.next_count == alone.walked.next_count;
 }

@@ -13,7 +13,7 @@ NOTES = "days.txt: 3 days, 3 different days; 3 names:\n  cake 1, lunch 3, tea 2\
 BOOK = plans.write_book(plans.read_text(TEXT).book())
 TABLE = plans.build(BOOK).table
 LISTED = "0 - lunch>1\n1 + tea>2\n2 + cake>3\n3 +\n"
-COMMANDS = ["list", "build", "walk", "check", "diff", "text", "book", "picture"]
+COMMANDS = ["list", "build", "walk", "check", "diff", "text", "book", "picture"]  # and rows, which takes plans: test_rows.py
 
 
 class Good(InFolder):
@@ -103,7 +103,7 @@ class Good(InFolder):
 
     def test_help_and_version(self):
         shown = self.plans("--help").stdout.decode()
-        for name in COMMANDS:
+        for name in [*COMMANDS, "rows"]:
             self.assertIn(f"  plans {name} ", shown)
             done = self.plans(name, "--help")
             self.assertEqual((done.returncode, done.stderr), (0, b""))
@@ -282,7 +282,7 @@ class Bad(InFolder):
         self.assertLess(len(done.stdout), 200)
 
     def test_usage(self):
-        subs = "list, build, walk, check, diff, text, book, picture"
+        subs = "list, build, walk, check, diff, text, book, picture, rows"
         self.fails(f"plans: say what to do: {subs} ('plans --help' shows how)")
         self.fails(f"plans: there is no sub-command 'wlak'; did you mean walk? there are {subs}", "wlak")
         self.fails(f"plans: there is no sub-command '\\x1b'; there are {subs}", "\x1b")

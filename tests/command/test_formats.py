@@ -4,6 +4,7 @@ import unittest
 from pathlib import Path
 
 import plans
+from plans import library
 from plans.fields import prefix_tree
 
 ROOT = Path(__file__).resolve().parents[2]
@@ -39,13 +40,32 @@ class Formats(unittest.TestCase):
         self.assertEqual(plans.write_book(plans.read_text(block_under("A book as text")).book()), data)
         self.assertEqual(bytes_shown("Its table"), plans.build(data).table)
 
+    def test_plan_list_and_rows(self):
+        names = bytes_shown("A plan, its list of names and its rows")
+        shown = re.findall(r"^\| `([0-9A-F ]+)` \| (?:`(.+)`|a line end) \| [^|]*\|(?: `([0-9A-F ]+)`)? \|$", FORMATS, re.MULTILINE)
+        plan, rows = (b"".join(bytes.fromhex(line[column]) for line in shown) for column in (0, 2))
+        self.assertEqual("".join(text or "\n" for _, text, _ in shown).encode(), plan)
+        self.assertEqual(library.plan_rows(plan, names, 0)[1], rows)
+        self.assertEqual(plans.read_book(names + rows).rows, (("lunch", "snack"), ()))
+
+    def test_places_of_refusals(self):
+        shown = re.findall(r"^\| `(<.*>)` \| (\d+) at (\d+), (?:the `(.)`|the (blank)|the end)", FORMATS, re.MULTILINE)
+        self.assertEqual(len(shown), 8)
+        for plan, number, at, letter, blank in shown:
+            with self.assertRaises(plans.Refused) as caught:
+                plans.read_rows(plan.encode(), ("day", "lunch", "snack"), "day")
+            self.assertEqual((caught.exception.number, caught.exception.offset), (int(number), int(at)), plan)
+            self.assertEqual(plan[int(at):int(at) + 1], " " if blank else letter, plan)
+
     def test_refusals(self):
         shown = re.findall(r"^\| (\d+) \| [^|]* \| `([0-9A-F ]+)`", FORMATS, re.MULTILINE)
-        self.assertEqual([number for number, _ in shown], ["2", "3", "4", "5", "6", "8", "9", "11", "12"])
-        for number, data in shown:
+        self.assertEqual([number for number, _ in shown], ["2", "3", "4", "5", "6", "8", "9", "11", "12", "14", "15", "16"])
+        for number, data in ((int(number), bytes.fromhex(data)) for number, data in shown):
             with self.assertRaises(plans.Refused) as caught:
-                (plans.build if int(number) < 10 else plans.rewrite)(bytes.fromhex(data))
-            self.assertEqual(caught.exception.number, int(number))
+                if number < 14:
+                    (plans.build if number < 10 else plans.rewrite)(data)
+                plans.read_rows((16 * b"<a>" if number == 15 else b"") + data, ("a",), "a")
+            self.assertEqual(caught.exception.number, number)
 
     def test_shipped_books(self):
         shown = re.findall(r"^\| `(\w+)` \| [^|]* \| [^|]* \| (\d+), (\d+), (\d+) \| (\d+), (\d+), (\d+) \|$", FORMATS, re.MULTILINE)

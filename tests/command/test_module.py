@@ -13,11 +13,13 @@ from pathlib import Path
 
 import plans
 from plans import library
+from plans.plan_files import DEPTH_LIMIT
 from reference import book_bytes, joined, listing, states_of, table_bytes, walked
 from samples import a_sample, a_small_sample, book_of, damaged
 
 ROOT = Path(__file__).resolve().parents[2]
-LAYOUTS = {"plans_built": library.BuiltLayout, "plans_walked": library.WalkedLayout, "plans_written": library.WrittenLayout}
+LAYOUTS = {"plans_built": library.BuiltLayout, "plans_walked": library.WalkedLayout, "plans_written": library.WrittenLayout,
+           "plans_plan_rows": library.PlanRowsLayout}
 
 
 def number_of(read, data: bytes) -> int:
@@ -65,11 +67,15 @@ class AgainstTheReference(unittest.TestCase):
 
 
 class Documented(unittest.TestCase):
-    def test_the_example_runs(self):
+    def test_the_examples_run(self):
         names = {"plans": plans}
-        *lines, last = re.findall(r"^    (.*)$", plans.__doc__, re.M)
-        exec("\n".join(lines), names)
-        self.assertEqual(eval(last, names), plans.Walked(plans.Outcome.ON_THE_WAY, ("breakfast", "lunch"), ("dinner",)))
+        results = []
+        for block in re.findall(r"^(?:    .*\n)+", plans.__doc__, re.M):
+            *lines, last = [line[4:] for line in block.splitlines()]
+            exec("\n".join(lines), names)
+            results.append(eval(last, names))
+        self.assertEqual(results, [plans.Walked(plans.Outcome.ON_THE_WAY, ("breakfast", "lunch"), ("dinner",)),
+                                   "states 3 joins 0\n0 - breakfast>1\n1 - lunch>2\n2 +\n"])
 
     def test_all_that_is_offered_says_what_it_is(self):
         for name in plans.__all__:
@@ -159,7 +165,8 @@ class Layouts(unittest.TestCase):
         self.assertEqual(fields, {name: [part for part, _ in layout._fields_] for name, layout in LAYOUTS.items()})
         calls = {name: result for result, name in re.findall(r"^(plans_\w+) (plans_\w+)\(", header, re.M)}
         self.assertEqual({name: LAYOUTS[result] for name, result in calls.items()}, library.RESULTS)
-        for name, size in [("WORK_BYTES", library.WORK_BYTES), ("LISTING_BYTES", library.LISTING_BYTES), ("INPUT_LIMIT", 65535)]:
+        for name, size in [("WORK_BYTES", library.WORK_BYTES), ("LISTING_BYTES", library.LISTING_BYTES),
+                           ("ROWS_BYTES", library.ROWS_BYTES), ("PLAN_DEPTH", DEPTH_LIMIT), ("INPUT_LIMIT", 65535)]:
             self.assertIn(f"#define PLANS_{name} {size}\n", header)
         for outcome in plans.Outcome:
             self.assertRegex(header, rf"PLANS_{outcome.name} = {outcome.value}\b")

@@ -49,11 +49,21 @@ class Scope(unittest.TestCase):
             data = bytes.fromhex(field)
             self.assertEqual((data[0], int.from_bytes(data[1:3], "big")), (int(mark), len(data) - 3))
 
+    def test_plan(self):
+        text = section("11. Plans")
+        plan = re.search(r"^    (<.*>)$", text, re.MULTILINE)[1].encode()
+        self.assertEqual(plans.read_rows(plan, ("day", "lunch", "snack"), "day"), (("lunch", "snack"), ()))
+        for plan, number, letter in [("<ab></a>", 14, ">"), ('<day><soup a="1"/></day>', 16, " "), ('<day><soup="1"/></day>', 14, "=")]:
+            self.assertIn(f"`{plan}`", text)
+            with self.assertRaises(plans.Refused) as caught:
+                plans.read_rows(plan.encode(), ("day",), "day")
+            self.assertEqual((caught.exception.number, plan[caught.exception.offset]), (number, letter))
+
     def test_limits(self):
         limits = "".join(path.read_text() for path in ROOT.glob("crates/*/specs/Limits.antt"))
         shown = re.findall(r"^\| [^|]* \| ([\d,]+) \| `([a-z-]+)` \|$", section("9. Limits"), re.MULTILINE)
         self.assertEqual([name for number, name in shown if f"\n{name} = {number.replace(',', '')}\n" not in limits], [])
-        self.assertEqual(len(shown), 8)
+        self.assertEqual(len(shown), 9)
 
     def test_refusals(self):
         numbers = re.findall(r"^\| (\d+) \|", section("4. What a call gives back"), re.MULTILINE)

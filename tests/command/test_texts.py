@@ -150,7 +150,8 @@ class Faults(unittest.TestCase):
         self.says("a\x1b[31mb", (1, f"the name 'a\\x1b[31mb' holds '\\x1b', {allowed}; write a_31mb"))
         self.says("tea\u202ecake", (1, f"the name 'tea\\u202ecake' holds '\\u202e', {allowed}; write tea_cake"))
         self.says("tea\x0bcake", (1, f"the name 'tea\\x0bcake' holds '\\x0b', {allowed}; write tea_cake"))
-        self.says("tea\xa0cake,tea", (1, "the name 'tea\xa0cake' holds a space, and no name may; write tea_cake"))
+        self.says("tea\xa0cake,tea", (1, "the name 'tea\xa0cake' holds a no-break space (U+00A0), and no name may; write tea_cake"))
+        self.says("tea\u3000cake,tea", (1, "the name 'tea\u3000cake' holds a space (U+3000), and no name may; write tea_cake"))
         self.says("tea \x0b# tea", (1, f"the name '\\x0b' holds '\\x0b', {allowed}"))
 
     def test_line_break_in_a_quoted_cell(self):

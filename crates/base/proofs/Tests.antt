@@ -1,5 +1,5 @@
--- Tests and the facts that they tell, both ways at once: of numbers, of tests joined by and, or and not, of words, and of the
--- elements of a list. Assumes nothing.
+-- Tests and the facts that they tell, both ways at once: of numbers, of tests joined by and, or and not, of words and their
+-- order, and of the elements of a list. Assumes nothing.
 use mathlib.Core.Path.{_≡_, refl, sym, ap, ap₂, _∙_, subst}
 use mathlib.Core.Logic.{_⊎_, inl, inr, ⊎-elim}
 use mathlib.Core.Bool.{Bool, true, false, _&&_, _||_, not, true≢false, false≢true, and-eq-true-iff}
@@ -9,7 +9,7 @@ use Prim.Native.Nat.{ℕ, _≤_, _<_}
 use native.Mathlib.Omega.{arith}
 use lib.Dec.{eqb, ltb, leb}
 use borrow.Author.Tests.{ltb-true, leb-true, eqb-true, lt-ltb, le-leb, eq-eqb}
-use Rattle.base.specs.Lists.{any, anyTwo, all, same, hasRow, isIn}
+use Rattle.base.specs.Lists.{any, anyTwo, all, same, before, hasRow, isIn}
 
 -- the test is true exactly when the fact holds
 pub record Tells (b : Bool) (P : Type 0) : Type 0 where
@@ -124,6 +124,35 @@ tells-same (x ∷ xs) (y ∷ ys) =
 -- equal words are decided
 pub word-dec : (xs ys : List ℕ) → (xs ≡ ys) ⊎ (xs ≡ ys → ⊥)
 word-dec xs ys = decided (tells-same xs ys)
+
+-- byte order: the first numbers decide, or they are equal and what follows decides
+tells-before :
+    (x y : ℕ) (xs ys : List ℕ) → Tells (before (x ∷ xs) (y ∷ ys)) ((x < y) ⊎ ((x ≡ y) × (before xs ys ≡ true)))
+unfolding before
+tells-before x y xs ys = tells-or (tells-ltb x y) (tells-and (tells-eqb x y) (tells-itself (before xs ys)))
+
+-- nothing stands before itself
+pub before-self : (a : List ℕ) → before a a ≡ true → ⊥
+unfolding before
+before-self [] e = false≢true e
+before-self (x ∷ a) e =
+    ⊎-elim (λ (low : x < x). let z : ⊥ = omega arith in z) (λ r. before-self a (r .1)) (tells-before x x a a .fact e)
+
+-- it is transitive
+pub before-trans : (xs ys zs : List ℕ) → before xs ys ≡ true → before ys zs ≡ true → before xs zs ≡ true
+unfolding before
+before-trans [] [] zs e f = absurd (false≢true e)
+before-trans [] (y ∷ ys) [] e f = absurd (false≢true f)
+before-trans [] (y ∷ ys) (z ∷ zs) e f = refl
+before-trans (x ∷ xs) [] zs e f = absurd (false≢true e)
+before-trans (x ∷ xs) (y ∷ ys) [] e f = absurd (false≢true f)
+before-trans (x ∷ xs) (y ∷ ys) (z ∷ zs) e f =
+    tells-before x z xs zs .test
+    (⊎-elim (λ low. ⊎-elim (λ p. inl (omega arith)) (λ p. inl (omega (arith, p .0))) (tells-before y z ys zs .fact f))
+    (λ p.
+    ⊎-elim (λ low. inl (omega (arith, p .0))) (λ q. inr (p .0 ∙ q .0, before-trans xs ys zs (p .1) (q .1)))
+    (tells-before y z ys zs .fact f))
+    (tells-before x y xs ys .fact e))
 
 -- ---- the elements of a list
 

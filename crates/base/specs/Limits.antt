@@ -49,6 +49,15 @@ table-bytes = 5830
 abbrev pub listing-bytes : ℕ
 listing-bytes = 32768
 
+-- elements of a plan are nested at most so deep
+abbrev pub plan-depth : ℕ
+plan-depth = 16
+
+-- the rows of a plan have at most so many bytes: 256 row fields of 64 entries. It follows from the limits: `rows-length` of
+-- plan_rows/proofs/Lengths.antt
+abbrev pub rows-bytes : ℕ
+rows-bytes = 17152
+
 -- numbers of two bytes are below this
 abbrev pub number-limit : ℕ
 number-limit = 65536
@@ -147,9 +156,21 @@ bad-state = 11
 abbrev pub bad-numbering : ℕ
 bad-numbering = 12
 
--- 13: the lent output is shorter than the table, or the lent text than the listing
+-- 13: a lent output is shorter than what is to be written
 abbrev pub output-too-short : ℕ
 output-too-short = 13
+
+-- 14: a byte of a plan, or its end, that no plan can have there
+abbrev pub bad-plan : ℕ
+bad-plan = 14
+
+-- 15: an element of a plan inside too many others
+abbrev pub too-deep : ℕ
+too-deep = 15
+
+-- 16: a child of the chosen element that is not in the list
+abbrev pub unknown-child : ℕ
+unknown-child = 16
 
 -- the refusal where the test finds a fault, 0 for none
 abbrev pub when : Bool → ℕ → ℕ

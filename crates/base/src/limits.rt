@@ -31,6 +31,11 @@ pub const TABLE_BYTES: usize = 5830;
 
 pub const LISTING_BYTES: usize = 32768;
 
+// Elements of a plan are nested at most so deep; the rows of a plan have at most so many bytes.
+pub const PLAN_DEPTH: usize = 16;
+
+pub const ROWS_BYTES: usize = 17152;
+
 // The marks of fields.
 pub const NAME_MARK: u8 = 1;
 
@@ -89,3 +94,9 @@ pub const BAD_STATE: u8 = 11;
 pub const BAD_NUMBERING: u8 = 12;
 
 pub const OUTPUT_TOO_SHORT: u8 = 13;
+
+pub const BAD_PLAN: u8 = 14;
+
+pub const TOO_DEEP: u8 = 15;
+
+pub const UNKNOWN_CHILD: u8 = 16;

@@ -1,6 +1,7 @@
 // A book's table built, before the working area is cleared.
 use base::limits::BAD_SIZES;
 use fields::Fields;
+use fields::FileKind;
 use fields::Settings;
 use fields::read_with;
 use inference::infer;
@@ -22,7 +23,7 @@ pub fn build(settings: Settings, book: &[u8], work: &mut [u8], out: &mut [u8]) -
     if sizes_bad(book.len(), work.len()) {
         return not_built(BAD_SIZES);
     }
-    let read = read_with(book, false, settings);
+    let read = read_with(book, FileKind::Book, settings);
     match read {
         Fields::Accepted(p) => {
             let inferred = infer(book, p, work, out);

@@ -10,8 +10,8 @@ use borrow.Author.Tests.{lt-ltb, le-ltb, eq-eqb, ne-eqb}
 use lib.Dec.{eqb}
 use lib.ListN.{length, getD, drop, length-drop, drop-of-length-le}
 use lib.Seq.{getD-drop, drop-drop}
-use Rattle.model.specs.Fields.{FileKind, File, refused, atEnd, fieldFault, withField, runsPast, bodyOf, afterField, statedLength}
-use Rattle.model.specs.Fields.{Settings, readFrom, readWith}
+use Rattle.model.specs.Fields.{FileKind, File, refused, lastStage, atEnd, fieldFault, withField, runsPast, bodyOf, afterField}
+use Rattle.model.specs.Fields.{statedLength, Settings, readFrom, readWith}
 use Rattle.base.specs.Lists.{lastOr}
 use Rattle.judging.specs.Offsets.{lengthAt, bodyAt, nextAt, offsetAt, fieldsAt}
 use Rattle.fields.specs.Places.{fileOf, Sound, FieldStep, Turned, Goes, RefusedAt, Finished, ReadAs}
@@ -22,7 +22,7 @@ use Rattle.fields.specs.declared.Fields.the-variants as answer
 use Rattle.base.specs.Limits.{cut-off, unfinished}
 
 -- the definition, over the bytes that are left: at the end, past the end, refused, and going on
-read-end : (l : ℕ) (kind : FileKind) (f : File) → readFrom (suc l) kind f [] ≡ atEnd f
+read-end : (l : ℕ) (kind : FileKind) (f : File) → readFrom (suc l) kind f [] ≡ atEnd kind f
 unfolding readFrom
 read-end l kind f = refl
 
@@ -179,16 +179,16 @@ module _ (settings : Settings) (kind : FileKind) (s : List ℕ) (p : Place) (rea
       let t = one-turn in
       record { is = sym (g .reads (t .0)) ∙ t .2; kept = g .some }
 
-  at-end : length s ≤ p .at → atEnd (fileOf s p) ≡ readWith settings kind s
+  at-end : length s ≤ p .at → atEnd kind (fileOf s p) ≡ readWith settings kind s
   at-end h =
       let t = one-turn in
       sym (read-end (t .0) kind (fileOf s p)) ∙ rw (drop-of-length-le s h) at (t .2)
 
-  finished : length s ≤ p .at → p .stage ≡ 3 → Finished s p
+  finished : length s ≤ p .at → p .stage ≡ lastStage kind → Finished kind s p
   finished h e = record { sound = reading .sound; at-end = omega (arith, reading .sound .within); met = e }
 
-  pub reading-accepted : length s ≤ p .at → p .stage ≡ 3 → ReadAs settings kind s (answer.Accepted p)
-  reading-accepted h e = record { is = rw (eq-eqb (p .stage) 3 e) at (at-end h); kept = finished h e }
+  pub reading-accepted : length s ≤ p .at → p .stage ≡ lastStage kind → ReadAs settings kind s (answer.Accepted p)
+  reading-accepted h e = record { is = rw (eq-eqb (p .stage) (lastStage kind) e) at (at-end h); kept = finished h e }
 
-  pub reading-unfinished : length s ≤ p .at → (p .stage ≡ 3 → ⊥) → ReadAs settings kind s (answer.Refused unfinished)
-  reading-unfinished h e = record { is = rw (ne-eqb (p .stage) 3 e) at (at-end h); kept = omega arith }
+  pub reading-unfinished : length s ≤ p .at → (p .stage ≡ lastStage kind → ⊥) → ReadAs settings kind s (answer.Refused unfinished)
+  reading-unfinished h e = record { is = rw (ne-eqb (p .stage) (lastStage kind) e) at (at-end h); kept = omega arith }

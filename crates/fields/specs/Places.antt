@@ -1,21 +1,30 @@
--- The file that a place of the reader stands for; what holds of every place that the reader reaches; and what the answers of the
--- reader say: of one field judged, of one field read, and of a whole file. Assumes nothing.
+-- The kind of file that the code's stands for; the file that a place of the reader stands for; what holds of every place that the
+-- reader reaches; and what the answers of the reader say: of one field judged, of one field read, and of a whole file. Assumes
+-- nothing.
 use mathlib.Core.Path.{_≡_}
 use mathlib.Core.List.{List, []}
 use Prim.Native.Nat.{ℕ, suc, _+_, _≤_, _<_}
 use lib.ListN.{length, getD, take, drop}
 use Rattle.base.specs.Lists.{lastOr}
 use Rattle.base.specs.Limits.{name-limit, state-limit, names-met, class-met, items-met}
-use Rattle.model.specs.Fields.{class-of, Settings, standard, table, File, file, FileKind, Read, refused, accepted-file, readFrom}
-use Rattle.model.specs.Fields.{readWith, fieldFault, withField}
+use Rattle.model.specs.Fields.{class-of, Settings, standard, File, file, FileKind, book, table, name-list, Read, refused, accepted-file}
+use Rattle.model.specs.Fields.{lastStage, readFrom, readWith, fieldFault, withField}
 use Rattle.model.specs.Calls.{Refuses}
 use Rattle.judging.specs.Offsets.{bodyAt, nextAt, offsetAt, fieldsAt}
+use Rattle.fields.specs.declared.FileKind as code
+use Rattle.fields.specs.declared.FileKind.the-variants as kind
 use Rattle.fields.specs.declared.Place.{Place}
 use Rattle.fields.specs.declared.Settings as numbers
 use Rattle.fields.specs.declared.Step.{Step}
 use Rattle.fields.specs.declared.Fields.{Fields}
 use Rattle.fields.specs.declared.Step.the-variants as step
 use Rattle.fields.specs.declared.Fields.the-variants as fields
+
+-- the kind of file that the code's stands for
+abbrev pub kindOf : code.FileKind → FileKind
+kindOf kind.Book = book
+kindOf kind.Table = table
+kindOf kind.NameList = name-list
 
 -- the file that is read at a place: names from the file's first byte on, rows or states from the place's start on
 abbrev pub fileOf : List ℕ → Place → File
@@ -98,16 +107,16 @@ abbrev pub answerOf : List ℕ → Fields → Read
 answerOf s (fields.Accepted p) = accepted-file (fileOf s p)
 answerOf s (fields.Refused k) = refused k
 
--- the place of an accepted file: every byte is read, and rows or states were met
-pub record Finished (s : List ℕ) (p : Place) : Type 0 where
+-- the place of an accepted file: every byte is read, and what a file of its kind must have was met
+pub record Finished (kind : FileKind) (s : List ℕ) (p : Place) : Type 0 where
   pub sound : Sound s p
   pub at-end : p .at ≡ length s
-  pub met : p .stage ≡ items-met
+  pub met : p .stage ≡ lastStage kind
 
 -- the place of an accepted file is finished, and a refusal is not 0
-abbrev pub Kept : List ℕ → Fields → Type 0
-Kept s (fields.Accepted p) = Finished s p
-Kept s (fields.Refused k) = 0 < k
+abbrev pub Kept : FileKind → List ℕ → Fields → Type 0
+Kept kind s (fields.Accepted p) = Finished kind s p
+Kept kind s (fields.Refused k) = 0 < k
 
 -- the settings that the code's numbers stand for
 abbrev pub settingsOf : numbers.Settings → Settings
@@ -116,8 +125,12 @@ settingsOf n = record { default-class = class-of (n .kind) (n .first) (n .second
 -- a file read: the answer is what the definition gives with these settings
 pub record ReadAs (settings : Settings) (kind : FileKind) (s : List ℕ) (answer : Fields) : Type 0 where
   pub is : answerOf s answer ≡ readWith settings kind s
-  pub kept : Kept s answer
+  pub kept : Kept kind s answer
 
 -- a table read, which names its class itself, whatever the settings
 abbrev pub TableReadAs : List ℕ → Fields → Type 0
 TableReadAs s answer = ReadAs standard table s answer
+
+-- a list of names read, which has no class, whatever the settings
+abbrev pub NamesReadAs : List ℕ → Fields → Type 0
+NamesReadAs s answer = ReadAs standard name-list s answer

@@ -1,5 +1,5 @@
-// The reader of books and tables: fields in file order, each judged by the refusals that concern it, nothing copied. What is accepted
-// stays where it is, and a Place says where: specs/Places has the file that a place stands for.
+// The reader of books, tables and lists of names: fields in file order, each judged by the refusals that concern it, nothing copied.
+// What is accepted stays where it is, and a Place says where: specs/Places has the file that a place stands for.
 use base::limits::CLASS_MARK;
 use base::limits::CLASS_MET;
 use base::limits::CONTEXT_KIND;
@@ -23,8 +23,16 @@ ghost use mathlib.Core.Path.{_≡_};
 ghost use Prim.Native.Nat.{_≤_, _<_};
 ghost use lib.ListN.{length};
 ghost use Rattle.base.specs.Limits.{state-limit, names-met, class-met, name-mark, class-mark, row-mark, state-mark};
-ghost use Rattle.model.specs.Fields.{nameFault, classFault, rowFault, stateFault};
-ghost use Rattle.fields.specs.Places.{withItem, Sound, Whole, StepBy, FieldStep, Turned, settingsOf, ReadAs, TableReadAs};
+ghost use Rattle.model.specs.Fields.{nameFault, classFault, rowFault, stateFault, takesClass, takesRows, takesStates, lastStage};
+ghost use Rattle.fields.specs.Places.{kindOf, withItem, Sound, Whole, StepBy, FieldStep, Turned, settingsOf, ReadAs};
+ghost use Rattle.fields.specs.Places.{TableReadAs, NamesReadAs};
+
+// The kinds of file: a book of rows, a table of states, and a list of names with nothing else.
+pub enum FileKind {
+    Book,
+    Table,
+    NameList,
+}
 
 // How far reading has come, and where what was read stands.
 pub struct Place {
@@ -70,6 +78,50 @@ pub enum Step {
 pub enum Fields {
     Accepted(Place),
     Refused(u8),
+}
+
+// Whether a kind of file may have a class.
+fn takes_class(kind: FileKind) -> bool
+    ensures { λ r. ⌜ r ≡ takesClass (kindOf kind) ⌝ }
+{
+    match kind {
+        FileKind::Book => true,
+        FileKind::Table => true,
+        FileKind::NameList => false, // names alone
+    }
+}
+
+// Whether it has rows.
+fn takes_rows(kind: FileKind) -> bool
+    ensures { λ r. ⌜ r ≡ takesRows (kindOf kind) ⌝ }
+{
+    match kind {
+        FileKind::Book => true,
+        FileKind::Table => false,
+        FileKind::NameList => false,
+    }
+}
+
+// Whether it has states.
+fn takes_states(kind: FileKind) -> bool
+    ensures { λ r. ⌜ r ≡ takesStates (kindOf kind) ⌝ }
+{
+    match kind {
+        FileKind::Book => false,
+        FileKind::Table => true,
+        FileKind::NameList => false,
+    }
+}
+
+// What must have been met before the end of the input.
+fn last_stage(kind: FileKind) -> u8
+    ensures { λ r. ⌜ r ≡ lastStage (kindOf kind) ⌝ }
+{
+    match kind {
+        FileKind::Book => ITEMS_MET,
+        FileKind::Table => ITEMS_MET,
+        FileKind::NameList => NAMES_MET,
+    }
 }
 
 // A name field, where a name may come: the place after it, or what refuses it.
@@ -180,9 +232,9 @@ fn state_field(s: &[u8], p: Place) -> Step
 }
 
 // A field that does not run past the end: its mark decides how it is read, and a mark not allowed at this place is refused.
-fn whole_field(s: &[u8], is_table: bool, p: Place) -> Step
+fn whole_field(s: &[u8], kind: FileKind, p: Place) -> Step
     requires { ⌜ Whole (now s) p ⌝ }
-    ensures { λ r. ⌜ FieldStep «is_table» (now (s .entry)) p r ⌝ }
+    ensures { λ r. ⌜ FieldStep (kindOf kind) (now (s .entry)) p r ⌝ }
 {
     let at = p.at;
     let stage = p.stage;
@@ -195,19 +247,19 @@ fn whole_field(s: &[u8], is_table: bool, p: Place) -> Step
             Step::Refused(MISPLACED)
         }
         CLASS_MARK => {
-            if stage == NAMES_MET {
+            if takes_class(kind) & (stage == NAMES_MET) {
                 return class_field(s, p);
             }
             Step::Refused(MISPLACED)
         }
         ROW_MARK => {
-            if !is_table & (NAMES_MET <= stage) {
+            if takes_rows(kind) & (NAMES_MET <= stage) {
                 return row_field(s, p);
             }
             Step::Refused(MISPLACED)
         }
         STATE_MARK => {
-            if is_table & (CLASS_MET <= stage) {
+            if takes_states(kind) & (CLASS_MET <= stage) {
                 return state_field(s, p);
             }
             Step::Refused(MISPLACED)
@@ -217,10 +269,10 @@ fn whole_field(s: &[u8], is_table: bool, p: Place) -> Step
 }
 
 // The field at a place, judged by 2 and then by what concerns it.
-fn field(s: &[u8], is_table: bool, p: Place) -> Step
+fn field(s: &[u8], kind: FileKind, p: Place) -> Step
     requires { ⌜ Sound (now s) p ⌝ }
     requires { ⌜ p .at < length (now s) ⌝ }
-    ensures { λ r. ⌜ Turned «is_table» (now (s .entry)) p r ⌝ }
+    ensures { λ r. ⌜ Turned (kindOf kind) (now (s .entry)) p r ⌝ }
 {
     let at = p.at;
     if s.len() - at < 3 {
@@ -229,13 +281,13 @@ fn field(s: &[u8], is_table: bool, p: Place) -> Step
     if s.len() - at - 3 < body_len(s, at) {
         return Step::Refused(CUT_OFF);
     }
-    whole_field(s, is_table, p)
+    whole_field(s, kind, p)
 }
 
-// A whole book, or a whole table: where its parts stand, or its first refusal. Nothing is required of the input, and nothing is
+// A whole file of this kind: where its parts stand, or its first refusal. Nothing is required of the input, and nothing is
 // copied; the answer is that of the definition readWith, and every offset of an accepted file lies within the input.
-pub fn read_with(s: &[u8], is_table: bool, settings: Settings) -> Fields
-    ensures { λ r. ⌜ ReadAs (settingsOf settings) «is_table» (now (s .entry)) r ⌝ }
+pub fn read_with(s: &[u8], kind: FileKind, settings: Settings) -> Fields
+    ensures { λ r. ⌜ ReadAs (settingsOf settings) (kindOf kind) (now (s .entry)) r ⌝ }
 {
     let mut p = Place {
         at: 0,
@@ -250,7 +302,7 @@ pub fn read_with(s: &[u8], is_table: bool, settings: Settings) -> Fields
         items: 0,
     };
     while p.at < s.len() {
-        let step = field(s, is_table, p);
+        let step = field(s, kind, p);
         match step {
             Step::Go(q) => {
                 p = q;
@@ -260,7 +312,7 @@ pub fn read_with(s: &[u8], is_table: bool, settings: Settings) -> Fields
             }
         }
     }
-    if p.stage == ITEMS_MET {
+    if p.stage == last_stage(kind) {
         Fields::Accepted(p)
     } else {
         Fields::Refused(UNFINISHED)
@@ -271,5 +323,12 @@ pub fn read_with(s: &[u8], is_table: bool, settings: Settings) -> Fields
 pub fn read_table(s: &[u8]) -> Fields
     ensures { λ r. ⌜ TableReadAs (now (s .entry)) r ⌝ }
 {
-    read_with(s, true, STANDARD)
+    read_with(s, FileKind::Table, STANDARD)
+}
+
+// A whole list of names, which has no class, whatever the settings.
+pub fn read_names(s: &[u8]) -> Fields
+    ensures { λ r. ⌜ NamesReadAs (now (s .entry)) r ⌝ }
+{
+    read_with(s, FileKind::NameList, STANDARD)
 }

@@ -114,7 +114,7 @@ module _ (s : List ℕ) (f : File) (a b : ℕ) (body rest : List ℕ) (size : le
   book-step :
       (mark : ℕ) → Fitting book f mark body → Keeps s f (mark ∷ (a ∷ (b ∷ (body ++ rest)))) → Keeps s (withField f mark body) rest
   book-step mark (a-name e low fits) h = at-mark (Keeps s) f a b body rest mark 1 e (with-name low) h
-  book-step mark (a-class e at fits) h = at-mark (Keeps s) f a b body rest mark 2 e (with-class at fits) h
+  book-step mark (a-class k e at fits) h = at-mark (Keeps s) f a b body rest mark 2 e (with-class at fits) h
   book-step mark (a-row k e high fits) h = at-mark (Keeps s) f a b body rest mark 3 e (with-row fits) h
   book-step mark (a-state k e high fits) h = absurd (false≢true k)
 

@@ -12,7 +12,7 @@ use Rattle.tables.specs.Arcs.{targetAt}
 use Rattle.tables.proofs.ArcLaws.{arcsFrom, arcs-all, arcs-turn, arcs-end}
 use Rattle.writing.specs.Writing.{Fits, Put}
 use Rattle.listings.specs.Texts.{firstLine}
-use Rattle.listings.proofs.TextLaws.{Writing, begins, finishes}
+use Rattle.writing.proofs.TextLaws.{Writing, begins, finishes}
 
 -- of the arcs of a state's field those from offset i on are left to write
 abbrev pub ArcsWriting : List (List ℕ) → List ℕ → List ℕ → ℕ → List ℕ → ℕ → ℕ → Type 0

@@ -1,8 +1,8 @@
 -- What an accepted book satisfies, by induction over its reading: names allowed one after the other, a class allowed, rows of
 -- numbers of its names, and at least one of them. Assumes nothing.
-use mathlib.Core.Path.{_≡_, refl, sym, subst}
+use mathlib.Core.Path.{_≡_, refl, sym, _∙_, subst}
 use mathlib.Core.Logic.{⊎-elim}
-use mathlib.Core.Bool.{true, false≢true, and-eq-true-iff}
+use mathlib.Core.Bool.{true, false, false≢true, and-eq-true-iff}
 use mathlib.Core.List.{List, [], _∷_, _++_, append-nil, append-assoc, List·Memᴰ as In, List·Memᴰ·head as here}
 use mathlib.Core.List.{List·Memᴰ·tail as there}
 use mathlib.Core.List.{List·Memᴰ·not-nil, List·Memᴰ·cases-cons, List·Memᴰ·append-cases, List·Memᴰ·eq-of-singleton}
@@ -11,8 +11,8 @@ use native.Mathlib.Omega.{arith}
 use lib.Dec.{leb}
 use lib.ListN.{length, length-append}
 use Rattle.base.specs.Limits.{row-limit}
-use Rattle.model.specs.Fields.{Class, ClassOk, Settings, Allowed, File, unread, book, readBook, readWith, withField}
-use Rattle.model.specs.Fields.{classOk, allBelow}
+use Rattle.model.specs.Fields.{Class, ClassOk, Settings, Allowed, File, FileKind, book, takesStates, unread, readBook, readWith}
+use Rattle.model.specs.Fields.{withField, classOk, allBelow}
 use Rattle.model.specs.Calls.{bookOf, treeFault, bookFault}
 use Rattle.model.specs.Claims.{Accepted}
 use Rattle.base.proofs.Tests.{Tells, tells-by, tells-and, tells-ltb}
@@ -55,7 +55,7 @@ pub record BookOk (f : File) : Type 0 where
   pub rows-below : (r : List ℕ) → In r (f .items) → allBelow (length (f .names)) r ≡ true
 
 -- before the first field
-nothing-read : (c : Class) → ClassOk c → BookOk (unread c)
+pub nothing-read : (c : Class) → ClassOk c → BookOk (unread c)
 nothing-read c ok =
     record {
       names-ok = tt;
@@ -109,15 +109,17 @@ with-row f body high fits ok =
           (List·Memᴰ·append-cases (f .items) m);
     }
 
--- so it does after any field without a fault
-book-step : (f : File) (mark : ℕ) (body : List ℕ) → Fitting book f mark body → BookOk f → BookOk (withField f mark body)
-book-step f mark body (a-name e low fits) ok =
+-- so it does after any field without a fault, in a kind of file that takes no states
+pub book-step :
+    (kind : FileKind) → takesStates kind ≡ false → (f : File) (mark : ℕ) (body : List ℕ) → Fitting kind f mark body → BookOk f →
+    BookOk (withField f mark body)
+book-step kind none f mark body (a-name e low fits) ok =
     subst (λ (m : ℕ). BookOk (withField f m body)) (sym e) (with-name f body low fits ok)
-book-step f mark body (a-class e at fits) ok =
+book-step kind none f mark body (a-class k e at fits) ok =
     subst (λ (m : ℕ). BookOk (withField f m body)) (sym e) (with-class f body at fits ok)
-book-step f mark body (a-row k e high fits) ok =
+book-step kind none f mark body (a-row k e high fits) ok =
     subst (λ (m : ℕ). BookOk (withField f m body)) (sym e) (with-row f body high fits ok)
-book-step f mark body (a-state k e high fits) ok = absurd (false≢true k)
+book-step kind none f mark body (a-state k e high fits) ok = absurd (false≢true (sym none ∙ k))
 
 -- an accepted book is read to the end, and is sound
 pub accepted-book :
@@ -126,6 +128,6 @@ pub accepted-book :
 unfolding bookOf bookFault readWith
 accepted-book settings allowed s ok =
     read-keeps book (λ f rest. BookOk f)
-    (λ f mark a b body rest size fit h. book-step f mark body (fitting book f mark body fit) h)
+    (λ f mark a b body rest size fit h. book-step book refl f mark body (fitting book f mark body fit) h)
     (suc (length s)) (unread (settings .default-class)) s (nothing-read (settings .default-class) allowed)
     (first-of (readBook settings s .number) (treeFault (bookOf settings s .items)) ok .0)

@@ -30,6 +30,7 @@ use Rattle.model.proofs.FieldLaws.{first-of, when-none}
 use Rattle.model.proofs.StateBodies.{states-read-back}
 use Rattle.model.proofs.WritableStates.{states-writable}
 use Rattle.model.proofs.Identified.{among-itself}
+use Rattle.model.proofs.RowBooks.{rows-make-books}
 use Rattle.model.proofs.Reading.{accepted-has-row, accepted-entries, reads-written, written-length, rewrites-same}
 
 -- ---- what an accepted book and a like book give
@@ -198,4 +199,4 @@ same-bytes = record { rewrites = rewrites-same }
 
 -- all that is claimed
 pub demands : Demands
-demands = record { third = demand-3; same-bytes = same-bytes; reads-back = reads-back }
+demands = record { third = demand-3; same-bytes = same-bytes; reads-back = reads-back; rows-make-books = rows-make-books }

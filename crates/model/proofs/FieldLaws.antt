@@ -1,7 +1,7 @@
 -- The refusals of one field as facts: what a field without a fault satisfies, and for names, classes and states the other way
 -- round. Assumes nothing.
 use mathlib.Core.Path.{_≡_, refl, ap, subst}
-use mathlib.Core.Logic.{_⊎_, inl, inr, ⊎-elim}
+use mathlib.Core.Logic.{_⊎_, ⊎-elim}
 use mathlib.Core.Bool.{Bool, true, false, not, and-eq-true-iff}
 use mathlib.Core.List.{List}
 use Prim.Native.Nat.{ℕ, zero, suc, _≤_, _<_}
@@ -11,9 +11,10 @@ use lib.ListN.{length, getD}
 use borrow.Author.Tests.{leb-false, lt-leb, eqb-true}
 use Rattle.base.specs.Limits.{name-limit, book-rows, state-limit, when, firstOf, misplaced}
 use Rattle.base.specs.Limits.{bad-name, name-order, too-many, bad-class, bad-row, bad-state}
-use Rattle.model.specs.Fields.{File, FileKind, book, table, mayCome, byMark, nameOk, above, classOk, rowOk, stateOk, fieldFault}
+use Rattle.model.specs.Fields.{File, FileKind, takesClass, takesRows, takesStates, mayCome, byMark, nameOk, above, classOk}
+use Rattle.model.specs.Fields.{rowOk, stateOk, fieldFault}
 use Rattle.model.specs.Fields.{ClassOk, settingsOk, classFrom, nameFault, classFault, itemFault, rowFault, stateFault}
-use Rattle.base.proofs.Tests.{tells-eqb, tells-leb, tells-and, tells-or}
+use Rattle.base.proofs.Tests.{tells-itself, tells-eqb, tells-leb, tells-and, tells-or}
 
 -- no refusal of two
 pub first-of : (a b : ℕ) → firstOf a b ≡ 0 → (a ≡ 0) × (b ≡ 0)
@@ -100,6 +101,10 @@ state-fits f body e =
     let r = one-more state-limit stateOk bad-state f body (omega arith) e in
     record { few = r .0; state-ok = r .1 }
 
+pub fits-row : (f : File) (body : List ℕ) → RowFits (length (f .names)) (f .items) body → rowFault f body ≡ 0
+unfolding rowFault
+fits-row f body h = rw (h .row-ok, lt-leb book-rows (length (f .items)) (h .few))
+
 pub fits-state : (f : File) (body : List ℕ) → StateFits (length (f .names)) (f .items) body → stateFault f body ≡ 0
 unfolding stateFault
 fits-state f body h = rw (h .state-ok, lt-leb state-limit (length (f .items)) (h .few))
@@ -107,23 +112,23 @@ fits-state f body h = rw (h .state-ok, lt-leb state-limit (length (f .items)) (h
 -- a field without a fault is one of four
 pub data Fitting (kind : FileKind) (f : File) (mark : ℕ) (body : List ℕ) : Type 0 where
   a-name : mark ≡ 1 → f .stage ≤ 1 → NameFits (f .names) body → Fitting kind f mark body
-  a-class : mark ≡ 2 → f .stage ≡ 1 → classOk body ≡ true → Fitting kind f mark body
-  a-row : kind ≡ book → mark ≡ 3 → 1 ≤ f .stage → RowFits (length (f .names)) (f .items) body → Fitting kind f mark body
-  a-state : kind ≡ table → mark ≡ 4 → 2 ≤ f .stage → StateFits (length (f .names)) (f .items) body → Fitting kind f mark body
+  a-class : takesClass kind ≡ true → mark ≡ 2 → f .stage ≡ 1 → classOk body ≡ true → Fitting kind f mark body
+  a-row :
+      takesRows kind ≡ true → mark ≡ 3 → 1 ≤ f .stage → RowFits (length (f .names)) (f .items) body → Fitting kind f mark body
+  a-state :
+      takesStates kind ≡ true → mark ≡ 4 → 2 ≤ f .stage → StateFits (length (f .names)) (f .items) body →
+      Fitting kind f mark body
 
 -- the marks that may come next, with the places where they may
 may-come :
     (kind : FileKind) (stage mark : ℕ) → mayCome kind stage mark ≡ true →
-    ((mark ≡ 1) × (stage ≤ 1)) ⊎ (((mark ≡ 2) × (stage ≡ 1))
-    ⊎ (((kind ≡ table) × (mark ≡ 4) × (2 ≤ stage)) ⊎ ((kind ≡ book) × (mark ≡ 3) × (1 ≤ stage))))
-may-come true stage mark e =
-    let told = tells-or (tells-and (tells-eqb mark 1) (tells-leb stage 1))
-    (tells-or (tells-and (tells-eqb mark 2) (tells-eqb stage 1)) (tells-and (tells-eqb mark 4) (tells-leb 2 stage))) in
-    ⊎-elim (λ p. inl p) (λ r. inr (⊎-elim (λ p. inl p) (λ p. inr (inl (refl, p .0, p .1))) r)) (told .fact e)
-may-come false stage mark e =
-    let told = tells-or (tells-and (tells-eqb mark 1) (tells-leb stage 1))
-    (tells-or (tells-and (tells-eqb mark 2) (tells-eqb stage 1)) (tells-and (tells-eqb mark 3) (tells-leb 1 stage))) in
-    ⊎-elim (λ p. inl p) (λ r. inr (⊎-elim (λ p. inl p) (λ p. inr (inr (refl, p .0, p .1))) r)) (told .fact e)
+    ((mark ≡ 1) × (stage ≤ 1)) ⊎ (((mark ≡ 2) × ((takesClass kind ≡ true) × (stage ≡ 1)))
+    ⊎ (((mark ≡ 3) × ((takesRows kind ≡ true) × (1 ≤ stage))) ⊎ ((mark ≡ 4) × ((takesStates kind ≡ true) × (2 ≤ stage)))))
+may-come kind stage mark e =
+    let class = tells-and (tells-eqb mark 2) (tells-and (tells-itself (takesClass kind)) (tells-eqb stage 1)) in
+    let row = tells-and (tells-eqb mark 3) (tells-and (tells-itself (takesRows kind)) (tells-leb 1 stage)) in
+    let state = tells-and (tells-eqb mark 4) (tells-and (tells-itself (takesStates kind)) (tells-leb 2 stage)) in
+    tells-or (tells-and (tells-eqb mark 1) (tells-leb stage 1)) (tells-or class (tells-or row state)) .fact e
 
 -- which of the four it is
 pub fitting : (kind : FileKind) (f : File) (mark : ℕ) (body : List ℕ) → fieldFault kind f mark body ≡ 0 → Fitting kind f mark body
@@ -133,7 +138,7 @@ fitting kind f mark body e =
     let p = first-of (when (not (mayCome kind (f .stage) mark)) misplaced) (rest mark) e in
     let at : (m : ℕ) → mark ≡ m → rest m ≡ 0 = λ m q. subst (λ z. rest z ≡ 0) q (p .1) in
     ⊎-elim (λ q. a-name (q .0) (q .1) (name-fits (f .names) body (at 1 (q .0))))
-    (λ r. ⊎-elim (λ q. a-class (q .0) (q .1) (class-fits body (at 2 (q .0))))
-    (λ item. ⊎-elim (λ q. a-state (q .0) (q .1) (q .2) (state-fits f body (at 4 (q .1))))
-    (λ q. a-row (q .0) (q .1) (q .2) (row-fits f body (at 3 (q .1)))) item) r)
+    (λ r. ⊎-elim (λ q. a-class (q .1 .0) (q .0) (q .1 .1) (class-fits body (at 2 (q .0))))
+    (λ item. ⊎-elim (λ q. a-row (q .1 .0) (q .0) (q .1 .1) (row-fits f body (at 3 (q .0))))
+    (λ q. a-state (q .1 .0) (q .0) (q .1 .1) (state-fits f body (at 4 (q .0)))) item) r)
     (may-come kind (f .stage) mark (when-not (mayCome kind (f .stage) mark) misplaced (omega arith) (p .0)))

@@ -26,8 +26,8 @@ pub mod TableWalks
 pub mod Reached
 pub mod Paired
 pub mod Numbering
--- reading: states that can be written, what one field and one turn of reading tell, tables read back and rewritten, and the
--- states of accepted tables
+-- reading: states that can be written, what one field and one turn of reading tell, tables read back and rewritten, lists of
+-- names and the books that rows make of them, and the states of accepted tables
 pub mod Writable
 pub mod MetOrder
 pub mod ArcCount
@@ -37,9 +37,13 @@ pub mod CallLaws
 pub mod Turns
 pub mod StateBodies
 pub mod Books
+pub mod NameNumbers
+pub mod LowNumbers
 pub mod ReadBack
 pub mod WrittenLengths
 pub mod Rewriting
+pub mod NameLists
+pub mod RowBooks
 pub mod Reading
 pub mod TableBodies
 -- demands: all full joinings have one table, contextual sets by their automata, the smallest set of the class, and all that is

@@ -2,7 +2,7 @@
 -- written, and then what is left, is the input. Assumes nothing.
 use mathlib.Core.Path.{_≡_, refl, sym, ap, ap₂, _∙_, subst}
 use mathlib.Core.Logic.{⊎-elim}
-use mathlib.Core.Bool.{Bool, true, false, cond, true≢false}
+use mathlib.Core.Bool.{Bool, true, false, cond, false≢true}
 use mathlib.Core.List.{List, [], _∷_, _++_, flatMap, append-nil, append-assoc, List·Memᴰ as In, List·Memᴰ·head as here}
 use mathlib.Core.List.{List·Memᴰ·tail as there, List·Memᴰ·not-nil, List·Memᴰ·append-cases, List·Memᴰ·eq-of-singleton}
 use Prim.Native.Nat.{ℕ, suc, _+_, _*_, _/_, _%_, _≤_, _<_}
@@ -149,8 +149,8 @@ module _ (s : List ℕ) (f : File) (a b : ℕ) (body rest : List ℕ) (size : le
       (mark : ℕ) → Fitting table f mark body → Rewrites s f (mark ∷ (a ∷ (b ∷ (body ++ rest)))) →
       Rewrites s (withField f mark body) rest
   table-step mark (a-name e low fits) h = at-mark (Rewrites s) f a b body rest mark 1 e (with-name low) h
-  table-step mark (a-class e at fits) h = at-mark (Rewrites s) f a b body rest mark 2 e (with-class at fits) h
-  table-step mark (a-row k e high fits) h = absurd (true≢false k)
+  table-step mark (a-class k e at fits) h = at-mark (Rewrites s) f a b body rest mark 2 e (with-class at fits) h
+  table-step mark (a-row k e high fits) h = absurd (false≢true k)
   table-step mark (a-state k e high fits) h = at-mark (Rewrites s) f a b body rest mark 4 e (with-state high fits) h
 
 -- before the first field

@@ -2,7 +2,7 @@
 -- every state is reached. Assumes nothing.
 use mathlib.Core.Path.{_≡_, refl, sym, subst}
 use mathlib.Core.Logic.{⊎-elim}
-use mathlib.Core.Bool.{true, not, _&&_, true≢false, and-eq-true-iff}
+use mathlib.Core.Bool.{true, not, _&&_, false≢true, and-eq-true-iff}
 use mathlib.Core.List.{List, [], _∷_, _++_, map, List·Memᴰ as In, List·Memᴰ·head as here, List·Memᴰ·tail as there}
 use mathlib.Core.List.{List·Memᴰ·not-nil, List·Memᴰ·append-cases, List·Memᴰ·eq-of-singleton}
 use Prim.Native.Nat.{ℕ, zero, suc, _≤_, _<_}
@@ -80,9 +80,9 @@ unfolding withField
 good-grows f mark body more rest (a-name e low fits) g =
     subst (λ (z : ℕ). Good (withField f z body) rest) (sym e)
     (record { few = simp length-append (omega (arith, fits .few)); bodies = g .bodies })
-good-grows f mark body more rest (a-class e at fits) g =
+good-grows f mark body more rest (a-class k e at fits) g =
     subst (λ (z : ℕ). Good (withField f z body) rest) (sym e) (record { few = g .few; bodies = g .bodies })
-good-grows f mark body more rest (a-row k e high fits) g = absurd (true≢false k)
+good-grows f mark body more rest (a-row k e high fits) g = absurd (false≢true k)
 good-grows f mark body more rest (a-state k e high fits) g =
     subst (λ (z : ℕ). Good (withField f z body) rest) (sym e)
     (record {

@@ -10,13 +10,13 @@ use lib.ListN.{length, getD, take, drop, length-append, take-append-drop}
 use lib.Seq.{length-take-le, take-at, drop-at}
 use borrow.Author.Tests.{ltb-false, le-ltb, eqb-true, eq-eqb, ne-eqb}
 use Rattle.base.specs.Limits.{cut-off, unfinished}
-use Rattle.model.specs.Fields.{File, FileKind, fieldFault, withField, Read, refused, accepted-file, atEnd}
+use Rattle.model.specs.Fields.{File, FileKind, fieldFault, withField, Read, refused, accepted-file, lastStage, atEnd}
 use Rattle.model.specs.Fields.{statedLength, runsPast, bodyOf, afterField, readFrom}
 use Rattle.base.proofs.Tests.{or-false, false-or}
 
 module _ (l : ℕ) (kind : FileKind) (f : File) (s : List ℕ) where
   -- the four cases of a turn: the end, a field cut off, a fault, a field
-  at-stop : eqb (length s) 0 ≡ true → readFrom (suc l) kind f s ≡ atEnd f
+  at-stop : eqb (length s) 0 ≡ true → readFrom (suc l) kind f s ≡ atEnd kind f
   unfolding readFrom
   at-stop e = rw (e, readFrom)
 
@@ -58,7 +58,7 @@ one-field l kind f mark a b body rest size ok =
 
 -- a turn ends the reading, refuses, or reads a field
 pub data Turn (l : ℕ) (kind : FileKind) (f : File) (s : List ℕ) : Type 0 where
-  ended : s ≡ [] → readFrom (suc l) kind f s ≡ atEnd f → Turn l kind f s
+  ended : s ≡ [] → readFrom (suc l) kind f s ≡ atEnd kind f → Turn l kind f s
   failed : (n : ℕ) → readFrom (suc l) kind f s .number ≡ suc n → Turn l kind f s
   went :
       (mark a b : ℕ) (body rest : List ℕ) → s ≡ mark ∷ (a ∷ (b ∷ (body ++ rest))) → length body ≡ 256 * a + b →
@@ -115,27 +115,31 @@ module _ (kind : FileKind) (P : File → List ℕ → Type 0)
     (step :
     (f : File) (mark a b : ℕ) (body rest : List ℕ) → length body ≡ 256 * a + b → fieldFault kind f mark body ≡ 0 →
     P f (mark ∷ (a ∷ (b ∷ (body ++ rest)))) → P (withField f mark body) rest) where
-  -- an accepted end is at stage 3
-  end-keeps : (f : File) → P f [] → atEnd f .number ≡ 0 → (atEnd f .file-is .stage ≡ 3) × P (atEnd f .file-is) []
-  end-keeps f h ok = go (eqb (f .stage) 3) refl ok
+  -- an accepted end is at the kind's last stage
+  end-keeps :
+      (f : File) → P f [] → atEnd kind f .number ≡ 0 →
+      (atEnd kind f .file-is .stage ≡ lastStage kind) × P (atEnd kind f .file-is) []
+  end-keeps f h ok = go (eqb (f .stage) (lastStage kind)) refl ok
     where
       at-end : Bool → Read
       at-end t = cond t (accepted-file f) (refused unfinished)
 
-      go : (t : Bool) → eqb (f .stage) 3 ≡ t → at-end t .number ≡ 0 → (at-end t .file-is .stage ≡ 3) × P (at-end t .file-is) []
-      go true e q = (eqb-true (f .stage) 3 e, h)
+      go :
+          (t : Bool) → eqb (f .stage) (lastStage kind) ≡ t → at-end t .number ≡ 0 →
+          (at-end t .file-is .stage ≡ lastStage kind) × P (at-end t .file-is) []
+      go true e q = (eqb-true (f .stage) (lastStage kind) e, h)
       go false e q = let z : ⊥ = omega arith in absurd z
 
   -- from any file on, whatever the fuel
   pub read-keeps :
       (l : ℕ) (f : File) (s : List ℕ) → P f s → readFrom l kind f s .number ≡ 0 →
-      (readFrom l kind f s .file-is .stage ≡ 3) × P (readFrom l kind f s .file-is) []
+      (readFrom l kind f s .file-is .stage ≡ lastStage kind) × P (readFrom l kind f s .file-is) []
   unfolding readFrom
   read-keeps zero f s h ok = let z : ⊥ = omega arith in absurd z
   read-keeps (suc l) f s h ok = go (turn l kind f s) (λ g t. read-keeps l g t)
     where
       Kept : Read → Type 0
-      Kept r = (r .file-is .stage ≡ 3) × P (r .file-is) []
+      Kept r = (r .file-is .stage ≡ lastStage kind) × P (r .file-is) []
 
       go :
           Turn l kind f s → ((g : File) (t : List ℕ) → P g t → readFrom l kind g t .number ≡ 0 → Kept (readFrom l kind g t)) →

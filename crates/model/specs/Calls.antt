@@ -9,7 +9,7 @@ use lib.Dec.{eqb, ltb}
 use lib.ListN.{length, drop, replicate}
 use Rattle.base.specs.Limits.{state-limit, input-limit, work-bytes, when, firstOf}
 use Rattle.base.specs.Limits.{bad-sizes, bad-row, tree-too-large, bad-numbering, output-too-short}
-use Rattle.model.specs.Fields.{File, Settings, readBook, readTable, rowOk}
+use Rattle.model.specs.Fields.{File, Settings, readBook, readTable, readNames, rowOk}
 use Rattle.model.specs.Tables.{State, statesIn, tableBytes, isFirstMet}
 use Rattle.model.specs.Classes.{Word}
 use Rattle.model.specs.Joinings.{treeOf}
@@ -118,3 +118,7 @@ rewritten s = tableBytes (tableOf s .names) (tableOf s .class-is) (tableStates s
 unfoldable pub walkFault : List ℕ → List ℕ → List ℕ → ℕ
 walkFault s row work =
     firstOf (tableFault s work) (when (not (rowOk (length (tableOf s .names)) row)) bad-row)
+
+-- the names of a list of names
+abbrev pub namesOf : List ℕ → List (List ℕ)
+namesOf s = readNames s .file-is .names

@@ -1,18 +1,18 @@
--- What is claimed of the definitions: demand 3, whole, and that tables read back as written and are rewritten to the same
--- bytes. `demands` of proofs/Demands.antt proves it all. Assumes nothing.
+-- What is claimed of the definitions: demand 3, whole; that tables read back as written and are rewritten to the same bytes; and
+-- that a list of names and rows make a book. `demands` of proofs/Demands.antt proves it all. Assumes nothing.
 use mathlib.Core.Path.{_≡_}
 use mathlib.Core.Bool.{Bool, true}
-use mathlib.Core.List.{List}
+use mathlib.Core.List.{List, _++_, List·Memᴰ as In}
 use Prim.Native.Nat.{ℕ, _<_, _≤_}
 use lib.ListN.{length, getD}
-use Rattle.base.specs.Limits.{work-bytes}
+use Rattle.base.specs.Limits.{work-bytes, book-rows, items-met}
 use Rattle.base.specs.Lists.{all, hasRow}
-use Rattle.model.specs.Fields.{File, Settings, Allowed}
-use Rattle.model.specs.Tables.{admits}
+use Rattle.model.specs.Fields.{Class, ClassOk, File, file, Settings, Allowed, rowOk, readBook, readNames, accepted-file}
+use Rattle.model.specs.Tables.{classField, rowFields, admits}
 use Rattle.model.specs.Classes.{Word, InClass}
 use Rattle.model.specs.Joinings.{Step, treeOf, apart, isFullJoining, afterSteps, joinedGroups}
 use Rattle.model.specs.Quotients.{bookStates, bookTable, tableAfter}
-use Rattle.model.specs.Calls.{bookFault, bookOf, tableFault, tableStates, rewritten}
+use Rattle.model.specs.Calls.{bookFault, bookOf, tableFault, tableStates, rewritten, namesOf}
 
 -- a book is accepted: read without a fault, and its prefix tree has at most 512 states
 abbrev pub Accepted : Settings → List ℕ → Type 0
@@ -77,6 +77,12 @@ AllBytes s = (i : ℕ) → i < length s → getD s i 0 < 256
 pub record Same-bytes : Type 0 where
   pub rewrites : (s work : List ℕ) → AllBytes s → tableFault s work ≡ 0 → rewritten s ≡ s
 
+-- rows that a book with these names may have: 1 to 256, each of at most so many entries, and each entry a name's number
+pub record RowsOk (names : List (List ℕ)) (rows : List Word) : Type 0 where
+  pub some : 1 ≤ length rows
+  pub few : length rows ≤ book-rows
+  pub each : (r : Word) → In r rows → rowOk (length names) r ≡ true
+
 -- what build writes with these settings is read back, with no refusal, as the states that it was written from
 pub record Reads-back (settings : Settings) : Type 0 where
   pub accepted-again :
@@ -84,8 +90,19 @@ pub record Reads-back (settings : Settings) : Type 0 where
   pub same-states :
       (s : List ℕ) → Accepted settings s → tableStates (bookTable (bookOf settings s)) ≡ bookStates (bookOf settings s)
 
--- all of it, with all settings that are allowed
+-- an accepted list of names, a class field or none, and the fields of 1 to 256 rows over these names: what is read as a book, with
+-- these settings, has these names, the class written or else that of the settings, and these rows
+pub record Rows-make-books (settings : Settings) : Type 0 where
+  pub without-class :
+      (s : List ℕ) (rows : List Word) → readNames s .number ≡ 0 → RowsOk (namesOf s) rows →
+      readBook settings (s ++ rowFields rows) ≡ accepted-file (file items-met (namesOf s) (settings .default-class) rows)
+  pub with-class :
+      (s : List ℕ) (c : Class) (rows : List Word) → readNames s .number ≡ 0 → ClassOk c → RowsOk (namesOf s) rows →
+      readBook settings (s ++ (classField c ++ rowFields rows)) ≡ accepted-file (file items-met (namesOf s) c rows)
+
+-- all of it, with all settings that are allowed; that rows make books, with any settings
 pub record Demands : Type 1 where
   pub third : (settings : Settings) → Allowed settings → Demand-3 settings
   pub same-bytes : Same-bytes
   pub reads-back : (settings : Settings) → Allowed settings → Reads-back settings
+  pub rows-make-books : (settings : Settings) → Rows-make-books settings

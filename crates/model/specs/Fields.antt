@@ -1,12 +1,12 @@
--- Fields of books and tables (docs/SCOPE.md, section 3), read in file order with refusals 2 to 9 and 11. One reading serves both
--- kinds of file. Names, rows and state fields are lists of bytes; what a state field means is in Tables. Assumes nothing.
+-- Fields of books, tables and lists of names (docs/SCOPE.md, section 3), read in file order with refusals 2 to 9 and 11. One reading
+-- serves all kinds of file. Names, rows and state fields are lists of bytes; what a state field means is in Tables. Assumes nothing.
 use mathlib.Core.Path.{_≡_}
 use mathlib.Core.Bool.{Bool, true, false, _&&_, _||_, not, cond}
 use mathlib.Core.List.{List, [], _∷_, _++_}
-use Prim.Native.Nat.{ℕ, zero, suc, _+_, _*_}
+use Prim.Native.Nat.{ℕ, zero, suc, _+_, _*_, _<_}
 use lib.Dec.{eqb, ltb, leb}
 use lib.ListN.{length, getD, take, drop}
-use Rattle.base.specs.Lists.{all, before, lastOr}
+use Rattle.base.specs.Lists.{all, before, lastOr, same}
 use Rattle.base.specs.Limits.{name-limit, name-bytes, book-rows, row-limit, state-limit, setting-limit, when, firstOf}
 use Rattle.base.specs.Limits.{name-mark, class-mark, row-mark, state-mark, name-due, names-met, class-met, items-met}
 use Rattle.base.specs.Limits.{context-kind, seen-set-kind, last-names-kind}
@@ -86,17 +86,29 @@ unfoldable pub stateOk : ℕ → List ℕ → Bool
 stateOk n [] = false
 stateOk n (b ∷ s) = leb b 1 && arcsOk (length s) n 0 s
 
--- the two kinds of file
-abbrev pub FileKind : Type 0
-FileKind = Bool
+-- the kinds of file: a book of rows, a table of states, and a list of names with nothing else
+pub data FileKind : Type 0 where
+  book : FileKind
+  table : FileKind
+  name-list : FileKind
 
--- a book of rows
-abbrev pub book : FileKind
-book = false
+-- after its names a book and a table may have a class
+abbrev pub takesClass : FileKind → Bool
+takesClass book = true
+takesClass table = true
+takesClass name-list = false
 
--- a table of states
-abbrev pub table : FileKind
-table = true
+-- a book has rows
+abbrev pub takesRows : FileKind → Bool
+takesRows book = true
+takesRows table = false
+takesRows name-list = false
+
+-- a table has states
+abbrev pub takesStates : FileKind → Bool
+takesStates book = false
+takesStates table = true
+takesStates name-list = false
 
 -- a file as read so far: the stage of reading, its names, its class, and its items: a book's rows or a table's state fields
 pub record File : Type 0 where
@@ -113,12 +125,14 @@ file stage names class items = record { stage = stage; names = names; class-is =
 abbrev pub unread : Class → File
 unread class = file name-due [] class []
 
--- which mark may come next: a class comes at most once in a book, and exactly once in a table
+-- which mark may come next: names come first, a class at most once and right after them, rows after names or a class, and states
+-- after a class, so that a table has exactly one
 abbrev pub mayCome : FileKind → ℕ → ℕ → Bool
 mayCome kind stage mark =
     (eqb mark name-mark && leb stage names-met)
-    || ((eqb mark class-mark && eqb stage names-met)
-    || cond kind (eqb mark state-mark && leb class-met stage) (eqb mark row-mark && leb names-met stage))
+    || ((eqb mark class-mark && (takesClass kind && eqb stage names-met))
+    || ((eqb mark row-mark && (takesRows kind && leb names-met stage))
+    || (eqb mark state-mark && (takesStates kind && leb class-met stage))))
 
 -- the name stands above the last one before it, if there is one
 unfoldable pub above : List (List ℕ) → List ℕ → Bool
@@ -131,6 +145,15 @@ nameFault names body =
     firstOf (when (not (nameOk body)) bad-name)
     (firstOf (when (not (above names body)) name-order)
     (when (leb name-limit (length names)) too-many))
+
+-- the names stand in strictly ascending byte order
+pub record Ascends (names : List (List ℕ)) : Type 0 where
+  pub in-order : (i j : ℕ) → i < j → j < length names → before (getD names i []) (getD names j []) ≡ true
+
+-- the number of a name among these names, by its bytes; how many names there are where it is none of them
+unfoldable pub nameNumber : List (List ℕ) → List ℕ → ℕ
+nameNumber [] n = 0
+nameNumber (m ∷ names) n = elim (same n m) [ true ↦ 0 | false ↦ suc (nameNumber names n) ]
 
 -- a class: 8
 unfoldable pub classFault : List ℕ → ℕ
@@ -203,9 +226,15 @@ bodyOf s = take (statedLength s) (drop 3 s)
 abbrev pub afterField : List ℕ → List ℕ
 afterField s = drop (3 + statedLength s) s
 
--- the end of the input: a row or a state must have come
-abbrev pub atEnd : File → Read
-atEnd f = cond (eqb (f .stage) items-met) (accepted-file f) (refused unfinished)
+-- what must have come before the end of the input: a row of a book, a state of a table, a name of a list of names
+abbrev pub lastStage : FileKind → ℕ
+lastStage book = items-met
+lastStage table = items-met
+lastStage name-list = names-met
+
+-- the end of the input
+abbrev pub atEnd : FileKind → File → Read
+atEnd kind f = cond (eqb (f .stage) (lastStage kind)) (accepted-file f) (refused unfinished)
 
 -- fields read one after the other, the first failure being the result (the first argument counts down and is more than the
 -- number of bytes)
@@ -213,7 +242,7 @@ unfoldable pub readFrom : ℕ → FileKind → File → List ℕ → Read
 readFrom zero kind f s = refused cut-off
 readFrom (suc l) kind f s =
     elim (eqb (length s) 0) [
-      | true ↦ atEnd f
+      | true ↦ atEnd kind f
       | false ↦
           elim (runsPast s) [
             | true ↦ refused cut-off
@@ -238,3 +267,7 @@ readBook settings s = readWith settings book s
 -- a whole table, which names its class itself, whatever the settings
 abbrev pub readTable : List ℕ → Read
 readTable s = readWith standard table s
+
+-- a whole list of names, which has no class, whatever the settings
+abbrev pub readNames : List ℕ → Read
+readNames s = readWith standard name-list s

@@ -5,7 +5,7 @@ use mathlib.Core.List.{List, [], _∷_, _++_, map, flatMap}
 use Prim.Native.Nat.{ℕ, zero, suc, _+_, _-_, _*_, _/_, _%_, _^_, _≤_}
 use lib.Dec.{eqb, ltb}
 use lib.ListN.{length, getD, take, drop}
-use Rattle.base.specs.Limits.{when, name-mark, class-mark, state-mark, admitted, on-the-way, stops}
+use Rattle.base.specs.Limits.{when, name-mark, class-mark, row-mark, state-mark, admitted, on-the-way, stops}
 use Rattle.model.specs.Fields.{Class}
 
 -- an arc out of a state: a name's number and the number of the target state
@@ -48,6 +48,10 @@ nameFields names = flatMap (fieldBytes name-mark) names
 -- the field of the class
 unfoldable pub classField : Class → List ℕ
 classField c = fieldBytes class-mark (c .kind ∷ (c .first ∷ (c .second ∷ [])))
+
+-- the fields of the rows, in order
+unfoldable pub rowFields : List (List ℕ) → List ℕ
+rowFields rows = flatMap (fieldBytes row-mark) rows
 
 -- the arcs of a state field, three bytes each
 unfoldable pub arcBytes : List Arc → List ℕ

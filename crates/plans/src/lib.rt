@@ -1,5 +1,5 @@
-// The public entries: a book's table built, a table rewritten, a row walked over a table, a book listed as text. Any bytes may be
-// lent; each call ends with a result or one numbered refusal, leaves every byte of the working area zero, and leaves the output as
+// The public entries: a book's table built, a table rewritten, a row walked over a table, a book listed as text, a plan's rows read. Any
+// bytes may be lent; each call ends with a result or one numbered refusal, leaves every byte of the working area zero, and leaves the output as
 // it was where it refuses.
 pub mod printing;
 
@@ -7,13 +7,15 @@ use base::cells::clear;
 use book_calls::building;
 use book_calls::listing;
 use fields::STANDARD;
+use plan_calls::reading;
 use results::Built;
+use results::PlanRows;
 use results::Walked;
 use results::Written;
 use table_calls::rewriting;
 use table_calls::walking;
 ghost use Rattle.model.specs.Fields.{standard};
-ghost use Rattle.results.specs.Says.{BuildSays, RewriteSays, WalkSays, WalkedSays, ListSays};
+ghost use Rattle.results.specs.Says.{BuildSays, RewriteSays, WalkSays, WalkedSays, ListSays, RowsSays};
 
 // Builds the table of a book: the prefix tree of its rows, joined by the rules of its class until none applies, numbered
 // first-met. `build-handed-over` of the crate handed_over says what holds of the table that is written: demand 3, whole.
@@ -77,6 +79,23 @@ pub fn list_book(book: &[u8], work: &mut [u8], text: &mut [u8]) -> Written
     written
 }
 
+// Reads a plan, an XML file, and writes one row field for each of its elements with the chosen name: the numbers of the element's children.
+// `rows-handed-over` of the crate rows_handed_over says what holds of the rows that are written, and of each refusal.
+pub fn rows_of_plan(
+    plan: &[u8],
+    names: &[u8],
+    chosen: u8,
+    work: &mut [u8],
+    out: &mut [u8],
+) -> PlanRows
+    ensures { λ r. ⌜ RowsSays (now (plan .entry)) (now (names .entry)) chosen (now (work .entry)) (now (work .exit))
+        (now (out .entry)) (now (out .exit)) r ⌝ }
+{
+    let rows = reading::read_rows(plan, names, chosen, work, out);
+    clear(work);
+    rows
+}
+
 // build_table for C.
 #[no_mangle]
 pub extern "C" fn plans_build(book: &[u8], work: &mut [u8], out: &mut [u8]) -> Built
@@ -109,4 +128,19 @@ pub extern "C" fn plans_list(book: &[u8], work: &mut [u8], text: &mut [u8]) -> W
         (now (text .entry)) (now (text .exit)) r ⌝ }
 {
     list_book(book, work, text)
+}
+
+// rows_of_plan for C.
+#[no_mangle]
+pub extern "C" fn plans_read_rows(
+    plan: &[u8],
+    names: &[u8],
+    chosen: u8,
+    work: &mut [u8],
+    out: &mut [u8],
+) -> PlanRows
+    ensures { λ r. ⌜ RowsSays (now (plan .entry)) (now (names .entry)) chosen (now (work .entry)) (now (work .exit))
+        (now (out .entry)) (now (out .exit)) r ⌝ }
+{
+    rows_of_plan(plan, names, chosen, work, out)
 }

@@ -1,19 +1,22 @@
--- What the public entries say (docs/SCOPE.md, sections 4, 5 and 8): each entry is one
--- call in the shape of model's Calls, so that its result and every lent byte are equal to what a definition of `model` gives.
--- Assumes nothing.
+-- What the public entries say (docs/SCOPE.md, sections 4, 5, 8 and 11): each entry is one call in the shape of model's Calls, so that its
+-- result and every lent byte are equal to what a definition of `model` or `written_plans` gives. Assumes nothing.
 use mathlib.Core.Path.{_≡_}
 use mathlib.Core.List.{List, [], _∷_}
 use Prim.Native.Nat.{ℕ}
+use lib.Dec.{leb}
 use lib.ListN.{length}
+use Rattle.base.specs.Limits.{bad-plan, when}
 use Rattle.model.specs.Fields.{Settings}
-use Rattle.model.specs.Tables.{State, outcome, longestBeginning, nextNames, nextCount}
+use Rattle.model.specs.Tables.{State, rowFields, outcome, longestBeginning, nextNames, nextCount}
 use Rattle.model.specs.Quotients.{bookStates, bookTable}
 use Rattle.model.specs.Calls.{Call, Says, over, unless}
 use Rattle.model.specs.Calls.{bookOf, buildFault, joinsOf, tableFault, rewritten, walkFault, tableStates}
 use Rattle.model.specs.Listing.{bookListing, listingOf}
+use Rattle.written_plans.specs.Calls.{planReading, planRows, planFault}
 use Rattle.results.specs.declared.Built.{Built}
 use Rattle.results.specs.declared.Walked.{Walked}
 use Rattle.results.specs.declared.Written.{Written}
+use Rattle.results.specs.declared.PlanRows.{PlanRows}
 
 -- ---- calls that write a table
 
@@ -124,3 +127,33 @@ printing settings book = record { refusal = 0; none = λ k. 0; answer = length (
 pub record PrintSays (settings : Settings) (book work work′ text text′ : List ℕ) (r : ℕ) : Type 0 where
   pub says : Says (printing settings book) work work′ [] [] r
   pub text-is : text′ ≡ over (listingOf settings book) text
+
+-- ---- a plan's rows
+
+-- a result by its parts
+abbrev pub plan-rows : ℕ → ℕ → ℕ → ℕ → PlanRows
+plan-rows refusal length rows at = record { refusal = refusal; length = length; rows = rows; at = at }
+
+-- a refused call gives its number, and nothing is written; 14, 15 and 16 come with their place in the plan
+abbrev pub not-read : ℕ → ℕ → PlanRows
+not-read place refusal = plan-rows refusal 0 0 (when (leb bad-plan refusal) place)
+
+-- these rows written, or this refusal, a plan's at this place
+abbrev pub rowsOr : ℕ → ℕ → List (List ℕ) → Call PlanRows
+rowsOr refusal place rows =
+    record {
+      refusal = refusal;
+      none = not-read place;
+      answer = plan-rows 0 (length (rowFields rows)) (length rows) 0;
+      writes = rowFields rows ∷ [];
+    }
+
+-- the rows of a plan, by a list of names and the number of one of them
+unfoldable pub readingRows : List ℕ → List ℕ → ℕ → List ℕ → Call PlanRows
+readingRows plan list chosen work =
+    rowsOr (planFault plan list chosen work) (planReading plan list chosen .place) (planRows plan list chosen)
+
+-- what rows_of_plan promises
+abbrev pub RowsSays : List ℕ → List ℕ → ℕ → List ℕ → List ℕ → List ℕ → List ℕ → PlanRows → Type 0
+RowsSays plan list chosen work work′ out out′ r =
+    Says (readingRows plan list chosen work) work work′ (out ∷ []) (out′ ∷ []) r

@@ -1,6 +1,6 @@
 // What the public entries give back, in Rattle and C alike.
 ghost use mathlib.Core.Path.{_≡_};
-ghost use Rattle.results.specs.Says.{not-built, not-walked, not-written};
+ghost use Rattle.results.specs.Says.{not-built, not-walked, not-written, plan-rows};
 
 // What a call that writes a table gives back: its refusal or 0, then the table's length in bytes, its states, and the joins: tree
 // states less table states.
@@ -28,6 +28,16 @@ pub struct Walked {
 pub struct Written {
     pub refusal: u8,
     pub length: u32,
+}
+
+// What a plan's rows give back: a refusal's number or 0, how many bytes were written, how many rows these are, and the offset in the plan
+// where 14, 15 or 16 is found.
+#[repr(C)]
+pub struct PlanRows {
+    pub refusal: u8,
+    pub length: u32,
+    pub rows: u32,
+    pub at: u32,
 }
 
 // A refused call that writes a table: no table, no states, no joins.
@@ -62,5 +72,17 @@ pub fn not_written(refusal: u8) -> Written
     Written {
         refusal: refusal,
         length: 0,
+    }
+}
+
+// A refused call that writes a plan's rows: none. The offset is handed in: that of 14, 15 or 16, and 0 for another refusal.
+pub fn not_read(refusal: u8, at: u32) -> PlanRows
+    ensures { λ r. ⌜ r ≡ plan-rows refusal 0 0 at ⌝ }
+{
+    PlanRows {
+        refusal: refusal,
+        length: 0,
+        rows: 0,
+        at: at,
     }
 }

@@ -1,6 +1,7 @@
 //! What the calls of a run have come to.
 
 use reference::fields::read_table;
+use reference::plan_rows::{PlanRows, Refused};
 use reference::refusal::Refusal;
 use reference::walk::Walked;
 use reference::Built;
@@ -9,8 +10,10 @@ use std::collections::BTreeMap;
 #[derive(Clone, Debug, Default)]
 pub struct Counts {
     pub inputs: usize,
-    /// How often each refusal was given, by its number; at 0, how many calls were accepted.
+    /// How often each refusal was given, by its number, to a book, a table or a walk; at 0, how many calls were accepted.
     pub refused: [usize; 14],
+    /// The same for plans.
+    pub plans_refused: [usize; 17],
     /// How many walks had each outcome, by its number.
     pub outcomes: [usize; 4],
     /// How many accepted builds joined states, for each class by its field's bytes.
@@ -51,9 +54,15 @@ impl Counts {
         }
     }
 
+    pub fn count_rows(&mut self, read: &Result<PlanRows, Refused>) {
+        self.inputs += 1;
+        self.plans_refused[read.as_ref().map_or_else(|refused| usize::from(refused.refusal.number()), |_| 0)] += 1;
+    }
+
     pub fn add(&mut self, more: &Counts) {
         self.inputs += more.inputs;
         self.refused.iter_mut().zip(more.refused).for_each(|(sum, count)| *sum += count);
+        self.plans_refused.iter_mut().zip(more.plans_refused).for_each(|(sum, count)| *sum += count);
         self.outcomes.iter_mut().zip(more.outcomes).for_each(|(sum, count)| *sum += count);
         self.largest_tree = self.largest_tree.max(more.largest_tree);
         for (class, count) in &more.joined {

@@ -73,7 +73,8 @@ pub fn draw_names(random: &mut Random, count: usize) -> Vec<Vec<u8>> {
     names.into_iter().collect()
 }
 
-fn draw_name(random: &mut Random, length: usize) -> Vec<u8> {
+/// A name, but that it may be too long.
+pub fn draw_name(random: &mut Random, length: usize) -> Vec<u8> {
     const FIRST: usize = 54;
     const BYTES: &[u8] = b"ABCDEFGHIJKLMNOPQRSTUVWXYZabcdefghijklmnopqrstuvwxyz_:0123456789.-";
     let mut name = vec![BYTES[random.below(FIRST)]];

@@ -26,6 +26,15 @@ pub struct Written {
     pub length: u32,
 }
 
+#[repr(C)]
+#[derive(Clone, Copy, Debug, PartialEq, Eq)]
+pub struct RowsGiven {
+    pub refusal: u8,
+    pub length: u32,
+    pub rows: u32,
+    pub at: u32,
+}
+
 /// `plans_build`, `plans_rewrite` and `plans_list` have the same arguments: input, working area and output, each by pointer and
 /// length.
 pub type Call<R> = unsafe extern "C" fn(*const u8, usize, *mut u8, usize, *mut u8, usize) -> R;
@@ -51,5 +60,24 @@ extern "C" {
         work_len: usize,
     ) -> Walked;
 
-    pub fn plans_list(book: *const u8, book_len: usize, work: *mut u8, work_len: usize, text: *mut u8, text_len: usize) -> Written;
+    pub fn plans_list(
+        book: *const u8,
+        book_len: usize,
+        work: *mut u8,
+        work_len: usize,
+        text: *mut u8,
+        text_len: usize,
+    ) -> Written;
+
+    pub fn plans_read_rows(
+        plan: *const u8,
+        plan_len: usize,
+        names: *const u8,
+        names_len: usize,
+        chosen: u8,
+        work: *mut u8,
+        work_len: usize,
+        out: *mut u8,
+        out_len: usize,
+    ) -> RowsGiven;
 }

@@ -1,15 +1,18 @@
-//! Compares plans_build, plans_rewrite, plans_walk and plans_list of the static library with the reference, over generated inputs. The same
-//! seed and count give the same inputs; --seconds goes on with fresh seeds. A mismatch names its seed: --seed gives it again. The
-//! last line is `N passed, M failed`, N and M counting kinds of checks.
+//! Compares plans_build, plans_rewrite, plans_walk, plans_list and plans_read_rows of the static library with the reference, over
+//! generated inputs. The same seed and count give the same inputs; --seconds goes on with fresh seeds. A mismatch names its seed:
+//! --seed gives it again. The last line is `N passed, M failed`, N and M counting kinds of checks.
 
 mod buffers;
 mod comparing;
 mod counts;
 mod damage;
 mod drawing;
+#[cfg(expat)]
+mod expat;
 mod kinds;
 mod library;
 mod options;
+mod planning;
 
 use comparing::Run;
 use counts::Counts;
@@ -26,11 +29,17 @@ use std::time::Instant;
 const PARTS: usize = 8;
 const THREADS: usize = 2;
 
+/// The reference reads elements inside one another by calls inside one another, and a plan has room for 21,845 of them.
+const STACK: usize = 1 << 26;
+
 /// Rounds after the first have this part of its inputs, so that each kind gets its share of the time.
 const LATER_ROUNDS: usize = 20;
 
 /// How many classes there are: 36 of contexts, the seen set, 9 of last names.
 const CLASSES: usize = 46;
+
+/// The refusals of plans, and 0 for those that are accepted.
+const PLAN_REFUSALS: [usize; 13] = [0, 1, 2, 3, 4, 5, 6, 7, 9, 13, 14, 15, 16];
 
 /// What has come of one kind of check.
 #[derive(Default)]
@@ -72,7 +81,7 @@ fn run_round(count: usize, seed: u64, tallies: &[Mutex<Tally>], deadline: Option
     };
     std::thread::scope(|scope| {
         for _ in 0..THREADS {
-            scope.spawn(work);
+            std::thread::Builder::new().stack_size(STACK).spawn_scoped(scope, work).expect("a thread");
         }
     });
 }
@@ -124,6 +133,9 @@ fn report(options: &Options, tallies: Vec<Tally>) -> ExitCode {
 fn coverage(options: &Options, all: &Counts) -> Vec<(&'static str, Option<String>)> {
     let least_joined = all.joined.values().min().unwrap_or(&0);
     println!("accepted: {}; refusals 1 to 13: {:?}", all.refused[0], &all.refused[1..]);
+    println!("plans accepted: {}; refusals 1 to 16: {:?}", all.plans_refused[0], &all.plans_refused[1..]);
+    #[cfg(not(expat))]
+    println!("this machine has no expat: plans are not compared with it");
     println!("walks admitted, on the way, stopped: {:?}", &all.outcomes[1..]);
     println!("classes with builds that joined states: {}, in each {least_joined} or more such builds", all.joined.len());
     println!("largest prefix tree of such a build: {} states", all.largest_tree);
@@ -131,6 +143,10 @@ fn coverage(options: &Options, all: &Counts) -> Vec<(&'static str, Option<String
     vec![
         ("all inputs", says(all.inputs < options.count, "fewer than promised")),
         ("every refusal is given", says(all.refused.contains(&0), "one is not")),
+        (
+            "every refusal of a plan is given",
+            says(PLAN_REFUSALS.iter().any(|&refusal| all.plans_refused[refusal] == 0), "one is not"),
+        ),
         ("every outcome is given", says(all.outcomes[1..].contains(&0), "one is not")),
         ("every class has builds that joined states", says(all.joined.len() < CLASSES, "one has none")),
     ]

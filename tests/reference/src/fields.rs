@@ -1,4 +1,4 @@
-//! Books and tables read from their fields. Each field is judged by the refusals that concern it, in ascending number.
+//! Books, tables and lists of names read from their fields. Each field is judged by the refusals that concern it, in ascending number.
 
 use crate::refusal::Refusal;
 use crate::table::{Arc, State, Table};
@@ -104,6 +104,23 @@ pub fn read_table(mut input: &[u8]) -> Result<Table, Refusal> {
     Ok(table)
 }
 
+/// A list of names: one name field or more, and nothing else.
+pub fn read_names(mut input: &[u8]) -> Result<Vec<Vec<u8>>, Refusal> {
+    let mut names = vec![];
+    while !input.is_empty() {
+        let (field, rest) = split_field(input)?;
+        if field.mark != NAME {
+            return Err(Refusal::Misplaced);
+        }
+        read_name(&mut names, field.bytes)?;
+        input = rest;
+    }
+    if names.is_empty() {
+        return Err(Refusal::Unfinished);
+    }
+    Ok(names)
+}
+
 fn read_name(names: &mut Vec<Vec<u8>>, bytes: &[u8]) -> Result<(), Refusal> {
     if !is_name(bytes) {
         return Err(Refusal::BadName);
@@ -119,12 +136,20 @@ fn read_name(names: &mut Vec<Vec<u8>>, bytes: &[u8]) -> Result<(), Refusal> {
 }
 
 fn is_name(bytes: &[u8]) -> bool {
-    let first = |byte: u8| byte.is_ascii_alphabetic() || byte == b'_' || byte == b':';
-    let later = |byte: u8| first(byte) || byte.is_ascii_digit() || byte == b'.' || byte == b'-';
     match bytes {
         [] => false,
-        [head, tail @ ..] => bytes.len() <= NAME_LENGTH_LIMIT && first(*head) && tail.iter().all(|&byte| later(byte)),
+        [head, tail @ ..] => bytes.len() <= NAME_LENGTH_LIMIT && begins_name(*head) && tail.iter().all(|&byte| is_in_name(byte)),
     }
+}
+
+/// The byte may be a name's first.
+pub fn begins_name(byte: u8) -> bool {
+    byte.is_ascii_alphabetic() || byte == b'_' || byte == b':'
+}
+
+/// The byte may stand in a name after the first.
+pub fn is_in_name(byte: u8) -> bool {
+    begins_name(byte) || byte.is_ascii_digit() || byte == b'.' || byte == b'-'
 }
 
 fn read_class(bytes: &[u8]) -> Result<Class, Refusal> {

@@ -1,11 +1,14 @@
 //! A second reading of docs/SCOPE.md: books read, joined one step at a time in random order, numbered and written; tables
-//! read, rewritten and walked; listings. It shares no code with the proved library, and is written to be read, not to be fast.
+//! read, rewritten and walked; listings; rows read from plans. It shares no code with the proved library, and is written to be
+//! read, not to be fast.
 
 pub mod contexts;
 pub mod fields;
 pub mod functions;
 pub mod joining;
 pub mod listing;
+pub mod plan;
+pub mod plan_rows;
 pub mod prefix_tree;
 pub mod random;
 pub mod refusal;
@@ -17,7 +20,7 @@ use random::Random;
 use refusal::Refusal;
 use table::Table;
 
-/// The longest book or table, in bytes.
+/// The longest book, table, plan or list of names, in bytes.
 pub const INPUT_LIMIT: usize = 65_535;
 
 /// The least length of a lent working area, in bytes.

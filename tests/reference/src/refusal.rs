@@ -15,6 +15,9 @@ pub enum Refusal {
     BadState = 11,
     BadNumbering = 12,
     OutputTooShort = 13,
+    BadPlan = 14,
+    TooDeep = 15,
+    UnknownChild = 16,
 }
 
 impl Refusal {

@@ -9,7 +9,7 @@ use Rattle.model.specs.Listing.{stateLines, listing}
 use Rattle.model.specs.Calls.{tableOf, tableStates}
 use Rattle.tables.proofs.TableLaws.{states-count}
 use Rattle.listings.specs.Texts.{firstLine, namesAt}
-use Rattle.listings.proofs.TextLaws.{Writing, begins, room, room-left, goes, ends-with}
+use Rattle.writing.proofs.TextLaws.{Writing, begins, room, room-left, goes, ends-with}
 use Rattle.listings.proofs.LineLaws.{listing-parts}
 use Rattle.listings.proofs.list_table.Statement.{statement}
 use Rattle.listings.proofs.list_table.Tie as tie

@@ -7,7 +7,7 @@ use Prim.Native.Nat.{ℕ}
 use Rattle.model.specs.Listing.{decimal, space, newline, arcText, stateLine}
 use Rattle.writing.specs.Writing.{Put}
 use Rattle.listings.specs.Texts.{namesAt, stateAt}
-use Rattle.listings.proofs.TextLaws.{Writing, begins, room, room-left, goes, ends-with}
+use Rattle.writing.proofs.TextLaws.{Writing, begins, room, room-left, goes, ends-with}
 use Rattle.listings.proofs.put_state_line.Statement.{statement}
 use Rattle.listings.proofs.put_state_line.Tie as tie
 

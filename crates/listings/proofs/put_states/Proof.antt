@@ -13,7 +13,7 @@ use Rattle.judging.proofs.OffsetLaws.{offset-suc}
 use Rattle.tables.specs.Accepting.{StateField}
 use Rattle.tables.proofs.TableLaws.{states-count, field-is, field-means}
 use Rattle.listings.specs.Texts.{namesAt, stateAt}
-use Rattle.listings.proofs.TextLaws.{Writing, begins, keeps-length, room, goes}
+use Rattle.writing.proofs.TextLaws.{Writing, begins, keeps-length, room, goes}
 use Rattle.listings.proofs.LineLaws.{StatesWriting, states-next, states-finish}
 use Rattle.listings.proofs.put_states.Statement.{statement}
 use Rattle.listings.proofs.put_states.Tie as tie

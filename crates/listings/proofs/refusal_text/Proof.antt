@@ -6,7 +6,7 @@ use Prim.Native.Nat.{ℕ}
 use native.Mathlib.Omega.{arith}
 use Rattle.model.specs.Listing.{refusalText, refused-word, decimal, newline}
 use Rattle.writing.specs.Writing.{Fits, Put}
-use Rattle.listings.proofs.TextLaws.{Writing, begins, room, room-left, goes, ends-with}
+use Rattle.writing.proofs.TextLaws.{Writing, begins, room, room-left, goes, ends-with}
 use Rattle.listings.proofs.refusal_text.Statement.{statement}
 use Rattle.listings.proofs.refusal_text.Tie as tie
 

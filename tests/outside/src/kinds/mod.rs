@@ -3,6 +3,10 @@
 mod books;
 mod languages;
 mod listings;
+#[cfg(expat)]
+mod parsers;
+mod plan_sizes;
+mod plans;
 mod sizes;
 mod tables;
 mod walks;
@@ -44,6 +48,26 @@ pub const KINDS: &[Kind] = &[
     kind("books damaged at every byte, listed", 30, listings::damaged),
     kind("books and any bytes listed with working areas of 0 to 100,000 bytes", 5, listings::working_areas),
     kind("books, damaged books and any bytes, listed by the listing program", 5, listings::books),
+    kind("plans, every name of the list chosen; list and rows together a book", 80, plans::valid),
+    kind("plans damaged at every byte", 200, plans::damaged),
+    kind("plans with every byte value at one place", 100, plans::every_byte),
+    kind("plans cut at every length", 80, plans::cut),
+    kind("beginnings of plans with every ending of up to three of seven bytes", 100, plans::endings),
+    kind("plans with 14, 15 and 16 planted before and behind one another", 120, plans::planted),
+    kind("plans with markup and bytes that other XML has, or only plans have", 20, plans::foreign),
+    kind("tags at fault at the byte after their names, with every byte there", 50, plans::ties),
+    kind("plans with lists damaged, cut and moved, and every chosen number", 60, plans::lists),
+    kind("plans with outputs of each length from 0 to one more than the rows", 60, plan_sizes::outputs),
+    kind("plans with working areas of 0 to 100,000 bytes", 10, plan_sizes::working_areas),
+    kind("plans and lists of 65,535 and 65,536 bytes", 5, plan_sizes::longest),
+    kind("plans with names of 31 to 33 bytes", 15, plan_sizes::name_lengths),
+    kind("plans of 14 to 18 levels", 50, plan_sizes::depths),
+    kind("plans of 255 to 257 rows, of 63 to 65 entries", 10, plan_sizes::row_limits),
+    kind("plans with lists of 1 to 65 names", 10, plan_sizes::name_counts),
+    #[cfg(expat)]
+    kind("plans that expat accepts too: the same rows", 30, parsers::accepted),
+    #[cfg(expat)]
+    kind("damaged plans that expat judges as the library does", 80, parsers::judged),
     kind("books with the same names, class and set of rows: the same bytes", 30, languages::same_rows),
     kind("pairs of books: rows admitted, equal tables admit the same", 150, languages::pairs),
     kind("books with rows added that their table admits: the same rows admitted", 150, languages::grown),

@@ -1,8 +1,10 @@
-//! The worked days of docs/SCOPE.md, its example, its edges and the refusals it numbers.
+//! The worked days of docs/SCOPE.md, its example, its edges, the refusals it numbers, and its readings of plans.
 
 mod edges;
 mod examples;
+mod impossible;
 mod open_steps;
+mod plans;
 mod refusals;
 mod worked_days;
 

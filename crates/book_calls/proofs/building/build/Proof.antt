@@ -101,18 +101,18 @@ infer-requires c κs =
       sizes at .work-fits,
     )
 
-cast-t17 : tie.Need-cast-t17
-cast-t17 c =
-    let s = small (c .before .before .before .before .before) in
-    omega (arith, s .length-small, s .states-small, s .joins-small)
-
 cast-t18 : tie.Need-cast-t18
 cast-t18 c =
-    let s = small (c .before .before .before .before .before .before) in
+    let s = small (c .before .before .before .before .before) in
     omega (arith, s .length-small, s .states-small, s .joins-small)
 
 cast-t19 : tie.Need-cast-t19
 cast-t19 c =
+    let s = small (c .before .before .before .before .before .before) in
+    omega (arith, s .length-small, s .states-small, s .joins-small)
+
+cast-t20 : tie.Need-cast-t20
+cast-t20 c =
     let s = small (c .before .before .before .before .before .before .before) in
     omega (arith, s .length-small, s .states-small, s .joins-small)
 
@@ -157,9 +157,9 @@ build-spec =
     read-with-requires
     enum-known-read
     infer-requires
-    cast-t17
     cast-t18
     cast-t19
+    cast-t20
     enum-known-read-2
     not-built-requires-2
     same-length

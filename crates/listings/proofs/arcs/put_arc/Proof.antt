@@ -7,7 +7,7 @@ use Rattle.model.specs.Listing.{decimal, space, arcText}
 use Rattle.judging.specs.Offsets.{nameAt}
 use Rattle.fields.proofs.Parts.{names-inside}
 use Rattle.listings.specs.Texts.{namesAt}
-use Rattle.listings.proofs.TextLaws.{Writing, begins, room, room-left, goes, ends-with}
+use Rattle.writing.proofs.TextLaws.{Writing, begins, room, room-left, goes, ends-with}
 use Rattle.listings.proofs.arcs.put_arc.Statement.{statement}
 use Rattle.listings.proofs.arcs.put_arc.Tie as tie
 

@@ -11,7 +11,7 @@ use Rattle.tables.specs.Arcs.{StateOk}
 use Rattle.tables.proofs.ArcLaws.{Left, ArcHere, arcsFrom, left-begins, arc-here, state-some}
 use Rattle.writing.specs.Writing.{Fits, Put}
 use Rattle.listings.specs.Texts.{namesAt}
-use Rattle.listings.proofs.TextLaws.{Writing, keeps-length, room, goes}
+use Rattle.writing.proofs.TextLaws.{Writing, keeps-length, room, goes}
 use Rattle.listings.proofs.LineLaws.{ArcsWriting, arcs-begin, arcs-next, arcs-finish}
 use Rattle.listings.proofs.arcs.put_arcs.Statement.{statement}
 use Rattle.listings.proofs.arcs.put_arcs.Tie as tie

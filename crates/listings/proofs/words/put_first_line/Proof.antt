@@ -4,7 +4,7 @@ use mathlib.Core.List.{List, _++_}
 use Prim.Native.Nat.{ℕ}
 use Rattle.model.specs.Listing.{decimal, newline, states-word, joins-word}
 use Rattle.listings.specs.Texts.{firstLine}
-use Rattle.listings.proofs.TextLaws.{Writing, begins, room, room-left, goes, ends-with}
+use Rattle.writing.proofs.TextLaws.{Writing, begins, room, room-left, goes, ends-with}
 use Rattle.listings.proofs.words.put_first_line.Statement.{statement}
 use Rattle.listings.proofs.words.put_first_line.Tie as tie
 

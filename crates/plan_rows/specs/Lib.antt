@@ -1,0 +1,3 @@
+-- What the contracts cite beside the definitions of written_plans: the rows in a log, and these measured. Assumes
+-- nothing.
+pub mod LoggedRows

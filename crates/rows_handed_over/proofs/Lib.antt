@@ -1,0 +1,2 @@
+-- Why it holds of the rows that calls wrote. Assumes nothing.
+pub mod Rows
