@@ -57,7 +57,8 @@ field-low kind f mark body =
     let item = either-low (eqb mark row-mark) (rowFault f body) (stateFault f body) (row-low f body) (state-low f body) in
     let more = either-low (eqb mark class-mark) (classFault body) _ (class-low body) item in
     let by-mark = either-low (eqb mark name-mark) (nameFault (f .names) body) _ (name-low (f .names) body) more in
-    first-low (when (not (mayCome kind (f .stage) mark)) misplaced) _ (when-low (not (mayCome kind (f .stage) mark)) misplaced (omega arith)) by-mark
+    let may-not = not (mayCome kind (f .stage) mark) in
+    first-low (when may-not misplaced) _ (when-low may-not misplaced (omega arith)) by-mark
 
 -- what reading from any file on comes to, whatever the fuel
 from-low : (l : ℕ) (kind : FileKind) (f : File) (s : List ℕ) → readFrom l kind f s .number < output-too-short
@@ -73,18 +74,19 @@ from-low (suc l) kind f s =
     at-end true = omega arith
     at-end false = omega arith
 
-    go : (t u v : Bool) → readFrom l kind (withField f (getD s 0 0) (bodyOf s)) (afterField s) .number < output-too-short → elim t as (λ (b : Bool). Read) [
-      | true ↦ atEnd kind f
-      | false ↦
-          elim u as (λ (b : Bool). Read) [
-            | true ↦ refused cut-off
-            | false ↦
-                elim v as (λ (b : Bool). Read) [
-                  | true ↦ readFrom l kind (withField f (getD s 0 0) (bodyOf s)) (afterField s)
-                  | false ↦ refused fault
-                ]
-          ]
-    ] .number < output-too-short
+    go : (t u v : Bool) → readFrom l kind (withField f (getD s 0 0) (bodyOf s)) (afterField s) .number < output-too-short
+        → elim t as (λ (b : Bool). Read) [
+          | true ↦ atEnd kind f
+          | false ↦
+              elim u as (λ (b : Bool). Read) [
+                | true ↦ refused cut-off
+                | false ↦
+                    elim v as (λ (b : Bool). Read) [
+                      | true ↦ readFrom l kind (withField f (getD s 0 0) (bodyOf s)) (afterField s)
+                      | false ↦ refused fault
+                    ]
+              ]
+        ] .number < output-too-short
     go true u v onward = at-end (eqb (f .stage) (lastStage kind))
     go false true v onward = omega arith
     go false false true onward = onward

@@ -10,8 +10,8 @@ use native.Mathlib.Omega.{arith}
 use lib.Dec.{eqb, ltb}
 use lib.ListN.{length, getD}
 use Rattle.base.specs.Lists.{same, before, hasRow}
-use Rattle.base.proofs.Tests.{decided, told-false, same-tests, tells-eqb, tells-ltb, tells-same, tells-hasRow, le-or-lt, word-dec, before-self}
-use Rattle.base.proofs.Tests.{before-trans}
+use Rattle.base.proofs.Tests.{decided, told-false, same-tests, tells-eqb, tells-ltb, tells-same, tells-hasRow, le-or-lt}
+use Rattle.base.proofs.Tests.{word-dec, before-self, before-trans}
 use Rattle.base.proofs.Places.{nth-in}
 use Rattle.model.specs.Fields.{Ascends, nameNumber}
 
@@ -64,7 +64,8 @@ known-by-number names n low =
     (λ (out : In n names → ⊥). let z : ⊥ = omega (arith, number-of-unknown names n out) in absurd z) (decided (tells-hasRow n names))
 
 -- and there stands that name
-pub name-of-number : (names : List (List ℕ)) (n : List ℕ) → nameNumber names n < length names → getD names (nameNumber names n) [] ≡ n
+pub name-of-number :
+    (names : List (List ℕ)) (n : List ℕ) → nameNumber names n < length names → getD names (nameNumber names n) [] ≡ n
 name-of-number names n low = number-of-known names n (known-by-number names n low) .1
 
 -- names with one number are equal
@@ -96,7 +97,8 @@ module _ (names : List (List ℕ)) (ascending : Ascends names) where
 
   -- a name before the one at place j stands at no place from j on
   pub places-below :
-      (n : List ℕ) (j : ℕ) → before n (getD names j []) ≡ true → (i : ℕ) → i < length names → getD names i [] ≡ n → i < j
+      (n : List ℕ) (j : ℕ) → before n (getD names j []) ≡ true →
+      (i : ℕ) → i < length names → getD names i [] ≡ n → i < j
   places-below n j o i h e =
       ⊎-elim
       (λ (l : j ≤ i). absurd (not-before j i l h (subst (λ (z : List ℕ). before z (getD names j []) ≡ true) (sym e) o)))
@@ -104,7 +106,8 @@ module _ (names : List (List ℕ)) (ascending : Ascends names) where
 
   -- and a name after that one stands at no place up to j
   pub places-above :
-      (n : List ℕ) (j : ℕ) → j < length names → before (getD names j []) n ≡ true → (i : ℕ) → getD names i [] ≡ n → j < i
+      (n : List ℕ) (j : ℕ) → j < length names → before (getD names j []) n ≡ true →
+      (i : ℕ) → getD names i [] ≡ n → j < i
   places-above n j h o i e =
       ⊎-elim
       (λ (l : i ≤ j). absurd (not-before i j l h (subst (λ (z : List ℕ). before (getD names j []) z ≡ true) (sym e) o)))

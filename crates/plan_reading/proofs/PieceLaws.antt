@@ -119,7 +119,8 @@ module _ (s : List ℕ) (at end : ℕ) (name : NameEnds s at end) where
       let here : getD s end 0 ≡ getD s at 0 = ap (λ (i : ℕ). getD s i 0) same in
       let stopped : beginsName (part s at end ++ (getD s end 0 ∷ [])) ≡ false = name .stopped (omega arith) in
       let same-byte = subst (λ z. beginsName (part s at end ++ (z ∷ [])) ≡ false) here stopped in
-      let ends : beginsName (getD s at 0 ∷ []) ≡ false = subst (λ z. beginsName (z ++ (getD s at 0 ∷ [])) ≡ false) none same-byte in
+      let ends : beginsName (getD s at 0 ∷ []) ≡ false =
+      subst (λ z. beginsName (z ++ (getD s at 0 ∷ [])) ≡ false) none same-byte in
       reads-stop judge s (opened around) at h (rw (ends, other))
 
   module _ (some : at < end) where
@@ -153,7 +154,8 @@ abbrev pub moved : Reached → ℕ → Reached
 moved r at = record { at = at; depth = r .depth; tags = r .tags }
 
 -- what holds of a place holds further on
-pub stacked-on : (s stack : List ℕ) (r : Reached) (at : ℕ) → Stacked s stack r → r .at ≤ at → at ≤ length s → Stacked s stack (moved r at)
+pub stacked-on : (s stack : List ℕ) (r : Reached) (at : ℕ) → Stacked s stack r → r .at ≤ at → at ≤ length s
+    → Stacked s stack (moved r at)
 stacked-on s stack r at sound h within =
     let few : 3 * r .tags ≤ r .at = sound .few in
     record {
@@ -352,7 +354,8 @@ module _ (s stack : List ℕ) (r : Reached) where
       → ReadsOn s tag-place (r .at) (closingOf s stack r) (r .at + 1)
   unfolding met
   tag-slash h e deep =
-      read-byte s tag-place (closingOf s stack r) (r .at) h (ap (step tag-place) e ∙ slash-begins s stack (r .depth) deep) (λ b rest. refl)
+      read-byte s tag-place (closingOf s stack r) (r .at) h
+      (ap (step tag-place) e ∙ slash-begins s stack (r .depth) deep) (λ b rest. refl)
 
   -- a name, or neither
   pub tag-named : (eqb (getD s (r .at) 0) slash && ltb 0 (r .depth)) ≡ false → (p : Piece) → NameFrom s (r .at) p
@@ -397,7 +400,8 @@ module _ (s stack : List ℕ) (tags b : ℕ) where
       rw (text, apart)
 
   -- or it cannot go on, but for a tag
-  next-stops : (depth : ℕ) → mayStand depth b ≡ false → eqb b less ≡ false → step (between (openNames s stack depth) tags) b ≡ stop
+  next-stops : (depth : ℕ) → mayStand depth b ≡ false → eqb b less ≡ false
+      → step (between (openNames s stack depth) tags) b ≡ stop
   unfolding step openNames
   next-stops zero e apart = outside (eqb tags 0)
     where

@@ -31,9 +31,11 @@ use Rattle.plan_reading.proofs.StackLaws.{pushed-from, pushed-end, push
 -- what holds below a depth and at it holds up to it
 by-depth : (P : ℕ → Type 0) (depth : ℕ) → ((d : ℕ) → d < depth → P d) → P depth → (d : ℕ) → d < depth + 1 → P d
 by-depth P depth below top d h =
-    ⊎-elim (λ (high : depth ≤ d). let is : depth ≡ d = omega arith in subst P is top) (λ (low : d < depth). below d low) (le-or-lt depth d)
+    ⊎-elim (λ (high : depth ≤ d). let is : depth ≡ d = omega arith in subst P is top)
+    (λ (low : d < depth). below d low) (le-or-lt depth d)
 
-module _ (names : List (List ℕ)) (s stack : List ℕ) (r : Reached) (from end at : ℕ) (here : NameHere s from end) (ahead : r .at < from)
+module _ (names : List (List ℕ)) (s stack : List ℕ) (r : Reached) (from end at : ℕ)
+    (here : NameHere s from end) (ahead : r .at < from)
     (stands : Standing names s stack r) (beyond : end < at) (within : at ≤ length s) where
   -- the place after the element's name
   abbrev afterTheName : Place
@@ -142,7 +144,8 @@ module _ (names : List (List ℕ)) (s stack : List ℕ) (r : Reached) (from end 
 -- ---- one turn
 
 -- reading that comes to a refusal, after the tags met
-pub refused-as : (reading : Reading) (ts : List Tag) (k p : ℕ) → reading ≡ withTags ts (refusedAt k p) → 0 < k → RefusedAs reading k p
+pub refused-as : (reading : Reading) (ts : List Tag) (k p : ℕ) → reading ≡ withTags ts (refusedAt k p) → 0 < k
+    → RefusedAs reading k p
 refused-as reading ts k p e some =
     record { number-is = ap (λ (r : Reading). r .number) e; place-is = ap (λ (r : Reading). r .place) e; some = some }
 
@@ -191,7 +194,8 @@ module _ (names : List (List ℕ)) (judge : Tag → ℕ) (s stack log : List ℕ
       -- or to the end of the tag, whose entry is in the log
       turn-begun :
           (stack′ log′ : List ℕ) (number : ℕ) (t : Reached) → number ≡ nameNumber names (part s from end)
-          → entriesAt log′ 0 (r .tags + 1) ≡ entriesAt log 0 (r .tags) ++ (entry number (r .depth) ∷ []) → length log′ ≡ length log
+          → entriesAt log′ 0 (r .tags + 1) ≡ entriesAt log 0 (r .tags) ++ (entry number (r .depth) ∷ [])
+          → length log′ ≡ length log
           → Begun names s stack stack′ (named (openNames s stack (r .depth)) (part s from end)) end r t
           → ReadFurther names judge s stack stack′ log log′ r t
       turn-begun stack′ log′ number t is-number put same-room begun =
@@ -209,7 +213,8 @@ module _ (names : List (List ℕ)) (judge : Tag → ℕ) (s stack log : List ℕ
       -- one of the two
       pub turn-element :
           (stack′ log′ : List ℕ) (number : ℕ) → number ≡ nameNumber names (part s from end)
-          → entriesAt log′ 0 (r .tags + 1) ≡ entriesAt log 0 (r .tags) ++ (entry number (r .depth) ∷ []) → length log′ ≡ length log
+          → entriesAt log′ 0 (r .tags + 1) ≡ entriesAt log 0 (r .tags) ++ (entry number (r .depth) ∷ [])
+          → length log′ ≡ length log
           → (t : Turn) → ElementFrom names s stack stack′ r from end t → TurnFrom names judge s stack stack′ log log′ r t
       turn-element stack′ log′ number is-number put same-room (turn.Go t) begun =
           turn-begun stack′ log′ number t is-number put same-room begun

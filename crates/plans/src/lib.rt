@@ -1,6 +1,6 @@
 // The public entries: a book's table built, a table rewritten, a row walked over a table, a book listed as text, a plan's rows read. Any
-// bytes may be lent; each call ends with a result or one numbered refusal, leaves every byte of the working area zero, and leaves the output as
-// it was where it refuses.
+// bytes may be lent; each call ends with a result or one numbered refusal, leaves every byte of the working area zero, and leaves the
+// output as it was where it refuses.
 pub mod printing;
 
 use base::cells::clear;

@@ -3,7 +3,8 @@
 use mathlib.Core.Path.{_≡_, refl, sym, ap, ap₂, _∙_, subst}
 use mathlib.Core.Logic.{_⊎_, inl, inr, ⊎-elim}
 use mathlib.Core.Bool.{Bool, true, false, _&&_}
-use mathlib.Core.List.{List, [], _∷_, _++_, map, flatMap, append-assoc, List·Memᴰ as In, List·Memᴰ·head as here, List·Memᴰ·tail as there}
+use mathlib.Core.List.{List, [], _∷_, _++_, map, flatMap, append-assoc}
+use mathlib.Core.List.{List·Memᴰ as In, List·Memᴰ·head as here, List·Memᴰ·tail as there}
 use Prim.Native.Nat.{ℕ, zero, suc, _≤_, _<_}
 use native.Mathlib.Omega.{arith}
 use borrow.Author.Tests.{ltb-true, lt-ltb, le-leb, lt-leb, leb-false}
@@ -92,14 +93,16 @@ short-row rows none row m =
 
 -- rows after an accepted list
 rows-book :
-    (list bytes : List ℕ) (rows : List (List ℕ)) → readNames list .number ≡ 0 → RowsOk (namesOf list) rows → bytes ≡ rowFields rows →
+    (list bytes : List ℕ) (rows : List (List ℕ)) → readNames list .number ≡ 0 → RowsOk (namesOf list) rows →
+    bytes ≡ rowFields rows →
     (settings : Settings) → MakesBook list bytes rows settings
 rows-book list bytes rows fine ok is settings =
     let books = rows-make-books settings in
     record {
       without-class = ap (λ (z : List ℕ). readBook settings (list ++ z)) is ∙ books .without-class list rows fine ok;
       with-class = λ class class-ok.
-          ap (λ (z : List ℕ). readBook settings (list ++ (classField class ++ z))) is ∙ books .with-class list class rows fine class-ok ok;
+          ap (λ (z : List ℕ). readBook settings (list ++ (classField class ++ z))) is
+          ∙ books .with-class list class rows fine class-ok ok;
     }
 
 module _ (c : RowsCall) where
@@ -259,7 +262,8 @@ module _ (c : RowsCall) where
       ∙ first-some asked-fault _ some
 
   -- two first faults are one
-  one-first : (n p : ℕ) → First names chosen (c .plan) n p → (m q : ℕ) → First names chosen (c .plan) m q → (n ≡ m) × (p ≡ q)
+  one-first : (n p : ℕ) → First names chosen (c .plan) n p → (m q : ℕ) → First names chosen (c .plan) m q
+      → (n ≡ m) × (p ≡ q)
   one-first n p f m q g =
       go (f .first m q (g .fault)) (g .first n p (f .fault))
     where
@@ -274,7 +278,8 @@ module _ (c : RowsCall) where
   unfolding readingRows planFault planReading
   told-as fine n p f =
       let some : 0 < number =
-      ⊎-elim (λ (few : number ≤ 0). absurd (told .faultless (omega arith) n p (f .fault))) (λ (h : 0 < number). h) (le-or-lt number 0) in
+      ⊎-elim (λ (few : number ≤ 0). absurd (told .faultless (omega arith) n p (f .fault)))
+      (λ (h : 0 < number). h) (le-or-lt number 0) in
       let same = one-first number place (told .first some) n p f in
       let high = plan-refusal names chosen (c .plan) some .high in
       let short = tooShort (rowFields rows ∷ []) (c .out ∷ []) in
@@ -342,7 +347,8 @@ all-fit list calls read row m =
     (row-fits c (told-list .1) (plan .0) (plan .1) row (from .2))
 
 -- the list was accepted by any of them
-list-read : (list : List ℕ) (calls : List RowsCall) → ReadWith list calls → 1 ≤ length (allRows calls) → readNames list .number ≡ 0
+list-read : (list : List ℕ) (calls : List RowsCall) → ReadWith list calls → 1 ≤ length (allRows calls)
+    → readNames list .number ≡ 0
 unfolding flatMap
 list-read list [] read some = let z : ⊥ = omega arith in absurd z
 list-read list (c ∷ calls) read some =
@@ -350,7 +356,8 @@ list-read list (c ∷ calls) read some =
     subst (λ (z : List ℕ). readNames z .number ≡ 0) (told-list .0) (asked c (parts c (told-list .1) .0) .0)
 
 make-book : (list : List ℕ) (calls : List RowsCall) → ReadWith list calls → 1 ≤ length (allRows calls)
-    → length (allRows calls) ≤ book-rows → (settings : Settings) → MakesBook list (flatMap rowsWritten calls) (allRows calls) settings
+    → length (allRows calls) ≤ book-rows → (settings : Settings)
+    → MakesBook list (flatMap rowsWritten calls) (allRows calls) settings
 make-book list calls read some few settings =
     rows-book list (flatMap rowsWritten calls) (allRows calls) (list-read list calls read some)
     (record { some = some; few = few; each = all-fit list calls read }) (all-written list calls read) settings

@@ -83,4 +83,5 @@ module _ (names : List (List ℕ)) (chosen : List ℕ) where
       (decided (tells-hasRow (t .name) names))
 
 pub children-are-known : ChildrenKnown
-children-are-known names chosen plan free = traces-known names chosen [] (plan .element) (plan .after .bytes) (faultless-tags names chosen plan free)
+children-are-known names chosen plan free =
+    traces-known names chosen [] (plan .element) (plan .after .bytes) (faultless-tags names chosen plan free)

@@ -193,7 +193,8 @@ module _ (judge : Tag → ℕ) (q : Place) (p b : ℕ) (s : List ℕ) where
 
     -- where the byte leads to a place
     outcome-goes : (x : Bool) → eqb faultHere 0 ≡ x → Outcome judge r (suc p) s (readPlanFrom judge r (suc p) s)
-        → Outcome judge q p (b ∷ s) (elim x [ true ↦ withTags (met q b s) (readPlanFrom judge r (suc p) s) | false ↦ refusedAt faultHere p ])
+        → Outcome judge q p (b ∷ s)
+        (elim x [ true ↦ withTags (met q b s) (readPlanFrom judge r (suc p) s) | false ↦ refusedAt faultHere p ])
     outcome-goes true f h = outcome-on (tells-eqb faultHere 0 .fact f) (readPlanFrom judge r (suc p) s) h
     outcome-goes false f h = outcome-judged (not-told (tells-eqb faultHere 0) f)
 

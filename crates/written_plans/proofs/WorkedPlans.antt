@@ -7,12 +7,13 @@ use Rattle.base.specs.Limits.{too-many}
 use Rattle.model.specs.Fields.{nameOk, nameNumber}
 use Rattle.written_plans.specs.Reading.{readPlan, readPlanFrom, beginsName, step, met, tagFault, isChild, ended, afterName, afterEnd}
 use Rattle.written_plans.specs.Reading.{endBegins, rowsIn, rowAfter, rowsFault}
-use Rattle.written_plans.specs.WorkedPlans.{sameRows, holds, examples, WorkedPlansHold}
+use Rattle.model.specs.WorkedDays.{sameRows}
+use Rattle.written_plans.specs.WorkedPlans.{times, holds, examples, WorkedPlansHold}
 
 -- the examples, one after the other
 examples-hold : all holds examples ≡ true
 unfolding all any same hasRow nameOk nameNumber readPlan readPlanFrom beginsName step met tagFault isChild ended afterName afterEnd
-    endBegins rowsIn rowAfter sameRows
+    endBegins rowsIn rowAfter sameRows times
 examples-hold = refl
 
 -- too many rows, which are too long

@@ -56,7 +56,8 @@ pass-white q stays quiet (b ∷ g) s white =
 -- ---- names
 
 -- no name goes on with a byte that is in none
-pub name-ends : (n : List ℕ) (b : ℕ) → ((m : List ℕ) → nameOk (n ++ (b ∷ m)) ≡ true → ⊥) → beginsName (n ++ (b ∷ [])) ≡ false
+pub name-ends : (n : List ℕ) (b : ℕ) → ((m : List ℕ) → nameOk (n ++ (b ∷ m)) ≡ true → ⊥)
+    → beginsName (n ++ (b ∷ [])) ≡ false
 name-ends n b none =
     let longer = n ++ (b ∷ []) in
     told-false (tells-itself (beginsName longer))
@@ -118,12 +119,14 @@ pass-name-end around n b s r ok ends goes =
     subst (λ z. Passes (naming around n) (b ∷ s) z r s) meets (pass (naming around n) r b s here)
 
 -- white space after a name
-white-after-name : (around : List (List ℕ)) (n : List ℕ) (b : ℕ) → isWhite b ≡ true → afterName around n b ≡ go (named around n)
+white-after-name : (around : List (List ℕ)) (n : List ℕ) (b : ℕ) → isWhite b ≡ true
+    → afterName around n b ≡ go (named around n)
 unfolding afterName
 white-after-name around n b white = rw (white)
 
 -- white space after a name, or none, and a byte that ends the name
-pass-after-name : (around : List (List ℕ)) (n g : List ℕ) (b : ℕ) (s : List ℕ) (r : Place) → nameOk n ≡ true → all isWhite g ≡ true
+pass-after-name : (around : List (List ℕ)) (n g : List ℕ) (b : ℕ) (s : List ℕ) (r : Place)
+    → nameOk n ≡ true → all isWhite g ≡ true
     → beginsName (n ++ (b ∷ [])) ≡ false → afterName around n b ≡ go r
     → Passes (naming around n) (g ++ (b ∷ s)) (tag around n (g ++ (b ∷ s)) ∷ []) r s
 unfolding step all met
@@ -214,7 +217,8 @@ pass-written n around (full m g inner e c) s =
 
 -- one element and nothing else is an empty-element tag, or a start tag, a content and an end tag
 pub by-element : (P : Content → Type 0) → ((n : Name) (g : Space) → P (empty n g nothing))
-    → ((n : Name) (g : Space) (inner : Content) (e : Space) → P (full n g inner e nothing)) → (c : Content) → isElement c ≡ true → P c
+    → ((n : Name) (g : Space) (inner : Content) (e : Space) → P (full n g inner e nothing))
+    → (c : Content) → isElement c ≡ true → P c
 by-element P of-empty of-full nothing single = absurd (false≢true single)
 by-element P of-empty of-full (text b p c) single = absurd (false≢true single)
 by-element P of-empty of-full (empty n g nothing) single = of-empty n g

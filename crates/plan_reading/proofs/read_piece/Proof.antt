@@ -140,7 +140,8 @@ begin-element-requires c κs =
     let here = named (put .before .before) in
     let begun = entry here in
     let a = begun .args in
-    let shallow = fine-shallow (names begun) (soughtName (a .list .now) (a .sought)) (a .plan .now) (a .stack .now) (a .r .depth) (name here)
+    let shallow =
+    fine-shallow (names begun) (soughtName (a .list .now) (a .sought)) (a .plan .now) (a .stack .now) (a .r .depth) (name here)
     (drop (end here) (a .plan .now)) (fine put) in
     (found here .0 .here, (found here .1, (shallow, begun .pre .1 .1 .1 .0 .stacked)))
 
