@@ -1,15 +1,17 @@
-"""Runs the tests of this folder, or those that the arguments name; the last line is 'N passed, M failed'. No test is a failure."""
+"""Runs the tests of a folder, `run.py FOLDER`, or those of them that further arguments name; the last line is 'N passed, M failed'. No
+test is a failure."""
 import sys
 import unittest
 from pathlib import Path
 
-HERE = Path(__file__).resolve().parent
-sys.path[:0] = [str(HERE), str(HERE.parent.parent / "python")]
+ROOT = Path(__file__).resolve().parent.parent
 
 
 def main() -> int:
+    folder = Path(sys.argv[1]).resolve()
+    sys.path[:0] = [str(folder), str(ROOT / "python")]
     loader = unittest.defaultTestLoader
-    suite = loader.loadTestsFromNames(sys.argv[1:]) if sys.argv[1:] else loader.discover(str(HERE))
+    suite = loader.loadTestsFromNames(sys.argv[2:]) if sys.argv[2:] else loader.discover(str(folder))
     result = unittest.TextTestRunner(stream=sys.stdout, verbosity=1).run(suite)
     failed = len({test.id() for test, _ in result.failures + result.errors}) + len(result.unexpectedSuccesses)
     passed = result.testsRun - failed - len(result.skipped)
