@@ -47,10 +47,11 @@ class Seeds(unittest.TestCase):
 
     def test_division_in_any_function(self):
         reached = PLANS.reached("plans_build")
+        anyway = set(findings(PLANS, "plans_build"))
         for function in PLANS.functions:
             with self.subTest(function):
-                told = [f"{function} divides: div    %rcx"] if function in reached else []
-                self.assertEqual(findings(self.with_division_in(function), "plans_build"), told)
+                told = {f"{function} divides: div    %rcx"} if function in reached else set()
+                self.assertEqual(set(findings(self.with_division_in(function), "plans_build")) - anyway, told)
 
     def test_what_gcc_makes(self):
         """Told exactly where each function has a section, as in the archive; in one section a jump table counts as naming all of it."""

@@ -13,6 +13,8 @@ ENTRIES = TREE.entries()
 BUILD = ENTRIES["plans_build"]
 # a function that many calls lead to, with numbers `row` and `column`
 DEEP = TREE.functions["base::cells::cell"]
+# what is wrong without a seed, but for its lines
+ANYWAY = {found.split(": ")[1] for found in findings(TREE, BUILD)}
 
 FOUND = {
     "let seed = row / 3;": "divides by 3",
@@ -67,10 +69,11 @@ def compiled_reach(functions: Dict[str, str], root: str) -> Set[str]:
 
 
 def found_with(file: str, place: int, seed: str) -> List[str]:
-    """What build is found to reach where a file has a text more."""
+    """What is found of build, beside what is found anyway, where a file has a text more."""
     text = (ROOT / file).read_text()
     changed = Module(file, f"{text[:place]} {seed}\n{text[place:]}")
-    return findings(Sources([changed if module.file == file else module for module in TREE.modules]), BUILD)
+    found = findings(Sources([changed if module.file == file else module for module in TREE.modules]), BUILD)
+    return [line for line in found if line.split(": ")[1] not in ANYWAY]
 
 
 class Entries(unittest.TestCase):
