@@ -13,7 +13,8 @@ def main() -> int:
     loader = unittest.defaultTestLoader
     suite = loader.loadTestsFromNames(sys.argv[2:]) if sys.argv[2:] else loader.discover(str(folder))
     result = unittest.TextTestRunner(stream=sys.stdout, verbosity=1).run(suite)
-    failed = len({test.id() for test, _ in result.failures + result.errors}) + len(result.unexpectedSuccesses)
+    # a test of several parts counts once
+    failed = len({getattr(test, "test_case", test).id() for test, _ in result.failures + result.errors}) + len(result.unexpectedSuccesses)
     passed = result.testsRun - failed - len(result.skipped)
     print(f"{passed} passed, {failed} failed")
     return 0 if passed > 0 and failed == 0 and not result.skipped else 1
