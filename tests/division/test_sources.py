@@ -55,6 +55,8 @@ NOT_FOUND = [
     "let seed = &work[row / 256..];",
     "let seed = loop { break (row); };",
 ]
+# a division in what the compiler makes, and the number that it is by
+MADE = re.compile(r"(?:\((?:div|rem) \w+\)|float(?:Div|Rem)) (?:\((?:copy|move) \(place \d+ lnil\)\) \(int \d+ (\d+)\))?")
 
 
 def compiled() -> Dict[str, str]:
@@ -105,8 +107,10 @@ class Entries(unittest.TestCase):
                 followed = compiled_reach(functions, path)
                 self.assertEqual(followed - set(read), set())
                 for function in followed:
-                    made = re.findall(r"\((?:div|rem) |float(?:Div|Rem)", functions[function])
+                    made = MADE.findall(functions[function])
                     self.assertEqual(len(divisions(read[function])), len(made), function)
+                    if name not in DIVIDING:
+                        self.assertEqual(set(made) - {"256"}, set(), function)
 
 
 class Seeds(unittest.TestCase):
