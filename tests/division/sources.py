@@ -15,7 +15,7 @@ UNREAD = re.compile(r"/\*|\bmod\s+\w+\s*\{|\bfn\s+[A-Z]\w*")
 UNREAD_IN_CLAUSE = re.compile(r'"|--|\{-|//|/\*')
 USE = re.compile(r"\b(ghost\s+|pub\s+)?use\s+([^;]*);")
 METHODS = re.compile(r"\bimpl\b[^{]*?(\w+)\s*(?:<[^{]*>\s*)?(?=\{)")
-FUNCTION = re.compile(r"\bfn\s+(\w+)(?:[^{;]|;[^{;]*\])*(?=\{)")
+FUNCTION = re.compile(r"\bfn\s+(\w+)(?:[^{;]|;[^{;\]]*\])*(?=\{)")
 EXPORTED = re.compile(r"#\[no_mangle\]\s*pub\s+extern\s+fn\s+(\w+)")
 # a path; a dot before it that makes it a field or a method; what makes it a call
 NAMED = re.compile(r"((?<!\.)\.\s*)?\b([^\W\d]\w*(?:\s*::\s*\w+)*)((?:\s*::\s*<[^()]*>)?[\s)]*\(|![(\[{])?")
