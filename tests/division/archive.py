@@ -10,7 +10,7 @@ from pathlib import Path
 from typing import Dict, List, NamedTuple, Set
 
 FORMAT = re.compile(r":\s+file format (\S+)$", re.MULTILINE)
-SYMBOL = re.compile(r"^[0-9a-f]+ (.{7}) (\S+)\t[0-9a-f]+ (?:\.hidden )?(.+)$", re.MULTILINE)
+SYMBOL = re.compile(r"^[0-9a-f]+ (.{7}) (\S+)\t[0-9a-f]+ (?:\.\w+ )?(.+)$", re.MULTILINE)
 RECORDS = re.compile(r"^RELOCATION RECORDS FOR \[(.+)\]:\nOFFSET.*\n((?:.+\n)*)", re.MULTILINE)
 BLOCK = re.compile(r"^[0-9a-f]+ <(.+)>:\n((?:.+\n)*)", re.MULTILINE)
 INSTRUCTION = re.compile(r"^ *[0-9a-f]+:\t(.+)$", re.MULTILINE)
@@ -58,7 +58,7 @@ class Archive:
             code.names.update(RELOCATED.findall(text), POINTED.findall(text))
 
     def within(self, name: str) -> Set[str]:
-        """What a name leads to that is no function: the functions of a section of code, or what data names."""
+        """What stands in the section of a name: its functions, for code may go on into the next one, or else what its data names."""
         found = set()
         for section in self.sections[name]:
             code = {function for function in self.functions if section in self.sections[function]}
@@ -72,7 +72,9 @@ class Archive:
         while todo:
             name = todo.pop()
             found.add(name)
-            todo |= (self.functions[name].names if name in self.functions else self.within(name)) - found
+            todo |= self.within(name) - found
+            if name in self.functions:
+                todo |= self.functions[name].names - found
         return found
 
     def findings_in(self, name: str) -> List[str]:
@@ -81,7 +83,7 @@ class Archive:
         has_table = any(self.within(other) for other in code.names if other not in self.functions)
         found = []
         for whole in code.instructions:
-            instruction = re.sub(r"<.*>|#.*", "", whole)
+            instruction = re.sub(r"[<#\t].*", "", whole)
             if DIVISION.search(instruction):
                 found.append(f"{name} divides: {whole}")
             if "(bad)" in instruction:

@@ -1,23 +1,29 @@
 """Which functions a function of the Rattle sources reaches, and what they divide by: read from the text alone, without the kit. Contracts,
 comments and literal texts are no executable code, and constants are computed by the compiler. Whatever is named counts as called, and
-a call that leads to no function of these sources is told like a division: nothing is passed over."""
+a call that leads to no function of these sources is told like a division; forms that would be misread are refused: nothing is passed
+over."""
 import re
 from pathlib import Path
-from typing import Dict, FrozenSet, Iterator, List, NamedTuple
+from typing import Dict, FrozenSet, Iterator, List, NamedTuple, Optional
 
-NO_CODE = re.compile(r"""//[^\n]* | /\*.*?\*/ | b?"(?:\\.|[^"\\])*" | b?'(?:\\[^']+|[^'\\])'""", re.VERBOSE | re.DOTALL)
-CLAUSE = re.compile(r"\b(?:requires|ensures)\b(?:\s+\w+)?\s*(?=\{)")
+NO_CODE = re.compile(
+    r"""//[^\n]* | /\*(?:(?!/\*).)*?\*/ | \bbr(\#*)".*?"\1 | b?"(?:\\.|[^"\\])*" | b?'(?:\\[^']+|[^'\\])'""", re.VERBOSE | re.DOTALL
+)
+CLAUSE = re.compile(r"\b(?:(?:requires|ensures)\b(?:\s+\w+)?|ghost)\s*(?=\{)")
+# Not read: comments in comments, modules inside a file, functions named like types; and in a contract what may hide a brace.
+UNREAD = re.compile(r"/\*|\bmod\s+\w+\s*\{|\bfn\s+[A-Z]\w*")
+UNREAD_IN_CLAUSE = re.compile(r'"|--|\{-|//|/\*')
 USE = re.compile(r"\b(ghost\s+|pub\s+)?use\s+([^;]*);")
 METHODS = re.compile(r"\bimpl\b[^{]*?(\w+)\s*(?:<[^{]*>\s*)?(?=\{)")
-FUNCTION = re.compile(r"\bfn\s+(\w+)[^{]*(?=\{)")
+FUNCTION = re.compile(r"\bfn\s+(\w+)(?:[^{;]|;[^{;\]]*\])*(?=\{)")
 EXPORTED = re.compile(r"#\[no_mangle\]\s*pub\s+extern\s+fn\s+(\w+)")
 # a path; a dot before it that makes it a field or a method; what makes it a call
-NAMED = re.compile(r"((?<!\.)\.\s*)?\b([^\W\d]\w*(?:\s*::\s*\w+)*)((?:\s*::\s*<[^()]*>)?\s*\(|![(\[{])?")
-DIVISION = re.compile(r"[/%]=?\s*(\w*\.?)")
+NAMED = re.compile(r"((?<!\.)\.\s*)?\b([^\W\d]\w*(?:\s*::\s*\w+)*)((?:\s*::\s*<[^()]*>)?[\s)]*\(|![(\[{])?")
+DIVISION = re.compile(r"[/%]=?\s*(\w*(?:\s+as\b|\.(?!\.))?)")
 BYTE = re.compile(r"256(?:u16|u32|u64|usize)?")
 
 # Words before a parenthesis that call nothing, and the calls that Rattle itself has on slices and integers: none of these divides.
-KEYWORDS = {"fn", "if", "while", "match", "return", "else", "in", "mut", "as"}
+KEYWORDS = {"fn", "if", "while", "match", "return", "else", "in", "mut", "as", "break"}
 OWN_CALLS = re.compile(r"\.len|[iu](?:8|16|32|64|size)::(?:count_ones|leading_zeros|trailing_zeros)")
 
 
@@ -55,11 +61,19 @@ def closing(code: str, start: int) -> int:
     raise ValueError("a brace is not closed")
 
 
-def executable(text: str) -> str:
+def refuse(file: str, found: Optional[re.Match]) -> None:
+    if found:
+        line = found.string.count("\n", 0, found.start()) + 1
+        raise ValueError(f"{file}:{line}: '{found.group()}' is not read: write it in another form")
+
+
+def executable(file: str, text: str) -> str:
     code = NO_CODE.sub(lambda found: blank(found.group()), text)
     while clause := CLAUSE.search(code):
         end = closing(code, clause.end())
+        refuse(file, UNREAD_IN_CLAUSE.search(text, clause.end(), end))
         code = code[: clause.start()] + blank(code[clause.start() : end]) + code[end:]
+    refuse(file, UNREAD.search(code))
     return code
 
 
@@ -69,8 +83,8 @@ class Module:
     def __init__(self, file: str, text: str):
         self.file = file
         self.crate, rest = re.fullmatch(r"crates/(\w+)/src/(.*)\.rt", file).groups()
-        self.path = "::".join([self.crate] + [part for part in rest.split("/") if part not in ("lib", "main")])
-        self.code = executable(text)
+        self.path = "::".join([self.crate] + (rest.split("/") if rest not in ("lib", "main") else []))
+        self.code = executable(file, text)
         self.uses: Dict[str, str] = {}
         for kind, path in USE.findall(self.code):
             if kind.strip() != "ghost":
@@ -79,7 +93,7 @@ class Module:
 
     def use(self, path: str) -> None:
         name = path.split("::")[-1]
-        if not re.fullmatch(r"\w+(::\w+)*", path) or name in self.uses:
+        if not re.fullmatch(r"(?!(?:self|super)\b)\w+(::\w+)*", path) or name in self.uses:
             raise ValueError(f"{self.file}: 'use {path}' is not read: use one name at a time, by its own name, and no two alike")
         self.uses[name] = re.sub(r"^crate\b", self.crate, path)
 

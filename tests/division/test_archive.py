@@ -13,6 +13,15 @@ from sources import Sources, read_modules
 HERE = Path(__file__).resolve().parent
 PLANS = Archive(LIBRARY)
 DIVIDE = bytes.fromhex("48f7f1")  # div %rcx
+DIVISIONS = """divb %cl; divw %cx; divl %ecx; divq (%rsi); idivl %ecx; idivq (%rsi); divss %xmm1, %xmm0; divpd %xmm1, %xmm0
+vdivsd %xmm1, %xmm0, %xmm2; vdivps %ymm1, %ymm0, %ymm2; fdivp; fdivrs (%rsi); fidivl (%rsi); fidivrs (%rsi); fprem; fprem1"""
+TOLD = {
+    **{division.strip(): "divides" for division in re.split("[;\n]", DIVISIONS)},
+    ".byte 0xf3; divl %ecx": "divides",
+    "nop; .globl next; next: divl %ecx": "divides",
+    ".byte 6": "is not read",
+    "call divisors": None,
+}
 
 
 class Entries(unittest.TestCase):
@@ -67,6 +76,20 @@ class Seeds(unittest.TestCase):
                     kinds = {kind for kind in ("divides", "not followed") if kind in found}
                     expected = set(told.split(", ")) - {"nothing"}
                     self.assertEqual(kinds & expected if "-fno-function-sections" in options else kinds, expected, found)
+
+    def assembled(self, text: str) -> Archive:
+        subprocess.run(["gcc", "-x", "assembler", "-c", "-o", str(self.object), "-"], input=text, text=True, check=True)
+        return Archive(self.object)
+
+    def test_instructions(self):
+        for code, told in TOLD.items():
+            with self.subTest(code):
+                archive = self.assembled(f'.globl start\nstart: {code}\nret\n.section .text.other, "ax"\n.globl divisors\ndivisors: ret\n')
+                self.assertEqual([told in found for found in findings(archive, "start")], [True] if told else [])
+
+    def test_symbols_that_are_hidden(self):
+        archive = self.assembled(".globl one, two, three\none: two: three: ret\n.hidden two\n.protected three\n")
+        self.assertEqual(archive.exported, {"one", "two", "three"})
 
     def test_another_processor(self):
         subprocess.run(["objcopy", "-I", "binary", "-O", "elf32-i386", str(HERE / "seeds.c"), str(self.object)], check=True)

@@ -38,6 +38,13 @@ FOUND = {
     "let seed = &work[0..third(row)];": "calls third, which is not followed",
     "let seed = super::third(row);": "calls super::third, which is not followed",
     "let seed = (|x: usize| x / 3)(row);": "divides by 3",
+    'let seed = br"\\"; let more = row / 3; let last = br"\\";': "divides by 3",
+    'let seed = br#"""#; let more = row / 3; let last = br#"""#;': "divides by 3",
+    "let seed = row as f64 / 256 as f64;": "divides by 256 as",
+    "let seed = (std::num::quotient)(row, 3);": "calls std::num::quotient, which is not followed",
+    "let seed = Unknown::third(row);": "calls Unknown::third, which is not followed",
+    "let seed = row.length(3);": "calls length, which is not followed",
+    'let seed = b"\\""; let more = row / 3; let last = b"\\"";': "divides by 3",
 }
 NOT_FOUND = [
     "// row / 3",
@@ -47,7 +54,11 @@ NOT_FOUND = [
     "let seed = b'/';",
     'let seed = b"row / 3";',
     "let seed = row >> 3;",
+    "let seed = &work[row / 256..];",
+    "let seed = loop { break (row); };",
 ]
+# a division in what the compiler makes, and the number that it is by
+MADE = re.compile(r"(?:\((?:div|rem) \w+\)|float(?:Div|Rem)) (?:\((?:copy|move) \(place \d+ lnil\)\) \(int \d+ (\d+)\))?")
 
 
 def compiled() -> Dict[str, str]:
@@ -99,8 +110,10 @@ class Entries(unittest.TestCase):
                 followed = compiled_reach(functions, path)
                 self.assertEqual(followed - set(read), set())
                 for function in followed:
-                    made = re.findall(r"\((?:div|rem) |float(?:Div|Rem)", functions[function])
+                    made = MADE.findall(functions[function])
                     self.assertEqual(len(divisions(read[function])), len(made), function)
+                    if name not in DIVIDING:
+                        self.assertEqual(set(made) - {"256"}, set(), function)
 
 
 class Seeds(unittest.TestCase):
@@ -123,6 +136,40 @@ class Seeds(unittest.TestCase):
     def test_contract_is_not_executed(self):
         self.assertEqual(found_with(DEEP.module.file, DEEP.body, "ensures thirds { λ r. ⌜ r ≡ row / 3 ⌝ }"), [])
 
+    def test_body_after_a_contract(self):
+        for contract in ("requires { ⌜ x ⌝ }", "ensures same { λ r. ⌜ r ≡ row ⌝ }", "ghost { Nat }", "ghost /* { */ { Nat }"):
+            with self.subTest(contract):
+                found = found_with(DEEP.module.file, DEEP.body, f"{contract} {{ row / 3 }}\nfn rest()")
+                self.assertTrue(found and found[0].endswith("base::cells::cell divides by 3"), found)
+
+    def test_braces_in_a_signature(self):
+        self.assertNotEqual(found_with(DEEP.module.file, DEEP.start, "(row: [usize; { 3 }]) -> usize { row[0] / 3 }\nfn rest"), [])
+
+    def test_ways_to_name_a_function(self):
+        third = "fn third(x: usize) -> usize { deep(x) }"
+        others = "fn deep(x: usize) -> usize { x / 3 } impl R { fn third(x: usize) -> usize { x } }"
+        for call in ("third(x)", "self::third(x)", "super::m::third(x)", "crate::m::third(x)", "Self::third(x)", "x.third()"):
+            text = f"{others} {third} impl S {{ {third} fn start(x: usize) -> usize {{ {call} }} }}"
+            with self.subTest(call):
+                (found,) = findings(Sources([Module("crates/t/src/m.rt", text)]), "t::m::S::start")
+                self.assertTrue(found.endswith("deep divides by 3"), found)
+
+    def test_paths_of_files(self):
+        paths = {"lib": "t", "main": "t", "m": "t::m", "m/k": "t::m::k", "m/lib": "t::m::lib"}
+        self.assertEqual({file: Module(f"crates/t/src/{file}.rt", "").path for file in paths}, paths)
+
+    def test_forms_that_are_not_read(self):
+        for form in (
+            "mod inner { fn third(x: usize) -> usize { x / 3 } }",
+            "fn Third(x: usize) -> usize { x / 3 }",
+            '/* /* */ " */ // "',
+            "fn third(x: usize) -> usize ensures { λ r. ⌜ r ⌝ -- } {\n } { x / 3 }",
+            "fn third(x: usize) -> usize ensures { λ r. {- } { -} ⌜ r ⌝ } { x / 3 }",
+            'fn third(x: usize) -> usize ensures { λ r. ⌜ r ≡ "} {" ⌝ } { x / 3 }',
+        ):
+            with self.subTest(form), self.assertRaisesRegex(ValueError, "is not read"):
+                found_with(DEEP.module.file, 0, form)
+
     def test_function_that_nothing_calls(self):
         self.assertEqual(found_with(DEEP.module.file, 0, "fn third(x: usize) -> usize { x / 3 }"), [])
 
@@ -132,6 +179,13 @@ class Seeds(unittest.TestCase):
         self.assertEqual(found, f"{DEEP.module.file}:{line}: base::cells::cell divides by 3")
 
     def test_uses_that_are_not_read(self):
-        for use in ("use writing::*;", "use writing::{put_two};", "use writing::put_two as two;", "pub use writing::put_two;"):
+        for use in (
+            "use writing::*;",
+            "use writing::{put_two};",
+            "use writing::put_two as two;",
+            "pub use writing::put_two;",
+            "use super::put_two;",
+            "use writing::put_two; use base::put_two;",
+        ):
             with self.subTest(use), self.assertRaisesRegex(ValueError, "is not read"):
                 found_with(DEEP.module.file, 0, use)
