@@ -2,7 +2,8 @@
 .DEFAULT_GOAL := help
 .DELETE_ON_ERROR:
 .NOTPARALLEL:
-.PHONY: help run test check lib listing install uninstall header example images test-command test-division test-outside test-c test-install seeded-fault fuzz bench bench-search fmt
+.PHONY: help run test check lib listing install uninstall header example images fuzz bench bench-search fmt
+.PHONY: test-command test-division test-outside test-c test-install seeded-fault
 
 help:
 	@echo "make run           lists a shipped book of forty days: the model that the library infers from it"

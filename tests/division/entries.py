@@ -3,7 +3,7 @@ import os
 from pathlib import Path
 
 ROOT = Path(__file__).resolve().parents[2]
-LIBRARY = Path(os.environ.get("PLANS_LIB", ROOT / "target" / "staticlib")) / "libplans.a"
+LIBRARY = Path(os.environ["PLANS_LIB"]) / "libplans.a"
 
 # Every entry of the library is held to it that nothing divides but by 256, also one that comes later, but for these, with what they
 # divide by: a listing has decimal numbers, and a plan's names are found by hashes and by halving a list. None of them is a build entry.

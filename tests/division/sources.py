@@ -1,7 +1,6 @@
 """Which functions a function of the Rattle sources reaches, and what they divide by: read from the text alone, without the kit. Contracts,
-comments and literal texts are no executable code, and constants are computed by the compiler. Whatever is named counts as called, and
-a call that leads to no function of these sources is told like a division; forms that would be misread are refused: nothing is passed
-over."""
+comments and literal texts are no executable code, and constants are computed by the compiler. Whatever is named counts as called, a
+call that leads to no function of these sources is told like a division, and forms that would be misread are refused."""
 import re
 from pathlib import Path
 from typing import Dict, FrozenSet, Iterator, List, NamedTuple, Optional
@@ -23,7 +22,7 @@ DIVISION = re.compile(r"[/%]=?\s*(\w*(?:\s+as\b|\.(?!\.))?)")
 BYTE = re.compile(r"256(?:u16|u32|u64|usize)?")
 
 # Words before a parenthesis that call nothing, and the calls that Rattle itself has on slices and integers: none of these divides.
-KEYWORDS = {"fn", "if", "while", "match", "return", "else", "in", "mut", "as", "break"}
+KEYWORDS = {"if", "while", "match", "return", "break", "let", "in", "mut"}
 OWN_CALLS = re.compile(r"\.len|[iu](?:8|16|32|64|size)::(?:count_ones|leading_zeros|trailing_zeros)")
 
 
@@ -120,7 +119,8 @@ class Sources:
         return {name: f"{module.path}::{name}" for module in self.modules for name in EXPORTED.findall(module.code)}
 
     def meant(self, function: Function, field: bool, path: str) -> List[str]:
-        """The functions that a name inside a function may mean; of a method, all methods with its name."""
+        """The functions that a name inside a function may mean: a path begins with a crate or in the module; of a method, all methods with
+        its name."""
         if field:
             methods = (other for other in self.functions.values() if other.owner != other.module.path)
             return [method.path for method in methods if method.path == f"{method.owner}::{path}"]

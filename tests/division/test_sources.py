@@ -96,7 +96,7 @@ class Entries(unittest.TestCase):
             with self.subTest(name):
                 self.assertEqual(findings(TREE, path, DIVIDING.get(name, frozenset())), [])
 
-    def test_those_that_may_divide_do_so_and_build_nothing(self):
+    def test_those_that_may_divide_do_so_and_are_no_build_entries(self):
         for name, allowed in DIVIDING.items():
             with self.subTest(name):
                 self.assertEqual({found.split()[-1] for found in findings(TREE, ENTRIES[name])}, allowed)
