@@ -2,7 +2,8 @@
 .DEFAULT_GOAL := help
 .DELETE_ON_ERROR:
 .NOTPARALLEL:
-.PHONY: help run test check lib listing install uninstall header example images test-command test-outside test-c test-install seeded-fault fuzz bench bench-search fmt
+.PHONY: help run test check lib listing install uninstall header example images fuzz bench bench-search fmt
+.PHONY: test-command test-division test-outside test-c test-install seeded-fault
 
 help:
 	@echo "make run           lists a shipped book of forty days: the model that the library infers from it"
@@ -20,6 +21,7 @@ help:
 	@echo
 	@echo "make check         proves what changed since the last check"
 	@echo "make test-command  tests of the command plans and its module, the texts, the drawings and the listing program"
+	@echo "make test-division that nothing which build reaches divides, in the sources and in the compiled archive"
 	@echo "make test-outside  compares the library with an independent implementation on generated inputs"
 	@echo "make test-c        the header and the library from C, with sanitizers and under valgrind"
 	@echo "make test-install  an installation: every example built by pkg-config alone, and nothing left after uninstall"
@@ -92,6 +94,9 @@ images: python lib
 
 test-command: python lib listing
 	@scripts/test-command
+
+test-division: kit python lib
+	@scripts/test-division
 
 test-outside: lib listing
 	@scripts/test-outside

@@ -19,6 +19,8 @@
  * - A call uses no global state: calls on different buffers may run at the same time. It takes less than 40 KiB of stack (measured,
  *   docs/FIGURES.md).
  * - The library takes two symbols from outside, memcpy and memset.
+ * - plans_build, plans_rewrite and plans_walk execute no division: their sources divide by nothing but 256, to split a number into
+ *   its bytes, which the compiler does by shifts (both checked, docs/PROOFS.md).
  */
 #ifndef PLANS_H
 #define PLANS_H
