@@ -3,7 +3,8 @@ use mathlib.Core.Path.{_≡_, refl, sym, subst}
 use mathlib.Core.Logic.{inr, ⊎-elim}
 use mathlib.Core.Bool.{Bool, true, false, cond}
 use mathlib.Core.List.{List, [], _∷_, _++_, List·Memᴰ as In, List·Memᴰ·head as here, List·Memᴰ·tail as there}
-use mathlib.Core.List.{List·Memᴰ·not-nil, List·Memᴰ·cases-cons, List·Memᴰ·append-cases, Memᴰ·append-left, Memᴰ·append-right}
+use mathlib.Core.List.{List·Memᴰ·not-nil, List·Memᴰ·cases-cons, List·Memᴰ·append-cases}
+use mathlib.Core.List.{Memᴰ·append-left, Memᴰ·append-right}
 use Prim.Native.Nat.{ℕ}
 use Rattle.base.specs.Limits.{unknown-child}
 use Rattle.base.specs.Lists.{same}
@@ -20,10 +21,13 @@ module _ (names : List (List ℕ)) (chosen : List ℕ) where
   abbrev KnownTags : List Tag → Type 0
   KnownTags ts = (t : Tag) → In t ts → ChildOf chosen t → In (t .name) names
 
+  -- each of these children has one of the names
+  abbrev KnownRow : List (List ℕ) → Type 0
+  KnownRow row = (n : List ℕ) → In n row → In n names
+
   -- what stands directly in a chosen element
   children-known :
-      (around : List (List ℕ)) (c : Content) (s : List ℕ) → KnownTags (tags (chosen ∷ around) c s) → (n : List ℕ)
-      → In n (children c) → In n names
+      (around : List (List ℕ)) (c : Content) (s : List ℕ) → KnownTags (tags (chosen ∷ around) c s) → KnownRow (children c)
   unfolding tags children
   children-known around nothing s known n m = absurd (List·Memᴰ·not-nil m)
   children-known around (text b e c) s known n m = children-known around c s known n m
@@ -36,8 +40,9 @@ module _ (names : List (List ℕ)) (chosen : List ℕ) where
       (λ r. children-known around c s (λ t i. known t (there (Memᴰ·append-right first i))) n r) (List·Memᴰ·cases-cons m)
 
   -- a trace more where the element is chosen
-  one-more : (b : Bool) (row : List (List ℕ)) (rows : List (List (List ℕ))) → (b ≡ true → (n : List ℕ) → In n row → In n names)
-      → Known names rows → Known names (cond b (row ∷ rows) rows)
+  one-more :
+      (b : Bool) (row : List (List ℕ)) (rows : List (List (List ℕ))) → (b ≡ true → KnownRow row) → Known names rows
+      → Known names (cond b (row ∷ rows) rows)
   one-more true row rows first others r m n i =
       ⊎-elim (λ e. first refl n (subst (λ z. In n z) e i)) (λ j. others r j n i) (List·Memᴰ·cases-cons m)
   one-more false row rows first others r m n i = others r m n i

@@ -35,10 +35,13 @@ pub record Judged (judge : Tag → ℕ) (q : Place) (s : List ℕ) (i number : �
 abbrev pub Clear : (Tag → ℕ) → Place → List ℕ → ℕ → Type 0
 Clear judge q s i = (j : ℕ) (t : Tag) → j < i → In t (metAt q j s) → judge t ≡ 0
 
+-- no tag met is refused
+abbrev pub AllFine : (Tag → ℕ) → Place → List ℕ → Type 0
+AllFine judge q s = (j : ℕ) (t : Tag) → In t (metAt q j s) → judge t ≡ 0
+
 -- what reading comes to, the first byte being byte p
 pub data Outcome (judge : Tag → ℕ) (q : Place) (p : ℕ) (s : List ℕ) (r : Reading) : Type 0 where
-  accepted : r .number ≡ 0 → run q s ≡ go after → r .met-tags ≡ tagsFrom q s
-      → ((j : ℕ) (t : Tag) → In t (metAt q j s) → judge t ≡ 0) → Outcome judge q p s r
+  accepted : r .number ≡ 0 → run q s ≡ go after → r .met-tags ≡ tagsFrom q s → AllFine judge q s → Outcome judge q p s r
   blocked : (i : ℕ) → r .place ≡ p + i → Clear judge q s i → r .number ≡ bad-plan → Blocked q s i → Outcome judge q p s r
   judged-at : (i : ℕ) → r .place ≡ p + i → Clear judge q s i → Judged judge q s i (r .number) → Outcome judge q p s r
 
@@ -156,7 +159,7 @@ module _ (judge : Tag → ℕ) (q : Place) (p b : ℕ) (s : List ℕ) where
       clear-on i c (suc j) t h m = c j t (omega arith) (subst (λ z. In t z) (met-later q b s e j) m)
 
       -- no tag at all is refused
-      all-fine : ((j : ℕ) (t : Tag) → In t (metAt r j s) → judge t ≡ 0) → (j : ℕ) (t : Tag) → In t (metAt q j (b ∷ s)) → judge t ≡ 0
+      all-fine : AllFine judge r s → AllFine judge q (b ∷ s)
       all-fine c j t m = clear-on (suc j) (λ k v h. c k v) j t (omega arith) m
 
       -- what is blocked later

@@ -5,8 +5,8 @@ use lib.ListN.{replicate}
 use Rattle.base.specs.Lists.{all, any, same, hasRow}
 use Rattle.base.specs.Limits.{too-many}
 use Rattle.model.specs.Fields.{nameOk, nameNumber}
-use Rattle.written_plans.specs.Reading.{readPlan, readPlanFrom, beginsName, step, met, tagFault, isChild, ended, afterName, afterEnd}
-use Rattle.written_plans.specs.Reading.{endBegins, rowsIn, rowAfter, rowsFault}
+use Rattle.written_plans.specs.Reading.{readPlan, readPlanFrom, beginsName, step, met, tagFault, isChild, ended}
+use Rattle.written_plans.specs.Reading.{afterName, afterEnd, endBegins, rowsIn, rowAfter, rowsFault}
 use Rattle.model.specs.WorkedDays.{sameRows}
 use Rattle.written_plans.specs.WorkedPlans.{times, holds, examples, WorkedPlansHold}
 
