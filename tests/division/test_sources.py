@@ -57,6 +57,20 @@ NOT_FOUND = [
     "let seed = &work[row / 256..];",
     "let seed = loop { break (row); };",
 ]
+NOT_READ = [
+    "use writing::*;",
+    "use writing::{put_two};",
+    "use writing::put_two as two;",
+    "pub use writing::put_two;",
+    "use super::put_two;",
+    "use writing::put_two; use base::put_two;",
+    "mod inner { fn third(x: usize) -> usize { x / 3 } }",
+    "fn Third(x: usize) -> usize { x / 3 }",
+    '/* /* */ " */ // "',
+    "fn third(x: usize) -> usize ensures { λ r. ⌜ r ⌝ -- } {\n } { x / 3 }",
+    "fn third(x: usize) -> usize ensures { λ r. {- } { -} ⌜ r ⌝ } { x / 3 }",
+    'fn third(x: usize) -> usize ensures { λ r. ⌜ r ≡ "} {" ⌝ } { x / 3 }',
+]
 # a division in what the compiler makes, and the number that it is by
 MADE = re.compile(r"(?:\((?:div|rem) \w+\)|float(?:Div|Rem)) (?:\((?:copy|move) \(place \d+ lnil\)\) \(int \d+ (\d+)\))?")
 
@@ -159,14 +173,7 @@ class Seeds(unittest.TestCase):
         self.assertEqual({file: Module(f"crates/t/src/{file}.rt", "").path for file in paths}, paths)
 
     def test_forms_that_are_not_read(self):
-        for form in (
-            "mod inner { fn third(x: usize) -> usize { x / 3 } }",
-            "fn Third(x: usize) -> usize { x / 3 }",
-            '/* /* */ " */ // "',
-            "fn third(x: usize) -> usize ensures { λ r. ⌜ r ⌝ -- } {\n } { x / 3 }",
-            "fn third(x: usize) -> usize ensures { λ r. {- } { -} ⌜ r ⌝ } { x / 3 }",
-            'fn third(x: usize) -> usize ensures { λ r. ⌜ r ≡ "} {" ⌝ } { x / 3 }',
-        ):
+        for form in NOT_READ:
             with self.subTest(form), self.assertRaisesRegex(ValueError, "is not read"):
                 found_with(DEEP.module.file, 0, form)
 
@@ -177,15 +184,3 @@ class Seeds(unittest.TestCase):
         (found,) = found_with(DEEP.module.file, DEEP.body + 1, "\n\nlet seed = row / 3;")
         line = DEEP.module.code.count("\n", 0, DEEP.body) + 3
         self.assertEqual(found, f"{DEEP.module.file}:{line}: base::cells::cell divides by 3")
-
-    def test_uses_that_are_not_read(self):
-        for use in (
-            "use writing::*;",
-            "use writing::{put_two};",
-            "use writing::put_two as two;",
-            "pub use writing::put_two;",
-            "use super::put_two;",
-            "use writing::put_two; use base::put_two;",
-        ):
-            with self.subTest(use), self.assertRaisesRegex(ValueError, "is not read"):
-                found_with(DEEP.module.file, 0, use)
