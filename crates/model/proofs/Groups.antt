@@ -8,10 +8,10 @@ use Prim.Native.Nat.{ℕ, zero, suc, _≤_, _<_}
 use native.Mathlib.Omega.{arith}
 use lib.ListN.{length, length-map}
 use Rattle.model.specs.Classes.{Word}
-use Rattle.base.specs.Lists.{numbersFrom}
+use Rattle.base.specs.Lists.{numbersFrom, Distinct}
 use Rattle.model.specs.Joinings.{apart, groupAt, groupsIn, mergedTo, merged, memberOf, groupAccepts}
 use Rattle.base.proofs.Tests.{Tells, tells-eqb, tells-and, tells-any, tells-by, tells-isIn, tells-hasRow, decided, eq-dec}
-use Rattle.base.proofs.Lists.{Distinct, map-in, distinct-length, distinct-shorter}
+use Rattle.base.proofs.Lists.{map-in, distinct-length, distinct-shorter}
 use Rattle.base.proofs.Places.{length-numbersFrom}
 use Rattle.model.proofs.GroupCases.{groupAt-first, groupAt-later, first-or-later, no-groups, fits-rest, memberOf-first}
 use Rattle.model.proofs.GroupCases.{memberOf-later, lower, lower-cases, told-either, merged-either, merged-neither}

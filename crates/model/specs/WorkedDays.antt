@@ -16,7 +16,7 @@ use Rattle.model.specs.Tables.{State, empty-state, isFirstMet, walk, adm
 use Rattle.model.specs.Classes.{Word}
 use Rattle.model.specs.Joinings.{Step, step, treeOf, joinedGroups, isFullJoining}
 use Rattle.model.specs.Quotients.{bookStates, bookTable, tableAfter}
-use Rattle.model.specs.Calls.{bookOf, bookFault, joinsOf, tableStates}
+use Rattle.model.specs.Calls.{bookOf, bookFault, joinsOf, distinctOf, tableStates}
 use Rattle.model.specs.Listing.{listingOf}
 
 -- ---- the names
@@ -75,8 +75,8 @@ remark row ends taken beginning next count =
 
 -- a day: its book's bytes, a field a line; the class and the rows that are read there; the states of the prefix tree, and for
 -- each the group that it ends in, which goes by its first state; the steps of one full joining, here the last open step each
--- time; how many states and joins there are; the table's bytes, a field a line; the accepting states; all rows of at most four
--- names that are admitted, shorter ones first, then by the first different entry; walks worth a remark
+-- time; how many states, joins and different rows there are; the table's bytes, a field a line; the accepting states; all rows of
+-- at most four names that are admitted, shorter ones first, then by the first different entry; walks worth a remark
 pub record Day : Type 0 where
   pub book-bytes : List ℕ
   pub class-is : Class
@@ -87,6 +87,7 @@ pub record Day : Type 0 where
   pub tree-states : ℕ
   pub table-states : ℕ
   pub joins : ℕ
+  pub distinct : ℕ
   pub table-is : List ℕ
   pub accepting : List ℕ
   pub admitted-rows : List Word
@@ -110,6 +111,7 @@ P1 =
       tree-states = 1;
       table-states = 1;
       joins = 0;
+      distinct = 1;
       table-is =
           names-written
           ++ (2 ∷ 0 ∷ 3 ∷ 0 ∷ 2 ∷ 1 ∷ [])
@@ -137,6 +139,7 @@ P2 =
       tree-states = 3;
       table-states = 2;
       joins = 1;
+      distinct = 1;
       table-is =
           names-written
           ++ (2 ∷ 0 ∷ 3 ∷ 0 ∷ 1 ∷ 1 ∷ [])
@@ -166,6 +169,7 @@ P3 =
       tree-states = 3;
       table-states = 3;
       joins = 0;
+      distinct = 1;
       table-is =
           names-written
           ++ (2 ∷ 0 ∷ 3 ∷ 0 ∷ 2 ∷ 1 ∷ [])
@@ -198,6 +202,7 @@ P4 =
       tree-states = 7;
       table-states = 5;
       joins = 2;
+      distinct = 2;
       table-is =
           names-written
           ++ (2 ∷ 0 ∷ 3 ∷ 0 ∷ 2 ∷ 1 ∷ [])
@@ -232,6 +237,7 @@ P5 =
       tree-states = 7;
       table-states = 6;
       joins = 1;
+      distinct = 2;
       table-is =
           names-written
           ++ (2 ∷ 0 ∷ 3 ∷ 0 ∷ 2 ∷ 2 ∷ [])
@@ -267,6 +273,7 @@ P6 =
       tree-states = 8;
       table-states = 6;
       joins = 2;
+      distinct = 3;
       table-is =
           names-written
           ++ (2 ∷ 0 ∷ 3 ∷ 0 ∷ 2 ∷ 1 ∷ [])
@@ -302,6 +309,7 @@ P7 =
       tree-states = 8;
       table-states = 7;
       joins = 1;
+      distinct = 3;
       table-is =
           names-written
           ++ (2 ∷ 0 ∷ 3 ∷ 0 ∷ 2 ∷ 2 ∷ [])
@@ -336,6 +344,7 @@ P8 =
       tree-states = 3;
       table-states = 2;
       joins = 1;
+      distinct = 2;
       table-is =
           names-written
           ++ (2 ∷ 0 ∷ 3 ∷ 1 ∷ 0 ∷ 0 ∷ [])
@@ -365,6 +374,7 @@ P9 =
       tree-states = 3;
       table-states = 1;
       joins = 2;
+      distinct = 2;
       table-is =
           names-written
           ++ (2 ∷ 0 ∷ 3 ∷ 2 ∷ 0 ∷ 0 ∷ [])
@@ -393,6 +403,7 @@ P10 =
       tree-states = 3;
       table-states = 2;
       joins = 1;
+      distinct = 2;
       table-is =
           names-written
           ++ (2 ∷ 0 ∷ 3 ∷ 2 ∷ 1 ∷ 0 ∷ [])
@@ -422,6 +433,7 @@ P11 =
       tree-states = 5;
       table-states = 4;
       joins = 1;
+      distinct = 2;
       table-is =
           names-written
           ++ (2 ∷ 0 ∷ 3 ∷ 1 ∷ 0 ∷ 0 ∷ [])
@@ -438,7 +450,7 @@ P11 =
           remark (b ∷ s ∷ b ∷ []) stops 2 (b ∷ s ∷ []) 0b0000 0 ∷ [];
     }
 
--- P12: context (2,1), ss twice: a repeat of P3
+-- P12: context (2,1), ss twice: a repeat of P3, and one different row as there
 abbrev pub P12 : Day
 P12 =
     record {
@@ -455,6 +467,7 @@ P12 =
       tree-states = 3;
       table-states = 3;
       joins = 0;
+      distinct = 1;
       table-is =
           names-written
           ++ (2 ∷ 0 ∷ 3 ∷ 0 ∷ 2 ∷ 1 ∷ [])
@@ -493,6 +506,7 @@ Q1 =
       tree-states = 6;
       table-states = 5;
       joins = 1;
+      distinct = 2;
       table-is =
           names-written
           ++ (2 ∷ 0 ∷ 3 ∷ 1 ∷ 0 ∷ 0 ∷ [])
@@ -528,6 +542,7 @@ Q2 =
       tree-states = 7;
       table-states = 5;
       joins = 2;
+      distinct = 4;
       table-is =
           names-written
           ++ (2 ∷ 0 ∷ 3 ∷ 1 ∷ 0 ∷ 0 ∷ [])
@@ -561,6 +576,7 @@ Q3 =
       tree-states = 6;
       table-states = 4;
       joins = 2;
+      distinct = 2;
       table-is =
           names-written
           ++ (2 ∷ 0 ∷ 3 ∷ 0 ∷ 2 ∷ 1 ∷ [])
@@ -594,10 +610,12 @@ example-table =
     ++ (0x04 ∷ 0x00 ∷ 0x04 ∷ 0x00 ∷ 0x00 ∷ 0x00 ∷ 0x01 ∷ [])
     ++ (0x04 ∷ 0x00 ∷ 0x04 ∷ 0x01 ∷ 0x00 ∷ 0x00 ∷ 0x01 ∷ [])
 
--- `states 2 joins 1`, `0 - snack>1`, `1 + snack>1`, each with its newline
+-- `states 2 joins 1 distinct 1`, `0 - snack>1`, `1 + snack>1`, each with its newline
 abbrev pub example-listing : List ℕ
 example-listing =
-    (0x73 ∷ 0x74 ∷ 0x61 ∷ 0x74 ∷ 0x65 ∷ 0x73 ∷ 0x20 ∷ 0x32 ∷ 0x20 ∷ 0x6A ∷ 0x6F ∷ 0x69 ∷ 0x6E ∷ 0x73 ∷ 0x20 ∷ 0x31 ∷ 0x0A ∷ [])
+    (0x73 ∷ 0x74 ∷ 0x61 ∷ 0x74 ∷ 0x65 ∷ 0x73 ∷ 0x20 ∷ 0x32 ∷ [])
+    ++ (0x20 ∷ 0x6A ∷ 0x6F ∷ 0x69 ∷ 0x6E ∷ 0x73 ∷ 0x20 ∷ 0x31 ∷ [])
+    ++ (0x20 ∷ 0x64 ∷ 0x69 ∷ 0x73 ∷ 0x74 ∷ 0x69 ∷ 0x6E ∷ 0x63 ∷ 0x74 ∷ 0x20 ∷ 0x31 ∷ 0x0A ∷ [])
     ++ (0x30 ∷ 0x20 ∷ 0x2D ∷ 0x20 ∷ 0x73 ∷ 0x6E ∷ 0x61 ∷ 0x63 ∷ 0x6B ∷ 0x3E ∷ 0x31 ∷ 0x0A ∷ [])
     ++ (0x31 ∷ 0x20 ∷ 0x2B ∷ 0x20 ∷ 0x73 ∷ 0x6E ∷ 0x61 ∷ 0x63 ∷ 0x6B ∷ 0x3E ∷ 0x31 ∷ 0x0A ∷ [])
 
@@ -660,6 +678,7 @@ dayHolds day =
     && eqb (length (treeOf (f .items))) (day .tree-states)
     && eqb (length states) (day .table-states)
     && eqb (joinsOf f) (day .joins)
+    && eqb (distinctOf f) (day .distinct)
     && same written (day .table-is)
     && eqb (readTable written .number) 0
     && isFirstMet states
