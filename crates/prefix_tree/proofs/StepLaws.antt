@@ -271,6 +271,13 @@ adding-begins book start items parents names accepts work sizes =
       different = refl;
     }
 
+-- no more rows are different than were added
+pub adding-few : (book : List ℕ) (start items : ℕ) (work₀ : List ℕ) (s : Store) (n distinct at i : ℕ)
+    → Adding book start items work₀ s n distinct at i
+    → distinct ≤ i
+adding-few book start items work₀ s n distinct at i a =
+    omega (arith, a .different, different-few (fieldsAt book start i), length-fields book start i)
+
 module _ (book : List ℕ) (start items : ℕ) (work₀ : List ℕ) (s : Store) (n distinct at i : ℕ)
     (a : Adding book start items work₀ s n distinct at i) (more : i < items) where
   -- the next row lies within the book
@@ -315,32 +322,31 @@ module _ (book : List ℕ) (start items : ℕ) (work₀ : List ℕ) (s : Store) 
       → hasRow (bodyAt book at) (fieldsAt book start i) ≡ wasThere answer
   next-told s′ answer is = is .told (treeOf (fieldsAt book start i)) (fieldsAt book start i) (a .grown)
 
-  pub adding-new : (s′ : Store) (m : ℕ) → RowOf (bodyAt book at) n s s′ (added.New m)
+  pub adding-new : (s′ : Store) (m n′ distinct′ : ℕ) → RowOf (bodyAt book at) n s s′ (added.New m)
+      → n′ ≡ m
+      → distinct′ ≡ distinct + 1
       → Sized (s′ .parents) (s′ .names) (s′ .accepts) (s′ .work)
       → length (s′ .work) ≡ length (s .work)
       → (next : ℕ) → next ≡ nextAt book at
-      → Adding book start items work₀ s′ m (distinct + 1) next (i + 1)
-  adding-new s′ m is sizes kept next e =
+      → Adding book start items work₀ s′ n′ distinct′ next (i + 1)
+  adding-new s′ m n′ distinct′ is states-are distinct-is sizes kept next e =
       let one-more =
       different-new (fieldsAt book start i) (bodyAt book at)
       (not-told (tells-hasRow (bodyAt book at) (fieldsAt book start i)) (next-told s′ (added.New m) is)) in
-      adding-next s′ m (distinct + 1) (is .tree) (omega (arith, one-more, a .different)) sizes kept next e
+      adding-next s′ n′ distinct′ (rw states-are (is .tree)) (omega (arith, one-more, distinct-is, a .different)) sizes kept next e
 
-  pub adding-again : (s′ : Store) → RowOf (bodyAt book at) n s s′ added.Again
+  pub adding-again : (s′ : Store) (n′ distinct′ : ℕ) → RowOf (bodyAt book at) n s s′ added.Again
+      → n′ ≡ n
+      → distinct′ ≡ distinct
       → Sized (s′ .parents) (s′ .names) (s′ .accepts) (s′ .work)
       → length (s′ .work) ≡ length (s .work)
       → (next : ℕ) → next ≡ nextAt book at
-      → Adding book start items work₀ s′ n distinct next (i + 1)
-  adding-again s′ is sizes kept next e =
+      → Adding book start items work₀ s′ n′ distinct′ next (i + 1)
+  adding-again s′ n′ distinct′ is states-are distinct-is sizes kept next e =
       let no-more =
       different-again (fieldsAt book start i) (bodyAt book at)
       (tells-hasRow (bodyAt book at) (fieldsAt book start i) .fact (next-told s′ added.Again is)) in
-      adding-next s′ n distinct (is .tree) (a .different ∙ sym no-more) sizes kept next e
-
-  -- no more rows are different than were added
-  pub adding-few : distinct ≤ i
-  adding-few =
-      omega (arith, a .different, different-few (fieldsAt book start i), length-fields book start i)
+      adding-next s′ n′ distinct′ (rw states-are (is .tree)) (distinct-is ∙ a .different ∙ sym no-more) sizes kept next e
 
   pub adding-full : RowTooMany (bodyAt book at) n s → tree-too-large ≡ treeFault (fieldsAt book start items)
   adding-full full =
