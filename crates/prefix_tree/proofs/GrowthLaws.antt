@@ -157,8 +157,8 @@ module _ {nodes rows : List Word} {count : ℕ} {s : Store} (g : Grown nodes row
       (λ (l : v < count).
       ⊎-elim (λ (m : w < count). g .single v w l m (sym (old-word v l) ∙ e ∙ old-word w m))
       (λ (q : w ≡ count).
-      absurd
-      (not-yet v l (sym (old-word v l) ∙ e ∙ ap (λ (i : ℕ). getD (nodes ++ (longer nodes state name ∷ [])) i []) q ∙ new-word-at)))
+      absurd (not-yet v l
+      (sym (old-word v l) ∙ e ∙ ap (λ (i : ℕ). getD (nodes ++ (longer nodes state name ∷ [])) i []) q ∙ new-word-at)))
       (below-or-last w count k))
       (λ (p : v ≡ count).
       ⊎-elim
