@@ -4,9 +4,9 @@ fn distinct(rows: &[Vec<u8>]) -> usize {
     built(&book(&["a", "b"], None, rows)).unwrap().distinct
 }
 
-/// The number in binary, from its lowest digit, in four entries.
+/// The number's eight binary digits.
 fn row(number: u8) -> Vec<u8> {
-    (0..4).map(|place| number >> place & 1).collect()
+    (0..8).map(|place| number >> place & 1).collect()
 }
 
 #[test]
@@ -17,7 +17,7 @@ fn of_forty_rows_thirty_are_copies() {
 }
 
 #[test]
-fn copies_one_after_another_and_far_apart() {
+fn copies_side_by_side_and_apart() {
     let (a, b) = (row(0), row(1));
     assert_eq!(distinct(&[a.clone(), a.clone(), b.clone(), b.clone()]), 2);
     assert_eq!(distinct(&[a.clone(), b.clone(), b, a]), 2);
@@ -32,16 +32,13 @@ fn an_empty_row_is_a_row() {
 
 #[test]
 fn a_beginning_of_another_row_is_a_row_of_its_own() {
-    let all = [vec![0], vec![0, 1], vec![0, 1, 0]];
-    assert_eq!(distinct(&all), 3);
-    assert_eq!(distinct(&[&all[2..], &all[..2], &all[..1]].concat()), 3);
+    let rows = [vec![0], vec![0, 1], vec![0, 1, 0]];
+    assert_eq!(distinct(&rows), 3);
+    assert_eq!(distinct(&[&rows[2..], &rows[..2], &rows[..1]].concat()), 3);
 }
 
 #[test]
-fn from_one_to_256() {
-    let different: Vec<Vec<u8>> = (0..=255).map(|number: u8| row(number & 15)).collect();
-    assert_eq!(distinct(&different), 16);
+fn of_256_rows_one_and_all() {
     assert_eq!(distinct(&vec![row(3); 256]), 1);
-    let bits = |number: u8| (0..8).map(|place| number >> (7 - place) & 1).collect::<Vec<u8>>();
-    assert_eq!(distinct(&(0..=255).map(bits).collect::<Vec<_>>()), 256);
+    assert_eq!(distinct(&(0..=255).map(row).collect::<Vec<_>>()), 256);
 }
