@@ -201,6 +201,6 @@ class Finding(unittest.TestCase):
             self.assertEqual(done.stdout, "9.9.9\n")
             self.assertIn(f"libplans.so is not in {module} and {folder}/lib: 'make lib' builds it", done.stderr)
             (Path(folder) / "lib").mkdir()
-            (Path(folder) / "lib" / "libplans.so.1").write_bytes((ROOT / "target" / "lib" / "libplans.so").read_bytes())
+            (Path(folder) / "lib" / "libplans.so.2").write_bytes((ROOT / "target" / "lib" / "libplans.so").read_bytes())
             done = subprocess.run([sys.executable, "-B", "-c", code], env=environment, capture_output=True, text=True, check=False)
             self.assertIn("refusal 4: the input ends while a field is still due", done.stderr)
