@@ -6,7 +6,7 @@ from pathlib import Path
 from typing import Callable, List, Tuple
 
 HERE = Path(__file__).resolve().parent
-FILES = ("libplans.so.1", "libplans.so")
+FILES = ("libplans.so.2", "libplans.so")
 
 WORK_BYTES = 65536
 LISTING_BYTES = 32768
@@ -18,7 +18,12 @@ class LibraryMissing(Exception):
 
 
 class BuiltLayout(ctypes.Structure):
-    _fields_ = [("refusal", ctypes.c_uint8), ("length", ctypes.c_uint32), ("states", ctypes.c_uint32), ("joins", ctypes.c_uint32)]
+    _fields_ = [("refusal", ctypes.c_uint8), ("length", ctypes.c_uint32), ("states", ctypes.c_uint32), ("joins", ctypes.c_uint32),
+                ("distinct", ctypes.c_uint32)]
+
+
+class RewrittenLayout(ctypes.Structure):
+    _fields_ = [("refusal", ctypes.c_uint8), ("length", ctypes.c_uint32), ("states", ctypes.c_uint32)]
 
 
 class WrittenLayout(ctypes.Structure):
@@ -35,8 +40,8 @@ class PlanRowsLayout(ctypes.Structure):
 
 
 # each call's result, and what it takes: slices, a slice being (pointer, length), and numbers
-RESULTS = {"plans_build": BuiltLayout, "plans_rewrite": BuiltLayout, "plans_walk": WalkedLayout, "plans_list": WrittenLayout,
-           "plans_read_rows": PlanRowsLayout}
+RESULTS = {"plans_build": BuiltLayout, "plans_rewrite": RewrittenLayout, "plans_walk": WalkedLayout,
+           "plans_list": WrittenLayout, "plans_read_rows": PlanRowsLayout}
 READ = [ctypes.c_char_p, ctypes.c_size_t]
 LENT = [ctypes.c_void_p, ctypes.c_size_t]
 TAKEN = {"plans_build": READ + LENT + LENT, "plans_rewrite": READ + LENT + LENT, "plans_walk": READ + READ + LENT,

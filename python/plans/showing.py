@@ -38,6 +38,13 @@ def counted(count: int, what: str) -> str:
     return f"{count:,} {what}" if count == 1 else f"{count:,} {what}s"
 
 
+def different(count: int, given: int, what: str) -> str:
+    """How many different ones there are, and how many of those given are copies, if any: '22 different days (18 are copies)'."""
+    copies = given - count
+    told = f" ({copies:,} {'is a copy' if copies == 1 else 'are copies'})" if copies else ""
+    return counted(count, f"different {what}") + told
+
+
 def suggested(word: str) -> Optional[str]:
     """A name that the format allows, much like the word; None if nothing of the word would be left."""
     word = "".join(bytes([ord(letter) - 0xDC00]).decode("cp1252", "ignore") if 0xDC80 <= ord(letter) <= 0xDCFF else letter

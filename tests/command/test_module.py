@@ -18,8 +18,8 @@ from reference import book_bytes, joined, listing, states_of, table_bytes, walke
 from samples import a_sample, a_small_sample, book_of, damaged
 
 ROOT = Path(__file__).resolve().parents[2]
-LAYOUTS = {"plans_built": library.BuiltLayout, "plans_walked": library.WalkedLayout, "plans_written": library.WrittenLayout,
-           "plans_plan_rows": library.PlanRowsLayout}
+LAYOUTS = {"plans_built": library.BuiltLayout, "plans_rewritten": library.RewrittenLayout, "plans_walked": library.WalkedLayout,
+           "plans_written": library.WrittenLayout, "plans_plan_rows": library.PlanRowsLayout}
 
 
 def number_of(read, data: bytes) -> int:
@@ -37,10 +37,10 @@ class AgainstTheReference(unittest.TestCase):
         states = states_of(quotient)
         joins = len(quotient.tree) - len(states)
         built = plans.build(book_of(sample))
-        self.assertEqual(built, plans.Built(table_bytes(sample, states), len(states), joins), sample)
+        self.assertEqual(built, plans.Built(table_bytes(sample, states), len(states), joins, len(set(sample.rows))), sample)
         self.assertEqual(plans.build(book_bytes(sample)), built)
         self.assertEqual(plans.list_book(book_of(sample)), listing(sample, states, joins))
-        self.assertEqual(plans.rewrite(built.table), plans.Built(built.table, len(states), 0))
+        self.assertEqual(plans.rewrite(built.table), plans.Rewritten(built.table, len(states)))
         self.assertEqual(plans.write_table(plans.read_table(built.table)), built.table)
         for _ in range(4):
             row = tuple(draw.randrange(len(sample.names)) for _ in range(draw.choice([0, 1, 2, 3, 6])))
@@ -75,7 +75,7 @@ class Documented(unittest.TestCase):
             exec("\n".join(lines), names)
             results.append(eval(last, names))
         self.assertEqual(results, [plans.Walked(plans.Outcome.ON_THE_WAY, ("breakfast", "lunch"), ("dinner",)),
-                                   "states 3 joins 0\n0 - breakfast>1\n1 - lunch>2\n2 +\n"])
+                                   "states 3 joins 0 distinct 1\n0 - breakfast>1\n1 - lunch>2\n2 +\n"])
 
     def test_all_that_is_offered_says_what_it_is(self):
         for name in plans.__all__:

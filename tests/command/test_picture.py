@@ -16,7 +16,7 @@ SPACE = "{http://www.w3.org/2000/svg}"
 def drawn(text: Path, with_tree: bool) -> str:
     book = plans.read_text(text.read_bytes()).book()
     built = plans.build(book)
-    return drawing(plans.read_table(built.table), built.joins, book if with_tree else None)
+    return drawing(plans.read_table(built.table), built, book if with_tree else None)
 
 
 def svg_parts(path: Path) -> tuple:
@@ -104,14 +104,14 @@ class Drawings(unittest.TestCase):
                           "start": [], "s0": ["0", 1, "white"], "s1": ["1", 1, "white"], "s2": one, "s3": two})
         halves = [[f"{key.split('_')[0]}->{key}", f"{key}->{key.split('_')[1]}"] for key in words]
         self.assertEqual(edges, {edge for both in halves for edge in both} | {"root->t0", "start->s0"})
-        self.assertEqual(clusters, {"cluster_tree": ["prefix tree: 6 states"], "cluster_table": ["last 1: 4 states, 2 joins"]})
+        self.assertEqual(clusters, {"cluster_tree": ["prefix tree: 6 states"], "cluster_table": ["last 1: 4 states, 2 joins, 2 different rows"]})
 
     def test_titles(self):
-        for text, title in [("snack\n", "context (2,1): 2 states, 0 joins"),
-                            ("class = seen\nsnack\nsnack snack\n", "seen set: 2 states, 1 join"),
-                            ("class = last 0\nsnack\n-\n", "last 0: 1 state, 1 join")]:
+        for text, title in [("snack\n", "context (2,1): 2 states, 0 joins, 1 different row"),
+                            ("class = seen\nsnack\nsnack snack\n", "seen set: 2 states, 1 join, 2 different rows"),
+                            ("class = last 0\nsnack\n-\nsnack\n", "last 0: 1 state, 1 join, 2 different rows")]:
             built = plans.build(plans.read_text(text).book())
-            self.assertIn(f'label="{title}"', drawing(plans.read_table(built.table), built.joins, None))
+            self.assertIn(f'label="{title}"', drawing(plans.read_table(built.table), built, None))
         self.assertIn('label="last 0: 1 state"', drawing(plans.read_table(built.table), None, None))
 
     def test_as_many_colours_as_joined_groups(self):
