@@ -111,7 +111,9 @@ accepting-nodes rows =
 -- ---- one row more
 
 -- a row that was there adds none
-pub different-again : (rows : List Word) (row : Word) → In row rows → length (differentRows (rows ++ (row ∷ []))) ≡ length (differentRows rows)
+pub different-again :
+    (rows : List Word) (row : Word) → In row rows →
+    length (differentRows (rows ++ (row ∷ []))) ≡ length (differentRows rows)
 different-again rows row m =
     different-same (rows ++ (row ∷ [])) rows
     (λ r n. ⊎-elim (λ k. k) (λ k. Memᴰ·cast (List·Memᴰ·eq-of-singleton k) m) (List·Memᴰ·append-cases rows n))
