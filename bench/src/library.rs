@@ -4,7 +4,7 @@
 mod calls;
 
 use calls::Call;
-pub use calls::{Built, RowsGiven, Walked, Written};
+pub use calls::{Built, Rewritten, RowsGiven, Walked, Written};
 
 pub const WORK_BYTES: usize = 65_536;
 pub const INPUT_LIMIT: usize = 65_535;
@@ -13,7 +13,7 @@ pub fn build(book: &[u8], work: &mut [u8], out: &mut [u8]) -> Built {
     call(calls::plans_build, book, work, out)
 }
 
-pub fn rewrite(table: &[u8], work: &mut [u8], out: &mut [u8]) -> Built {
+pub fn rewrite(table: &[u8], work: &mut [u8], out: &mut [u8]) -> Rewritten {
     call(calls::plans_rewrite, table, work, out)
 }
 
