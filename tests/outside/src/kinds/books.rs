@@ -51,10 +51,10 @@ pub fn copies(run: &mut Run) -> Result<(), Mismatch> {
     Ok(())
 }
 
-/// A book of up to 240 rows of up to two of 64 names, most of them different.
+/// A book of up to 240 rows of one or two of 64 names, many of them different.
 fn draw_many_rows(random: &mut Random) -> Draft {
     let count = random.between(1, 240);
-    let draw_row = |_| (0..random.between(0, 2)).map(|_| random.below(NAMES_LIMIT) as u8).collect();
+    let draw_row = |_| (0..random.between(1, 2)).map(|_| random.below(NAMES_LIMIT) as u8).collect();
     let rows = (0..count).map(draw_row).collect();
     Draft { names: draw_names(random, NAMES_LIMIT), class: draw_class(random), rows }
 }
