@@ -137,7 +137,8 @@ module _ {nodes rows : List Word} {count : ℕ} {s : Store} (g : Grown nodes row
       (below-or-last v count h)
 
   appended-cell : (v : ℕ) → 0 < v → v < count + 1
-      → cellAt (withCell (s .work) state name count) (getD (set (s .parents) count state) v 0) (getD (set (s .names) count name) v 0) ≡ v
+      → cellAt (withCell (s .work) state name count) (getD (set (s .parents) count state) v 0) (getD (set (s .names) count name) v 0)
+      ≡ v
   appended-cell v pos h =
       ⊎-elim
       (λ (l : v < count).
@@ -156,7 +157,8 @@ module _ {nodes rows : List Word} {count : ℕ} {s : Store} (g : Grown nodes row
       (λ (l : v < count).
       ⊎-elim (λ (m : w < count). g .single v w l m (sym (old-word v l) ∙ e ∙ old-word w m))
       (λ (q : w ≡ count).
-      absurd (not-yet v l (sym (old-word v l) ∙ e ∙ ap (λ (i : ℕ). getD (nodes ++ (longer nodes state name ∷ [])) i []) q ∙ new-word-at)))
+      absurd (not-yet v l
+      (sym (old-word v l) ∙ e ∙ ap (λ (i : ℕ). getD (nodes ++ (longer nodes state name ∷ [])) i []) q ∙ new-word-at)))
       (below-or-last w count k))
       (λ (p : v ≡ count).
       ⊎-elim

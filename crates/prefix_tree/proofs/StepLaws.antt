@@ -117,7 +117,8 @@ walking-begins row count s some few sizes =
           rw (walked-none nodes row (Memᴰ·cast (sym (g .root)) (nth-in [] nodes 0 (omega (arith, g .size))))) (g, g .root);
     }
 
-module _ (row : Word) (count : ℕ) (s₀ s : Store) (n state i : ℕ) (w : Walking row count s₀ s n state i) (more : i < length row) where
+module _ {row : Word} {count : ℕ} {s₀ s : Store} {n state i : ℕ}
+    (w : Walking row count s₀ s n state i) (more : i < length row) where
   -- the word of the next state is the next beginning
   next-word : (nodes rows : List Word) → Grown nodes rows count s₀
       → longer (walked nodes row i) state (getD row i 0) ≡ take i row ++ (getD row i 0 ∷ [])
@@ -127,11 +128,11 @@ module _ (row : Word) (count : ℕ) (s₀ s : Store) (n state i : ℕ) (w : Walk
       → withState (walked nodes row i) (longer (walked nodes row i) state (getD row i 0)) ≡ walked nodes row (suc i)
   next-walked nodes rows g = ap (withState (walked nodes row i)) (next-word nodes rows g) ∙ sym (walked-more nodes row i more)
 
-  walking-next : (s′ : Store) (v m : ℕ) → Stepped n state (getD row i 0) s s′ v m
+  walking-next : {s′ : Store} {v m : ℕ} → Stepped n state (getD row i 0) s s′ v m
       → Sized (s′ .parents) (s′ .names) (s′ .accepts) (s′ .work)
       → length (s′ .work) ≡ length (s .work)
       → Walking row count s₀ s′ m v (suc i)
-  walking-next s′ v m is sizes kept =
+  walking-next {s′} {v} {m} is sizes kept =
       record {
         within = more;
         low = is .below;
@@ -149,12 +150,12 @@ module _ (row : Word) (count : ℕ) (s₀ s : Store) (n state i : ℕ) (w : Walk
             );
       }
 
-  pub walking-goes : (s′ : Store) (v m : ℕ) → Stepped n state (getD row i 0) s s′ v m
+  pub walking-goes : {s′ : Store} {v m : ℕ} → Stepped n state (getD row i 0) s s′ v m
       → Sized (s′ .parents) (s′ .names) (s′ .accepts) (s′ .work)
       → length (s′ .work) ≡ length (s .work)
       → Walking row count s₀ s′ m v (i + 1)
-  walking-goes s′ v m is sizes kept =
-      subst (λ (k : ℕ). Walking row count s₀ s′ m v k) (sym (add-one i)) (walking-next s′ v m is sizes kept)
+  walking-goes {s′} {v} {m} is sizes kept =
+      subst (λ (k : ℕ). Walking row count s₀ s′ m v k) (sym (add-one i)) (walking-next is sizes kept)
 
   pub walking-full : StepTooMany n state (getD row i 0) s → RowTooMany row count s₀
   walking-full full =
@@ -165,9 +166,10 @@ module _ (row : Word) (count : ℕ) (s₀ s : Store) (n state i : ℕ) (w : Walk
             omega (arith, over, ap length (next-walked nodes rows g), walked-longer nodes row (suc i));
       }
 
--- the tree has no more states than that, and a row that was there adds none: so one that has no room was not there
-pub row-full : (row : Word) (count : ℕ) (s s′ : Store) → count ≤ state-limit → RowTooMany row count s → RowOf row count s s′ added.Full
-row-full row count s s′ few full =
+-- a row that was there adds no state, so one for which there is no room was not there
+pub row-full :
+    {row : Word} {count : ℕ} {s s′ : Store} → count ≤ state-limit → RowTooMany row count s → RowOf row count s s′ added.Full
+row-full {row} {count} {s} {s′} few full =
     record {
       told =
           λ nodes rows g.
@@ -177,8 +179,8 @@ row-full row count s s′ few full =
     }
 
 -- the whole row is walked, and its state marked
-module _ (row : Word) (count : ℕ) (s₀ s : Store) (n state i : ℕ) (w : Walking row count s₀ s n state i) (done : length row ≤ i)
-    (accepts′ : List ℕ) (before : Bool) (mark : Marked (s .accepts) accepts′ state before) where
+module _ {row : Word} {count : ℕ} {s₀ s : Store} {n state i : ℕ} {accepts′ : List ℕ} {before : Bool}
+    (w : Walking row count s₀ s n state i) (done : length row ≤ i) (mark : Marked (s .accepts) accepts′ state before) where
   -- the arrays hold the tree with the row's beginnings, and the state is the row
   whole-walked : (nodes rows : List Word) → Grown nodes rows count s₀
       → Grown (withStates nodes (beginnings row)) rows n s × (getD (withStates nodes (beginnings row)) state [] ≡ row)
@@ -272,13 +274,13 @@ adding-begins book start items parents names accepts work sizes =
     }
 
 -- no more rows are different than were added
-pub adding-few : (book : List ℕ) (start items : ℕ) (work₀ : List ℕ) (s : Store) (n distinct at i : ℕ)
-    → Adding book start items work₀ s n distinct at i
-    → distinct ≤ i
-adding-few book start items work₀ s n distinct at i a =
+pub adding-few :
+    {book : List ℕ} {start items : ℕ} {work₀ : List ℕ} {s : Store} {n distinct at i : ℕ} →
+    Adding book start items work₀ s n distinct at i → distinct ≤ i
+adding-few {book} {start} {items} {work₀} {s} {n} {distinct} {at} {i} a =
     omega (arith, a .different, different-few (fieldsAt book start i), length-fields book start i)
 
-module _ (book : List ℕ) (start items : ℕ) (work₀ : List ℕ) (s : Store) (n distinct at i : ℕ)
+module _ {book : List ℕ} {start items : ℕ} {work₀ : List ℕ} {s : Store} {n distinct at i : ℕ}
     (a : Adding book start items work₀ s n distinct at i) (more : i < items) where
   -- the next row lies within the book
   pub adding-fits : offsetAt book start items ≤ length book → nextAt book at ≤ length book
@@ -288,7 +290,8 @@ module _ (book : List ℕ) (start items : ℕ) (work₀ : List ℕ) (s : Store) 
   pub adding-below : RowsBelow (fieldsAt book start items) → RowBelow (bodyAt book at)
   adding-below below =
       rw (a .at-is, ← field-at book start items i more)
-      (below (getD (fieldsAt book start items) i []) (nth-in [] (fieldsAt book start items) i (omega (arith, length-fields book start items))))
+      (below (getD (fieldsAt book start items) i [])
+      (nth-in [] (fieldsAt book start items) i (omega (arith, length-fields book start items))))
 
   tree-next : treeOf (fieldsAt book start (suc i)) ≡ withStates (treeOf (fieldsAt book start i)) (beginnings (bodyAt book at))
   tree-next =
@@ -298,14 +301,14 @@ module _ (book : List ℕ) (start items : ℕ) (work₀ : List ℕ) (s : Store) 
   rows-next : fieldsAt book start (suc i) ≡ fieldsAt book start i ++ (bodyAt book at ∷ [])
   rows-next = fields-more book start i ∙ ap (λ (k : ℕ). fieldsAt book start i ++ (bodyAt book k ∷ [])) (sym (a .at-is))
 
-  adding-next : (s′ : Store) (m d : ℕ) → RowAdded (bodyAt book at) n s s′ m
-      → d ≡ length (differentRows (fieldsAt book start i ++ (bodyAt book at ∷ [])))
+  adding-next : {s′ : Store} {n′ distinct′ next : ℕ} → RowAdded (bodyAt book at) n s s′ n′
+      → distinct′ ≡ length (differentRows (fieldsAt book start i ++ (bodyAt book at ∷ [])))
       → Sized (s′ .parents) (s′ .names) (s′ .accepts) (s′ .work)
       → length (s′ .work) ≡ length (s .work)
-      → (next : ℕ) → next ≡ nextAt book at
-      → Adding book start items work₀ s′ m d next (i + 1)
-  adding-next s′ m d is different sizes kept next e =
-      subst (λ (k : ℕ). Adding book start items work₀ s′ m d next k) (sym (add-one i))
+      → next ≡ nextAt book at
+      → Adding book start items work₀ s′ n′ distinct′ next (i + 1)
+  adding-next {s′} {n′} {distinct′} {next} is different sizes kept e =
+      subst (λ (k : ℕ). Adding book start items work₀ s′ n′ distinct′ next k) (sym (add-one i))
       (record {
         within = more;
         at-is = e ∙ ap (λ (k : ℕ). nextAt book k) (a .at-is) ∙ sym (offset-suc book start i);
@@ -317,36 +320,34 @@ module _ (book : List ℕ) (start items : ℕ) (work₀ : List ℕ) (s : Store) 
         different = rw rows-next different;
       })
 
-  -- the next row is there exactly if the answer says so
-  next-told : (s′ : Store) (answer : Added) → RowOf (bodyAt book at) n s s′ answer
+  -- the answer tells whether the row is among the first i
+  row-told : {s′ : Store} {answer : Added} → RowOf (bodyAt book at) n s s′ answer
       → hasRow (bodyAt book at) (fieldsAt book start i) ≡ wasThere answer
-  next-told s′ answer is = is .told (treeOf (fieldsAt book start i)) (fieldsAt book start i) (a .grown)
+  row-told is = is .told (treeOf (fieldsAt book start i)) (fieldsAt book start i) (a .grown)
 
-  pub adding-new : (s′ : Store) (m n′ distinct′ : ℕ) → RowOf (bodyAt book at) n s s′ (added.New m)
+  pub adding-new : {s′ : Store} {m n′ distinct′ next : ℕ} → RowOf (bodyAt book at) n s s′ (added.New m)
       → n′ ≡ m
       → distinct′ ≡ distinct + 1
       → Sized (s′ .parents) (s′ .names) (s′ .accepts) (s′ .work)
       → length (s′ .work) ≡ length (s .work)
-      → (next : ℕ) → next ≡ nextAt book at
+      → next ≡ nextAt book at
       → Adding book start items work₀ s′ n′ distinct′ next (i + 1)
-  adding-new s′ m n′ distinct′ is states-are distinct-is sizes kept next e =
-      let one-more =
-      different-new (fieldsAt book start i) (bodyAt book at)
-      (not-told (tells-hasRow (bodyAt book at) (fieldsAt book start i)) (next-told s′ (added.New m) is)) in
-      adding-next s′ n′ distinct′ (rw states-are (is .tree)) (omega (arith, one-more, distinct-is, a .different)) sizes kept next e
+  adding-new is states-are distinct-is sizes kept e =
+      let out = not-told (tells-hasRow (bodyAt book at) (fieldsAt book start i)) (row-told is) in
+      let one-more = different-new (fieldsAt book start i) (bodyAt book at) out in
+      adding-next (rw states-are (is .tree)) (omega (arith, one-more, distinct-is, a .different)) sizes kept e
 
-  pub adding-again : (s′ : Store) (n′ distinct′ : ℕ) → RowOf (bodyAt book at) n s s′ added.Again
+  pub adding-again : {s′ : Store} {n′ distinct′ next : ℕ} → RowOf (bodyAt book at) n s s′ added.Again
       → n′ ≡ n
       → distinct′ ≡ distinct
       → Sized (s′ .parents) (s′ .names) (s′ .accepts) (s′ .work)
       → length (s′ .work) ≡ length (s .work)
-      → (next : ℕ) → next ≡ nextAt book at
+      → next ≡ nextAt book at
       → Adding book start items work₀ s′ n′ distinct′ next (i + 1)
-  adding-again s′ n′ distinct′ is states-are distinct-is sizes kept next e =
-      let no-more =
-      different-again (fieldsAt book start i) (bodyAt book at)
-      (tells-hasRow (bodyAt book at) (fieldsAt book start i) .fact (next-told s′ added.Again is)) in
-      adding-next s′ n′ distinct′ (rw states-are (is .tree)) (distinct-is ∙ a .different ∙ sym no-more) sizes kept next e
+  adding-again is states-are distinct-is sizes kept e =
+      let met = tells-hasRow (bodyAt book at) (fieldsAt book start i) .fact (row-told is) in
+      let no-more = different-again (fieldsAt book start i) (bodyAt book at) met in
+      adding-next (rw states-are (is .tree)) (distinct-is ∙ a .different ∙ sym no-more) sizes kept e
 
   pub adding-full : RowTooMany (bodyAt book at) n s → tree-too-large ≡ treeFault (fieldsAt book start items)
   adding-full full =
@@ -355,11 +356,10 @@ module _ (book : List ℕ) (start items : ℕ) (work₀ : List ℕ) (s : Store) 
       omega (arith, over, ap length tree-next, treeOf-longer book start (suc i) items more) in
       sym (ap (λ (b : Bool). when b tree-too-large) (lt-ltb _ (length (treeOf (fieldsAt book start items))) (omega arith)))
 
-pub adding-ends : (book : List ℕ) (start items : ℕ) (work₀ : List ℕ) (s : Store) (n distinct at i : ℕ)
-    → Adding book start items work₀ s n distinct at i
-    → items ≤ i
-    → TreeBuilt (fieldsAt book start items) s n distinct
-adding-ends book start items work₀ s n distinct at i a done =
+pub adding-ends :
+    {book : List ℕ} {start items : ℕ} {work₀ : List ℕ} {s : Store} {n distinct at i : ℕ} →
+    Adding book start items work₀ s n distinct at i → items ≤ i → TreeBuilt (fieldsAt book start items) s n distinct
+adding-ends {book} {start} {items} {work₀} {s} {n} {distinct} {at} {i} a done =
     let all : i ≡ items = omega (arith, a .within) in
     subst (λ (k : ℕ). TreeBuilt (fieldsAt book start k) s n distinct) all
     (grown-built (fieldsAt book start i) n distinct s (a .grown) (a .some) (a .few) (a .different) (a .sizes))
@@ -381,6 +381,6 @@ tree-answer rows s s′ answer number built sizes sizes′ kept =
     }
 
 -- a tree that is built is not too large
-pub built-number : (rows : List Word) (s : Store) (n distinct : ℕ) → TreeBuilt rows s n distinct → 0 ≡ treeFault rows
-built-number rows s n distinct built =
+pub built-number : {rows : List Word} {s : Store} {n distinct : ℕ} → TreeBuilt rows s n distinct → 0 ≡ treeFault rows
+built-number {rows} built =
     sym (ap (λ (b : Bool). when b tree-too-large) (le-ltb _ (length (treeOf rows)) (omega (arith, built .size, built .few))))

@@ -115,7 +115,8 @@ walked-more nodes row i h =
     ∙ ap (withStates nodes) (beginnings-more (take i row) (getD row i 0))
     ∙ withStates-more nodes (beginnings (take i row)) (take i row ++ (getD row i 0 ∷ []))
 
-pub walked-longer : (nodes : List Word) (row : Word) (i : ℕ) → length (walked nodes row i) ≤ length (withStates nodes (beginnings row))
+pub walked-longer : (nodes : List Word) (row : Word) (i : ℕ)
+    → length (walked nodes row i) ≤ length (withStates nodes (beginnings row))
 unfolding walked
 walked-longer nodes row i =
     let r = beginnings-append (take i row) (drop i row) in

@@ -47,7 +47,13 @@ held c = store (c .loop .parents) (c .loop .names) (c .loop .accepts) (c .loop .
 abbrev left : tie.After-step Inv-loop μ-loop → Store
 left c = store (c .step .last .0) (c .step .last .1 .0) (c .step .last .1 .1 .0) (c .step .last .1 .1 .1 .0)
 
--- marking a state keeps the number of marks
+-- at the loop's end the arrays are as long as they came, and marking a state keeps that
+parents-kept : (c : tie.At-loop Inv-loop μ-loop) → length (held c .parents) ≡ length (lent c .parents)
+parents-kept c = c .loop .inv .sizes .parents-size ∙ sym (start c .pre .1 .parents-size)
+
+names-kept : (c : tie.At-loop Inv-loop μ-loop) → length (held c .names) ≡ length (lent c .names)
+names-kept c = c .loop .inv .sizes .names-size ∙ sym (start c .pre .1 .names-size)
+
 accepts-kept : (c : tie.After-slice-known9 Inv-loop μ-loop)
     → length (c .before .before .mark .last .0) ≡ length (lent (ended c) .accepts)
 accepts-kept c =
@@ -112,11 +118,7 @@ returns : tie.Need-returns Inv-loop μ-loop
 returns c =
     let after = stopped c in
     let at = turn after in
-    row-full (start at .args .row .now) (start at .args .count) (lent at) (left after) (start at .pre .0 .1)
-    (walking-full (start at .args .row .now) (start at .args .count) (lent at) (held at) (at .loop .n) (at .loop .state) (at .loop .i)
-    (at .loop .inv)
-    (omega arith)
-    (stepped after _ (c .enum-told .given .1)))
+    row-full (start at .pre .0 .1) (walking-full (at .loop .inv) (omega arith) (stepped after _ (c .enum-told .given .1)))
 
 add-i : tie.Need-add-i Inv-loop μ-loop
 add-i c = omega arith
@@ -129,15 +131,7 @@ loop-again c =
     let after = moved c in
     let at = turn after in
     let next = c .before .went .given in
-    walking-goes (start at .args .row .now) (start at .args .count) (lent at) (held at) (at .loop .n) (at .loop .state) (at .loop .i)
-    (at .loop .inv)
-    (omega arith)
-    (left after)
-    (next .0 .0)
-    (next .0 .1 .0)
-    (stepped after _ (next .1))
-    (left-sized after)
-    (after .step .kept .1 .1 .1 .0)
+    walking-goes (at .loop .inv) (omega arith) (stepped after _ (next .1)) (left-sized after) (after .step .kept .1 .1 .1 .0)
 
 mark-requires : tie.Need-mark-requires Inv-loop μ-loop
 mark-requires c κs =
@@ -145,10 +139,10 @@ mark-requires c κs =
     omega (arith, inv .low, inv .few, inv .sizes .accepts-size)
 
 same-length-5 : tie.Need-same-length-5 Inv-loop μ-loop
-same-length-5 c = ended (c .before) .loop .inv .sizes .parents-size ∙ sym (start (ended (c .before)) .pre .1 .parents-size)
+same-length-5 c = parents-kept (ended (c .before))
 
 same-length-6 : tie.Need-same-length-6 Inv-loop μ-loop
-same-length-6 c = ended (c .before) .loop .inv .sizes .names-size ∙ sym (start (ended (c .before)) .pre .1 .names-size)
+same-length-6 c = names-kept (ended (c .before))
 
 same-length-7 : tie.Need-same-length-7 Inv-loop μ-loop
 same-length-7 c = accepts-kept (c .before)
@@ -159,22 +153,14 @@ same-length-8 c = ended (c .before) .loop .inv .work-kept
 returns-2 : tie.Need-returns-2 Inv-loop μ-loop
 returns-2 c =
     let at = ended (c .before) in
-    let marked = c .before .before .before in
-    walking-again (start at .args .row .now) (start at .args .count) (lent at) (held at) (at .loop .n) (at .loop .state) (at .loop .i)
-    (at .loop .inv)
-    (omega arith)
-    (marked .mark .last .0)
-    (marked .mark .result)
-    (marked .mark .ensures)
-    (start at .pre .0 .0)
-    (start at .pre .0 .1)
+    walking-again (at .loop .inv) (omega arith) (c .before .before .before .mark .ensures) (start at .pre .0 .0) (start at .pre .0 .1)
     (c .if1 .taken)
 
 same-length-9 : tie.Need-same-length-9 Inv-loop μ-loop
-same-length-9 c = ended (c .before) .loop .inv .sizes .parents-size ∙ sym (start (ended (c .before)) .pre .1 .parents-size)
+same-length-9 c = parents-kept (ended (c .before))
 
 same-length-10 : tie.Need-same-length-10 Inv-loop μ-loop
-same-length-10 c = ended (c .before) .loop .inv .sizes .names-size ∙ sym (start (ended (c .before)) .pre .1 .names-size)
+same-length-10 c = names-kept (ended (c .before))
 
 same-length-11 : tie.Need-same-length-11 Inv-loop μ-loop
 same-length-11 c = accepts-kept (c .before)
@@ -184,15 +170,7 @@ same-length-12 c = ended (c .before) .loop .inv .work-kept
 
 returns-3 : tie.Need-returns-3 Inv-loop μ-loop
 returns-3 c =
-    let at = ended (c .before) in
-    let marked = c .before .before .before in
-    walking-new (start at .args .row .now) (start at .args .count) (lent at) (held at) (at .loop .n) (at .loop .state) (at .loop .i)
-    (at .loop .inv)
-    (omega arith)
-    (marked .mark .last .0)
-    (marked .mark .result)
-    (marked .mark .ensures)
-    (c .if1 .left)
+    walking-new (ended (c .before) .loop .inv) (omega arith) (c .before .before .before .mark .ensures) (c .if1 .left)
 
 pub add-row-spec : {M : Type 1} → statement M
 add-row-spec =

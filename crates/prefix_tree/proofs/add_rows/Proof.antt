@@ -1,5 +1,5 @@
--- `add_rows` meets its contract. The loop's invariant: the arrays hold the tree of the first i rows; what is left of the rows falls.
--- Assumes nothing.
+-- `add_rows` meets its contract. The loop's invariant: the arrays hold the tree of the first i rows, and so many of them are
+-- different; what is left of the rows falls. Assumes nothing.
 use mathlib.Core.Path.{_≡_, sym, _∙_, subst}
 use mathlib.Core.Logic.{⊎-elim}
 use mathlib.Core.List.{List}
@@ -23,8 +23,8 @@ abbrev μ-loop : tie.MeasureT-loop
 μ-loop book start items parents₀ names₀ accepts₀ work₀ n₀ distinct₀ at₀ i₀ parents names accepts work n distinct at i =
     items - i
 
--- places on the way: the entry, the loop's turn, and the call that adds a row, from where its answer is told, and from the end, the
--- sum and the meeting of the arms
+-- places on the way: the entry, the loop's turn, and the call that adds a row; that call from where there is no room, where a row is
+-- counted, and where the answers meet
 abbrev start : tie.At-loop Inv-loop μ-loop → tie.Start Inv-loop μ-loop
 start c = c .before .before .before .before .before .before
 
@@ -84,12 +84,7 @@ rowed c r e =
 -- the next row lies within the book
 fits : (c : tie.At-loop Inv-loop μ-loop) → c .loop .i < start c .args .items
     → nextAt (start c .args .book .now) (c .loop .at) ≤ length (start c .args .book .now)
-fits c more =
-    let args = start c .args in
-    adding-fits (args .book .now) (args .start) (args .items) (args .work .now) (held c) (c .loop .n) (c .loop .distinct) (c .loop .at) (c .loop .i)
-    (c .loop .inv)
-    more
-    (start c .pre .0)
+fits c more = adding-fits (c .loop .inv) more (start c .pre .0)
 
 slice-write-parents : tie.Need-slice-write-parents Inv-loop μ-loop
 slice-write-parents c = omega (arith, c .before .before .before .before .before .pre .1 .1 .parents-size)
@@ -114,12 +109,7 @@ body-requires c κs = fits (c .before) (omega arith)
 add-row-requires : tie.Need-add-row-requires Inv-loop μ-loop
 add-row-requires c κs =
     let at = c .before .before .before .before .before .before in
-    let args = start at .args in
-    let below : RowBelow (row at) =
-    adding-below (args .book .now) (args .start) (args .items) (args .work .now) (held at) (at .loop .n) (at .loop .distinct) (at .loop .at) (at .loop .i)
-    (at .loop .inv)
-    (omega arith)
-    (start at .pre .1 .0) in (
+    let below : RowBelow (row at) = adding-below (at .loop .inv) (omega arith) (start at .pre .1 .0) in (
       (
         at .loop .inv .some,
         at .loop .inv .few,
@@ -134,13 +124,7 @@ enum-known-added c = search needs
 -- no more rows are different than were added
 add-distinct : tie.Need-add-distinct Inv-loop μ-loop
 add-distinct c =
-    let at = turn (counting c) in
-    let args = start at .args in
-    let few =
-    adding-few (args .book .now) (args .start) (args .items) (args .work .now) (held at) (at .loop .n) (at .loop .distinct) (at .loop .at)
-    (at .loop .i)
-    (at .loop .inv) in
-    omega (arith, few)
+    omega (arith, adding-few (turn (counting c) .loop .inv))
 
 enum-told : tie.Need-enum-told Inv-loop μ-loop
 enum-told c = search needs
@@ -164,12 +148,8 @@ returns : tie.Need-returns Inv-loop μ-loop
 returns c =
     let after = stopped c in
     let at = turn after in
-    let args = start at .args in
     tree-answer (rows at) (lent at) (left after) _
-    (adding-full (args .book .now) (args .start) (args .items) (args .work .now) (held at) (at .loop .n) (at .loop .distinct) (at .loop .at) (at .loop .i)
-    (at .loop .inv)
-    (omega arith)
-    (rowed after _ (c .enum-told2 .given .1) .tree))
+    (adding-full (at .loop .inv) (omega arith) (rowed after _ (c .enum-told2 .given .1) .tree))
     (λ none. absurd (omega (arith, none)))
     (start at .pre .1 .1)
     (left-sized after)
@@ -187,40 +167,13 @@ loop-less c = omega arith
 loop-again : tie.Need-loop-again Inv-loop μ-loop
 loop-again c =
     let after = grown (c .before) in
-    let at = turn after in
-    let args = start at .args in
+    let inv = turn after .loop .inv in
     let kept = after .add-row .kept .1 .1 .1 .1 .0 in
     ⊎-elim
     (λ new.
-    adding-new (args .book .now) (args .start) (args .items) (args .work .now) (held at) (at .loop .n) (at .loop .distinct) (at .loop .at)
-    (at .loop .i)
-    (at .loop .inv)
-    (omega arith)
-    (left after)
-    (new .1 .given .0 .0)
-    (c .before .match .n)
-    (c .before .match .distinct)
-    (rowed after _ (new .1 .given .1))
-    (new .3)
-    (new .4)
-    (left-sized after)
-    kept
-    (c .next-field .result)
-    (c .next-field .ensures))
+    adding-new inv (omega arith) (rowed after _ (new .1 .given .1)) (new .3) (new .4) (left-sized after) kept (c .next-field .ensures))
     (λ again.
-    adding-again (args .book .now) (args .start) (args .items) (args .work .now) (held at) (at .loop .n) (at .loop .distinct) (at .loop .at)
-    (at .loop .i)
-    (at .loop .inv)
-    (omega arith)
-    (left after)
-    (c .before .match .n)
-    (c .before .match .distinct)
-    (rowed after _ (again .1 .given .1))
-    (again .2)
-    (again .3)
-    (left-sized after)
-    kept
-    (c .next-field .result)
+    adding-again inv (omega arith) (rowed after _ (again .1 .given .1)) (again .2) (again .3) (left-sized after) kept
     (c .next-field .ensures))
     (c .before .match .came)
 
@@ -239,12 +192,8 @@ same-length-8 c = c .before .loop .inv .work-kept
 returns-2 : tie.Need-returns-2 Inv-loop μ-loop
 returns-2 c =
     let at = c .before in
-    let args = start at .args in
-    let built =
-    adding-ends (args .book .now) (args .start) (args .items) (args .work .now) (held at) (at .loop .n) (at .loop .distinct) (at .loop .at) (at .loop .i)
-    (at .loop .inv)
-    (omega arith) in
-    tree-answer (rows at) (lent at) (held at) _ (built-number (rows at) (held at) (at .loop .n) (at .loop .distinct) built) (λ none. built)
+    let built = adding-ends (at .loop .inv) (omega arith) in
+    tree-answer (rows at) (lent at) (held at) _ (built-number built) (λ none. built)
     (start at .pre .1 .1)
     (at .loop .inv .sizes)
     (at .loop .inv .work-kept)
