@@ -1,13 +1,13 @@
 -- How many different rows there are: the rows without later copies are the set of rows, and lists that are one set are of one length. So
 -- the number is that of every such list, of the accepting states of the prefix tree, and of every book with the same set of rows; and
 -- a row more adds one where it is new, and none where it was there. Assumes nothing.
-use mathlib.Core.Path.{_≡_, refl, sym, subst}
-use mathlib.Core.Logic.{_⊎_, inl, inr, ⊎-elim}
-use mathlib.Core.Bool.{Bool, true, false, not}
+use mathlib.Core.Path.{_≡_, refl, sym}
+use mathlib.Core.Logic.{⊎-elim}
+use mathlib.Core.Bool.{not}
 use mathlib.Core.List.{List, [], _∷_, _++_, List·Memᴰ as In, List·Memᴰ·head as here, List·Memᴰ·tail as there}
 use mathlib.Core.List.{List·Memᴰ·not-nil, List·Memᴰ·cases-cons, List·Memᴰ·append-cases, List·Memᴰ·eq-of-singleton}
 use mathlib.Core.List.{Memᴰ·cast, Memᴰ·append-left, Memᴰ·append-right}
-use Prim.Native.Nat.{ℕ, suc, _≤_}
+use Prim.Native.Nat.{suc, _≤_}
 use native.Mathlib.Omega.{arith}
 use lib.ListN.{length, length-append}
 use Rattle.base.specs.Lists.{filterBy, same, hasRow, Distinct}
@@ -111,7 +111,9 @@ accepting-nodes rows =
 -- ---- one row more
 
 -- a row that was there adds none
-pub different-again : (rows : List Word) (row : Word) → In row rows → length (differentRows (rows ++ (row ∷ []))) ≡ length (differentRows rows)
+pub different-again :
+    (rows : List Word) (row : Word) → In row rows →
+    length (differentRows (rows ++ (row ∷ []))) ≡ length (differentRows rows)
 different-again rows row m =
     different-same (rows ++ (row ∷ [])) rows
     (λ r n. ⊎-elim (λ k. k) (λ k. Memᴰ·cast (List·Memᴰ·eq-of-singleton k) m) (List·Memᴰ·append-cases rows n))

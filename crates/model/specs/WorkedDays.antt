@@ -196,7 +196,8 @@ P4 =
       class-is = class-of context-kind 2 1;
       rows = (b ∷ l ∷ d ∷ []) ∷ (b ∷ s ∷ l ∷ d ∷ []) ∷ [];
       tree =
-          [] ∷ (b ∷ []) ∷ (b ∷ l ∷ []) ∷ (b ∷ l ∷ d ∷ []) ∷ (b ∷ s ∷ []) ∷ (b ∷ s ∷ l ∷ []) ∷ (b ∷ s ∷ l ∷ d ∷ []) ∷ [];
+          [] ∷ (b ∷ []) ∷ (b ∷ l ∷ []) ∷ (b ∷ l ∷ d ∷ []) ∷
+          (b ∷ s ∷ []) ∷ (b ∷ s ∷ l ∷ []) ∷ (b ∷ s ∷ l ∷ d ∷ []) ∷ [];
       groups = 0 ∷ 1 ∷ 2 ∷ 3 ∷ 4 ∷ 2 ∷ 3 ∷ [];
       joining = step 6 3 ∷ step 5 2 ∷ [];
       tree-states = 7;
@@ -231,7 +232,8 @@ P5 =
       class-is = class-of context-kind 2 2;
       rows = (b ∷ l ∷ d ∷ []) ∷ (b ∷ s ∷ l ∷ d ∷ []) ∷ [];
       tree =
-          [] ∷ (b ∷ []) ∷ (b ∷ l ∷ []) ∷ (b ∷ l ∷ d ∷ []) ∷ (b ∷ s ∷ []) ∷ (b ∷ s ∷ l ∷ []) ∷ (b ∷ s ∷ l ∷ d ∷ []) ∷ [];
+          [] ∷ (b ∷ []) ∷ (b ∷ l ∷ []) ∷ (b ∷ l ∷ d ∷ []) ∷
+          (b ∷ s ∷ []) ∷ (b ∷ s ∷ l ∷ []) ∷ (b ∷ s ∷ l ∷ d ∷ []) ∷ [];
       groups = 0 ∷ 1 ∷ 2 ∷ 3 ∷ 4 ∷ 5 ∷ 3 ∷ [];
       joining = step 6 3 ∷ [];
       tree-states = 7;
@@ -267,7 +269,8 @@ P6 =
       class-is = class-of context-kind 2 1;
       rows = (b ∷ s ∷ l ∷ []) ∷ (d ∷ s ∷ l ∷ []) ∷ (b ∷ s ∷ b ∷ []) ∷ [];
       tree =
-          [] ∷ (b ∷ []) ∷ (b ∷ s ∷ []) ∷ (b ∷ s ∷ l ∷ []) ∷ (d ∷ []) ∷ (d ∷ s ∷ []) ∷ (d ∷ s ∷ l ∷ []) ∷ (b ∷ s ∷ b ∷ []) ∷ [];
+          [] ∷ (b ∷ []) ∷ (b ∷ s ∷ []) ∷ (b ∷ s ∷ l ∷ []) ∷
+          (d ∷ []) ∷ (d ∷ s ∷ []) ∷ (d ∷ s ∷ l ∷ []) ∷ (b ∷ s ∷ b ∷ []) ∷ [];
       groups = 0 ∷ 1 ∷ 2 ∷ 3 ∷ 4 ∷ 2 ∷ 3 ∷ 7 ∷ [];
       joining = step 6 3 ∷ step 5 2 ∷ [];
       tree-states = 8;
@@ -303,7 +306,8 @@ P7 =
       class-is = class-of context-kind 2 2;
       rows = (b ∷ s ∷ l ∷ []) ∷ (d ∷ s ∷ l ∷ []) ∷ (b ∷ s ∷ b ∷ []) ∷ [];
       tree =
-          [] ∷ (b ∷ []) ∷ (b ∷ s ∷ []) ∷ (b ∷ s ∷ l ∷ []) ∷ (d ∷ []) ∷ (d ∷ s ∷ []) ∷ (d ∷ s ∷ l ∷ []) ∷ (b ∷ s ∷ b ∷ []) ∷ [];
+          [] ∷ (b ∷ []) ∷ (b ∷ s ∷ []) ∷ (b ∷ s ∷ l ∷ []) ∷
+          (d ∷ []) ∷ (d ∷ s ∷ []) ∷ (d ∷ s ∷ l ∷ []) ∷ (b ∷ s ∷ b ∷ []) ∷ [];
       groups = 0 ∷ 1 ∷ 2 ∷ 3 ∷ 4 ∷ 5 ∷ 3 ∷ 7 ∷ [];
       joining = step 6 3 ∷ [];
       tree-states = 8;
@@ -536,7 +540,8 @@ Q2 =
       class-is = class-of seen-set-kind 0 0;
       rows = (s ∷ []) ∷ (s ∷ s ∷ []) ∷ (s ∷ b ∷ d ∷ []) ∷ (s ∷ s ∷ b ∷ l ∷ []) ∷ [];
       tree =
-          [] ∷ (s ∷ []) ∷ (s ∷ s ∷ []) ∷ (s ∷ b ∷ []) ∷ (s ∷ b ∷ d ∷ []) ∷ (s ∷ s ∷ b ∷ []) ∷ (s ∷ s ∷ b ∷ l ∷ []) ∷ [];
+          [] ∷ (s ∷ []) ∷ (s ∷ s ∷ []) ∷ (s ∷ b ∷ []) ∷
+          (s ∷ b ∷ d ∷ []) ∷ (s ∷ s ∷ b ∷ []) ∷ (s ∷ s ∷ b ∷ l ∷ []) ∷ [];
       groups = 0 ∷ 1 ∷ 1 ∷ 3 ∷ 4 ∷ 3 ∷ 6 ∷ [];
       joining = step 2 1 ∷ step 5 3 ∷ [];
       tree-states = 7;
@@ -553,8 +558,8 @@ Q2 =
           ++ (4 ∷ 0 ∷ 1 ∷ 1 ∷ []);
       accepting = 1 ∷ 3 ∷ 4 ∷ [];
       admitted-rows =
-          (s ∷ []) ∷ (s ∷ s ∷ []) ∷ (s ∷ b ∷ d ∷ []) ∷ (s ∷ b ∷ l ∷ []) ∷ (s ∷ s ∷ s ∷ []) ∷ (s ∷ s ∷ b ∷ d ∷ []) ∷
-          (s ∷ s ∷ b ∷ l ∷ []) ∷ (s ∷ s ∷ s ∷ s ∷ []) ∷ [];
+          (s ∷ []) ∷ (s ∷ s ∷ []) ∷ (s ∷ b ∷ d ∷ []) ∷ (s ∷ b ∷ l ∷ []) ∷ (s ∷ s ∷ s ∷ []) ∷
+          (s ∷ s ∷ b ∷ d ∷ []) ∷ (s ∷ s ∷ b ∷ l ∷ []) ∷ (s ∷ s ∷ s ∷ s ∷ []) ∷ [];
       remarks =
           remark (s ∷ b ∷ []) on-the-way 2 (s ∷ b ∷ []) 0b0110 2 ∷
           remark (s ∷ b ∷ l ∷ []) admitted 3 (s ∷ b ∷ l ∷ []) 0b0000 0 ∷ [];
@@ -585,7 +590,8 @@ Q3 =
           ++ (4 ∷ 0 ∷ 4 ∷ 1 ∷ 3 ∷ 0 ∷ 2 ∷ [])
           ++ (4 ∷ 0 ∷ 1 ∷ 1 ∷ []);
       accepting = 2 ∷ 3 ∷ [];
-      admitted-rows = (s ∷ []) ∷ (b ∷ s ∷ []) ∷ (s ∷ s ∷ []) ∷ (s ∷ s ∷ s ∷ []) ∷ (s ∷ s ∷ s ∷ s ∷ []) ∷ [];
+      admitted-rows =
+          (s ∷ []) ∷ (b ∷ s ∷ []) ∷ (s ∷ s ∷ []) ∷ (s ∷ s ∷ s ∷ []) ∷ (s ∷ s ∷ s ∷ s ∷ []) ∷ [];
       remarks =
           remark (s ∷ []) admitted 1 (s ∷ []) 0b1000 1 ∷
           remark (b ∷ s ∷ s ∷ []) stops 2 (b ∷ s ∷ []) 0b0000 0 ∷ [];
@@ -661,7 +667,8 @@ unfoldable pub isFile : File → List (List ℕ) → Class → List (List ℕ) �
 isFile f names class items =
     eqb (f .stage) items-met
     && sameRows (f .names) names
-    && same (f .class-is .kind ∷ f .class-is .first ∷ f .class-is .second ∷ []) (class .kind ∷ class .first ∷ class .second ∷ [])
+    && same (f .class-is .kind ∷ f .class-is .first ∷ f .class-is .second ∷ [])
+    (class .kind ∷ class .first ∷ class .second ∷ [])
     && sameRows (f .items) items
 
 -- the day's book is accepted and read as written down, and everything else written down of the day is what the definitions

@@ -40,7 +40,7 @@ start-2 c = start-1 (back-2 c)
 abbrev start-4 : tie.After-put-decimal2 → tie.Start
 start-4 c = start-2 (back-3 (back-4 c))
 
--- what follows the two first words, and the numbers after them
+-- what follows the word `joins`, and what follows the word `states`
 after-joins-word : tie.Start → List ℕ
 after-joins-word c = decimal (c .args .joins) ++ (distinct-word ++ (decimal (c .args .distinct) ++ newline))
 
