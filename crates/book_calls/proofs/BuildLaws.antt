@@ -7,7 +7,7 @@ use Prim.Native.Nat.{ℕ, _≤_, _<_}
 use native.Mathlib.Omega.{arith}
 use lib.ListN.{length}
 use Rattle.base.specs.Limits.{firstOf, input-limit, state-limit, bad-sizes}
-use Rattle.model.specs.Fields.{Settings, Allowed, File, readBook}
+use Rattle.model.specs.Fields.{Settings, Allowed, readBook}
 use Rattle.model.specs.Fields as fields
 use Rattle.model.specs.Joinings.{treeOf}
 use Rattle.model.specs.Quotients.{bookStates, bookTable}
@@ -76,7 +76,8 @@ pub record Small (i : Inferred) : Type 0 where
   pub distinct-small : i .distinct ≤ state-limit
 
 module _ (settings : Settings) (book work out : List ℕ) where
-  pub build-sizes-refused : SizesBad book work ≡ true → Gives (building settings book work) (out ∷ []) (out ∷ []) (not-built bad-sizes)
+  pub build-sizes-refused :
+      SizesBad book work ≡ true → Gives (building settings book work) (out ∷ []) (out ∷ []) (not-built bad-sizes)
   unfolding building buildFault
   build-sizes-refused bad = call-refused (building settings book work) (out ∷ []) (refuses-first _ (sizes-refuse book work bad))
 

@@ -31,7 +31,8 @@ use Rattle.book_calls.proofs.BuildLaws.{joins-few, distinct-few, built-
 -- ---- bytes copied to a text
 
 pub copy-short :
-    (bytes text : List ℕ) → length text < length bytes → Gives (copying bytes) (text ∷ []) (text ∷ []) (not-written output-too-short)
+    (bytes text : List ℕ) → length text < length bytes →
+    Gives (copying bytes) (text ∷ []) (text ∷ []) (not-written output-too-short)
 unfolding copying
 copy-short bytes text short = call-one-short (copying bytes) bytes text refl refl short
 
@@ -117,7 +118,8 @@ module _ (settings : Settings) (allowed : Allowed settings) where
 
 -- the listing at the front of a text
 pub puts-front :
-    (whole text text′ bytes : List ℕ) (after : ℕ) → bytes ≡ whole → Put text text′ 0 bytes after → FrontOf whole text′ after
+    (whole text text′ bytes : List ℕ) (after : ℕ) → bytes ≡ whole → Put text text′ 0 bytes after →
+    FrontOf whole text′ after
 puts-front whole text text′ bytes after is puts =
     subst (λ (l : List ℕ). FrontOf l text′ after) is
     (front-of bytes text text′ after (written-from-zero (puts .written)) (omega (arith, puts .ends)))

@@ -50,7 +50,8 @@ module _ (f : File) (out : List ℕ) where
   module _ (out′ : List ℕ) where
     -- the states that an answer tells are at most those of the tree
     pub told-few :
-        (answer : Table) (tree : ℕ) → tree ≡ length (treeOf (f .items)) → WritesTable f out out′ answer → statesTold answer ≤ tree
+        (answer : Table) (tree : ℕ) → tree ≡ length (treeOf (f .items)) → WritesTable f out out′ answer →
+        statesTold answer ≤ tree
     told-few (table.Written bytes states) tree size h = omega (arith, size, h .states-are, states-few f)
     told-few table.TooLong tree size h = omega arith
 

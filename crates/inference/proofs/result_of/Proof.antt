@@ -1,6 +1,7 @@
 -- `result_of` meets its contract. Assumes nothing.
 use mathlib.Core.Path.{sym, ap, _∙_, subst}
 use Prim.Native.Nat.{_≤_}
+use native.Mathlib.Omega.{arith}
 use borrow.Author.Needs.{needs}
 use Rattle.inference.specs.Results.{statesTold, resultOf}
 use Rattle.inference.specs.declared.Table.{Table}
@@ -13,7 +14,8 @@ enum-known-table c = search needs
 sub-t7 : tie.Need-sub-t7
 sub-t7 c =
     let start = c .before .before .before in
-    subst (λ (r : Table). statesTold r ≤ start .args .tree) (c .before .table .given .1) (start .pre)
+    let few = subst (λ (r : Table). statesTold r ≤ start .args .tree) (c .before .table .given .1) (start .pre) in
+    omega arith
 
 enum-told : tie.Need-enum-told
 enum-told c = search needs
