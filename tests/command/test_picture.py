@@ -104,7 +104,8 @@ class Drawings(unittest.TestCase):
                           "start": [], "s0": ["0", 1, "white"], "s1": ["1", 1, "white"], "s2": one, "s3": two})
         halves = [[f"{key.split('_')[0]}->{key}", f"{key}->{key.split('_')[1]}"] for key in words]
         self.assertEqual(edges, {edge for both in halves for edge in both} | {"root->t0", "start->s0"})
-        self.assertEqual(clusters, {"cluster_tree": ["prefix tree: 6 states"], "cluster_table": ["last 1: 4 states, 2 joins, 2 different rows"]})
+        self.assertEqual(clusters, {"cluster_tree": ["prefix tree: 6 states"],
+                                    "cluster_table": ["last 1: 4 states, 2 joins, 2 different rows"]})
 
     def test_titles(self):
         for text, title in [("snack\n", "context (2,1): 2 states, 0 joins, 1 different row"),

@@ -11,7 +11,8 @@ ghost use Rattle.results.specs.Says.{rewriting};
 
 // Refusals 1, the table's, 13; otherwise the table stands at the front of the output.
 pub fn rewrite(table: &[u8], work: &mut [u8], out: &mut [u8]) -> Rewritten
-    ensures { λ r. ⌜ Gives (rewriting (now (table .entry)) (now (work .entry))) (now (out .entry) ∷ []) (now (out .exit) ∷ []) r ⌝ }
+    ensures { λ r. ⌜ Gives (rewriting (now (table .entry)) (now (work .entry)))
+        (now (out .entry) ∷ []) (now (out .exit) ∷ []) r ⌝ }
 {
     let opened = open_table(table, work);
     match opened {
