@@ -9,17 +9,14 @@ use lib.ListN.{length}
 use Rattle.base.specs.Limits.{firstOf, input-limit, state-limit, bad-sizes}
 use Rattle.model.specs.Fields.{Settings, Allowed, readBook}
 use Rattle.model.specs.Fields as fields
-use Rattle.model.specs.Joinings.{treeOf}
 use Rattle.model.specs.Quotients.{bookStates, bookTable}
-use Rattle.model.specs.Calls.{Gives, faultWith, bookOf, treeFault, bookFault, buildFault, joinsOf, distinctOf, differentRows}
+use Rattle.model.specs.Calls.{Gives, faultWith, bookOf, treeFault, bookFault, buildFault, joinsOf, distinctOf}
 use Rattle.model.specs.Claims.{Accepted}
 use Rattle.model.proofs.FieldLaws.{first-of}
 use Rattle.model.proofs.CallLaws.{refuses-first, refuses-then, refuses-none, call-refused, seen-as, refusal-is, answer-by, answered}
 use Rattle.model.proofs.CallLaws.{SizesBad, sizes-refuse, sizes-pass, one-wrote, FrontOf, front-of}
-use Rattle.base.proofs.Lists.{distinct-length}
-use Rattle.model.proofs.Trees.{row-node}
-use Rattle.model.proofs.DifferentRows.{tells-among}
-use Rattle.model.proofs.Demands.{demands, accepted-tree, table-length}
+use Rattle.model.proofs.DifferentRows.{different-nodes}
+use Rattle.model.proofs.Demands.{accepted-tree, table-length}
 use Rattle.fields.specs.Places.{fileOf, ReadAs}
 use Rattle.fields.specs.declared.Place.{Place}
 use Rattle.fields.specs.declared.Fields.the-variants as answer
@@ -36,16 +33,9 @@ pub joins-few : (settings : Settings) (s : List ℕ) → Accepted settings s →
 unfolding joinsOf
 joins-few settings s ok = omega (arith, accepted-tree settings s ok)
 
--- different rows are different states of the prefix tree
 pub distinct-few : (settings : Settings) (s : List ℕ) → Accepted settings s → distinctOf (bookOf settings s) ≤ state-limit
 unfolding distinctOf
-distinct-few settings s ok =
-    let rows = bookOf settings s .items in
-    let set = demands .different-rows .is-set (bookOf settings s) in
-    let in-tree =
-    distinct-length (differentRows rows) (treeOf rows) (set .once)
-    (λ r m. row-node rows r (tells-among (differentRows rows) rows .fact (set .no-other) r m)) in
-    omega (arith, in-tree, accepted-tree settings s ok)
+distinct-few settings s ok = omega (arith, different-nodes (bookOf settings s .items), accepted-tree settings s ok)
 
 -- ---- what the reader's answer says of the book
 

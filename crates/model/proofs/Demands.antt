@@ -204,10 +204,10 @@ different-rows =
       same-number = λ f g there back.
           different-same (f .items) (g .items) (tells-among (f .items) (g .items) .fact there)
           (tells-among (g .items) (f .items) .fact back);
+      few = λ f. different-few (f .items);
       some = λ settings allowed s ok.
           let first-row = accepted-has-row settings allowed s ok in
           different-some (bookOf settings s .items) (first-row .0) (first-row .1);
-      few = λ settings allowed s ok. different-few (bookOf settings s .items);
       accepting = λ f. accepting-nodes (f .items);
     }
 

@@ -99,6 +99,11 @@ different-some rows r m =
     distinct-length (r ∷ []) (differentRows rows) (λ n. List·Memᴰ·not-nil n, tt)
     (λ q n. Memᴰ·cast (List·Memᴰ·eq-of-singleton n) (in-different rows r m))
 
+-- no more than the prefix tree has states
+pub different-nodes : (rows : List Word) → length (differentRows rows) ≤ length (treeOf rows)
+different-nodes rows =
+    distinct-length (differentRows rows) (treeOf rows) (different-distinct rows) (λ r m. row-node rows r (different-in rows r m))
+
 -- as many as the prefix tree has accepting states
 pub accepting-nodes : (rows : List Word) → length (acceptingNodes rows) ≡ length (differentRows rows)
 unfolding acceptingNodes

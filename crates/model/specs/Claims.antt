@@ -119,11 +119,9 @@ pub record Different-rows : Type 0 where
   -- books with the same set of rows have the same number, whatever else is in them
   pub same-number :
       (f g : File) → allAmong (f .items) (g .items) ≡ true → allAmong (g .items) (f .items) ≡ true → distinctOf f ≡ distinctOf g
-  -- in an accepted book it is at least 1, and at most the number of rows
+  -- it is at most the number of rows, and in an accepted book at least 1
+  pub few : (f : File) → distinctOf f ≤ length (f .items)
   pub some : (settings : Settings) → Allowed settings → (s : List ℕ) → Accepted settings s → 1 ≤ distinctOf (bookOf settings s)
-  pub few :
-      (settings : Settings) → Allowed settings → (s : List ℕ) → Accepted settings s →
-      distinctOf (bookOf settings s) ≤ length (bookOf settings s .items)
   -- the prefix tree has as many accepting states
   pub accepting : (f : File) → length (acceptingNodes (f .items)) ≡ distinctOf f
 
