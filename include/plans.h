@@ -117,7 +117,7 @@ typedef struct {
     uint32_t length;   /* the table's length in bytes */
     uint32_t states;   /* how many states it has */
     uint32_t joins;    /* states of the prefix tree less states of the table */
-    uint32_t distinct; /* how many different rows the book has, copies counted once: at least 1, at most the book's rows */
+    uint32_t distinct; /* how many different rows the book has, each counted once: at least 1, at most the book's rows */
 } plans_built;
 
 /* What rewriting a table gives back. Where it is refused, all but `refusal` is 0. A table does not say how many joins or different

@@ -31,7 +31,7 @@ class Asked:
 
 @dataclass(frozen=True)
 class Model:
-    """A table with its bytes; and the book that it was built from, and what the build told, if it was."""
+    """A table with its bytes; and, if it was built, the book that it was built from and what the build told."""
     source: Input
     data: bytes
     table: Table

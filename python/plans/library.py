@@ -6,7 +6,8 @@ from pathlib import Path
 from typing import Callable, List, Tuple
 
 HERE = Path(__file__).resolve().parent
-FILES = ("libplans.so.2", "libplans.so")
+# the library by its soname: one with another first number has results of another layout
+FILE = "libplans.so.2"
 
 WORK_BYTES = 65536
 LISTING_BYTES = 32768
@@ -14,7 +15,7 @@ ROWS_BYTES = 17152
 
 
 class LibraryMissing(Exception):
-    """libplans.so cannot be loaded: where it was looked for, and what to do."""
+    """The shared library cannot be loaded: where it was looked for, and what to do."""
 
 
 class BuiltLayout(ctypes.Structure):
@@ -60,10 +61,10 @@ def _path() -> str:
     given = os.environ.get("PLANS_LIBRARY")
     if given:
         return given
-    found = [folder / name for folder in _folders() for name in FILES if (folder / name).is_file()]
+    found = [folder / FILE for folder in _folders() if (folder / FILE).is_file()]
     if not found:
         places = " and ".join(str(folder) for folder in _folders())
-        raise LibraryMissing(f"libplans.so is not in {places}: 'make lib' builds it; or PLANS_LIBRARY names it")
+        raise LibraryMissing(f"{FILE} is not in {places}: 'make lib' builds it; or PLANS_LIBRARY names it")
     return str(found[0])
 
 

@@ -1,6 +1,7 @@
 """How many different rows there are: the module, the command and the listing's first line say the same of generated books with copies;
 the words for it; and that a refused call and a rewriting tell no such number."""
 import dataclasses
+import itertools
 import random
 import re
 
@@ -49,6 +50,12 @@ class Agreement(InFolder):
         for _ in range(500):
             sample = a_small_sample(draw)
             self.assertEqual(plans.build(book_of(with_copies(draw, sample))), plans.build(book_of(sample)), sample)
+
+    def test_as_many_as_a_book_may_have(self):
+        """All rows of eight out of two names: 256, a tree of 511 states; and the first of them 256 times."""
+        rows = [tuple(row) for row in itertools.product(("lunch", "tea"), repeat=8)]
+        self.assertEqual(plans.build(plans.Book(("lunch", "tea"), None, tuple(rows))).distinct, 256)
+        self.assertEqual(plans.build(plans.Book(("lunch", "tea"), None, 256 * tuple(rows[:1]))).distinct, 1)
 
     def test_plans_rows(self):
         self.put("week.xml", "<week>" + 3 * "<day><lunch/></day>" + "<day/></week>")

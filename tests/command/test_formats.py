@@ -28,9 +28,10 @@ def book_at(path: Path) -> plans.Book:
 
 
 def counts(path: Path) -> tuple:
-    """States of the prefix tree, states, joins, different rows."""
-    first_line = re.match(r"states (\d+) joins (\d+) distinct (\d+)\n", path.with_suffix(".listing").read_text())
-    return len(prefix_tree(book_at(path).rows)), *map(int, first_line.groups())
+    """States of the prefix tree, states, joins, different rows: the second and third as the listing has them."""
+    rows = book_at(path).rows
+    first_line = rf"states (\d+) joins (\d+) distinct {len(set(rows))}\n"
+    return len(prefix_tree(rows)), *map(int, re.match(first_line, path.with_suffix(".listing").read_text()).groups()), len(set(rows))
 
 
 class Formats(unittest.TestCase):

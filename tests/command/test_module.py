@@ -178,6 +178,9 @@ class Finding(unittest.TestCase):
         environment = dict(os.environ, PLANS_LIBRARY=setting, PYTHONPATH=str(ROOT / "python"))
         return subprocess.run([sys.executable, "-B", "-c", code], env=environment, capture_output=True, text=True, check=True).stdout
 
+    def test_soname_of_this_version(self):
+        self.assertEqual(library.FILE, f"libplans.so.{plans.__version__.split('.')[0]}")
+
     def test_named_by_the_environment(self):
         self.assertEqual(self.run_with(str(ROOT / "target" / "lib" / "libplans.so")), f"refusal 4: {plans.REFUSALS[4]}\n")
 
@@ -199,7 +202,7 @@ class Finding(unittest.TestCase):
             environment.pop("PLANS_LIBRARY", None)
             done = subprocess.run([sys.executable, "-B", "-c", code], env=environment, capture_output=True, text=True, check=False)
             self.assertEqual(done.stdout, "9.9.9\n")
-            self.assertIn(f"libplans.so is not in {module} and {folder}/lib: 'make lib' builds it", done.stderr)
+            self.assertIn(f"libplans.so.2 is not in {module} and {folder}/lib: 'make lib' builds it", done.stderr)
             (Path(folder) / "lib").mkdir()
             (Path(folder) / "lib" / "libplans.so.2").write_bytes((ROOT / "target" / "lib" / "libplans.so").read_bytes())
             done = subprocess.run([sys.executable, "-B", "-c", code], env=environment, capture_output=True, text=True, check=False)

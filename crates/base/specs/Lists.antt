@@ -1,5 +1,5 @@
--- Tests and choices over lists that the definitions share. What lib.ListN and mathlib have (length, getD, take, drop, map,
--- flatMap, dropLast, cond) is taken from there. Assumes nothing.
+-- Tests and choices over lists that the definitions share, and what it is for no element to stand twice. What lib.ListN and mathlib
+-- have (length, getD, take, drop, map, flatMap, dropLast, cond) is taken from there. Assumes nothing.
 use mathlib.Core.Bool.{Bool, true, false, _&&_, _||_, cond}
 use mathlib.Core.List.{List, [], _∷_, List·Memᴰ as In}
 use Prim.Native.Nat.{ℕ, zero, suc}

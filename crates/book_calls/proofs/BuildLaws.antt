@@ -16,14 +16,13 @@ use Rattle.model.proofs.FieldLaws.{first-of}
 use Rattle.model.proofs.CallLaws.{refuses-first, refuses-then, refuses-none, call-refused, seen-as, refusal-is, answer-by, answered}
 use Rattle.model.proofs.CallLaws.{SizesBad, sizes-refuse, sizes-pass, one-wrote, FrontOf, front-of}
 use Rattle.model.proofs.DifferentRows.{different-nodes}
-use Rattle.model.proofs.Demands.{accepted-tree, table-length}
+use Rattle.model.proofs.Demands.{accepted-tree, states-few, table-length}
 use Rattle.fields.specs.Places.{fileOf, ReadAs}
 use Rattle.fields.specs.declared.Place.{Place}
 use Rattle.fields.specs.declared.Fields.the-variants as answer
 use Rattle.fields.proofs.Parts.{accepted-number, accepted-file-is}
 use Rattle.inference.specs.Results.{inferring, Infers}
 use Rattle.inference.specs.declared.Inferred.{Inferred}
-use Rattle.inference.proofs.ResultLaws.{states-few}
 use Rattle.results.specs.declared.Built.{Built}
 use Rattle.results.specs.Says.{built, not-built, building}
 

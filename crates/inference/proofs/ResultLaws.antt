@@ -1,5 +1,4 @@
--- What is given back: refusal 10, refusal 13, and the table written. First whether a table fits, and that a book has no more states than
--- its prefix tree. Assumes nothing.
+-- What is given back: refusal 10, refusal 13, and the table written. Assumes nothing.
 use mathlib.Core.Path.{_≡_, refl, sym, ap, subst}
 use mathlib.Core.Bool.{Bool}
 use mathlib.Core.List.{List, [], _∷_}
@@ -10,12 +9,10 @@ use lib.Dec.{leb}
 use lib.ListN.{length}
 use Rattle.base.specs.Limits.{state-limit, tree-too-large, output-too-short, when}
 use Rattle.model.specs.Fields.{File}
-use Rattle.model.specs.Joinings.{treeOf, joinedGroups}
-use Rattle.model.specs.Quotients.{bookStates, bookTable}
+use Rattle.model.specs.Joinings.{treeOf}
+use Rattle.model.specs.Quotients.{bookTable}
 use Rattle.model.specs.Calls.{treeFault, joinsOf, distinctOf}
-use Rattle.model.proofs.Trees.{treeOf-tree}
-use Rattle.model.proofs.FirstMet.{met-few, states-length}
-use Rattle.model.proofs.Joined.{joinedGroups-joined}
+use Rattle.model.proofs.Demands.{states-few}
 use Rattle.model.proofs.CallLaws.{call-refused, call-one-short, call-one-wrote}
 use Rattle.base.proofs.Tests.{same-tests, tells-leb}
 use Rattle.inference.specs.Results.{WritesTable, statesTold, refused-with, resultOf, inferring, Infers}
@@ -26,17 +23,6 @@ use Rattle.inference.specs.declared.Table.the-variants as table
 pub fits-after : (room front rest : ℕ) → front ≤ room → leb rest (room - front) ≡ leb (front + rest) room
 fits-after room front rest h =
     same-tests (tells-leb rest (room - front)) (tells-leb (front + rest) room) (λ g. omega arith) (λ g. omega arith)
-
--- a book has at most as many states as its prefix tree
-pub states-few : (f : File) → length (bookStates f) ≤ length (treeOf (f .items))
-unfolding bookStates
-states-few f =
-    let nodes = treeOf (f .items) in
-    let groups = joinedGroups (f .class-is) (f .items) in
-    let fits = joinedGroups-joined (f .class-is) (f .items) .fits in
-    let few = met-few nodes groups (treeOf-tree (f .items)) fits in
-    let size = states-length nodes groups (treeOf-tree (f .items)) fits (f .items) in
-    omega arith
 
 module _ (f : File) (out : List ℕ) where
   pub gives-too-large : tree-too-large ≡ treeFault (f .items) → Infers f out out (refused-with tree-too-large)

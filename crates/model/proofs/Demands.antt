@@ -25,6 +25,7 @@ use Rattle.model.proofs.Trees.{treeOf-tree, node-begins-row, same-nodes
 use Rattle.model.proofs.DifferentRows.{tells-among, different-set, set-size, different-same, different-few}
 use Rattle.model.proofs.DifferentRows.{different-some, accepting-nodes}
 use Rattle.model.proofs.Ends.{joined-is-full-joining}
+use Rattle.model.proofs.FirstMet.{met-few, states-length}
 use Rattle.model.proofs.Joined.{Joined, joining-joined, joinedGroups-joined, joined-deterministic, joined-states}
 use Rattle.model.proofs.InTheClass.{admits-row, admits-in-class, admits-smallest}
 use Rattle.model.proofs.Writable.{Writable}
@@ -64,6 +65,17 @@ tree-size-same f g same =
     same-length (treeOf (f .items)) (treeOf (g .items)) (treeOf-tree (f .items) .distinct) (treeOf-tree (g .items) .distinct)
     (same-nodes (f .items) (g .items) (λ r. same-rows f g same r .0))
     (same-nodes (g .items) (f .items) (λ r. same-rows f g same r .1))
+
+-- a book has at most as many states as its prefix tree
+pub states-few : (f : File) → length (bookStates f) ≤ length (treeOf (f .items))
+unfolding bookStates
+states-few f =
+    let nodes = treeOf (f .items) in
+    let groups = joinedGroups (f .class-is) (f .items) in
+    let fits = joinedGroups-joined (f .class-is) (f .items) .fits in
+    let few = met-few nodes groups (treeOf-tree (f .items)) fits in
+    let size = states-length nodes groups (treeOf-tree (f .items)) fits (f .items) in
+    omega arith
 
 -- ---- demand 3
 

@@ -672,13 +672,16 @@ remarkHolds states r =
     && eqb (nextNames states (r .row)) (r .next-names)
     && eqb (nextCount states (r .row)) (r .next-count)
 
+-- the three numbers of a class
+abbrev pub classNumbers : Class → List ℕ
+classNumbers class = class .kind ∷ class .first ∷ class .second ∷ []
+
 -- the file is all read, and its names, its class and its items are these
 unfoldable pub isFile : File → List (List ℕ) → Class → List (List ℕ) → Bool
 isFile f names class items =
     eqb (f .stage) items-met
     && sameRows (f .names) names
-    && same (f .class-is .kind ∷ f .class-is .first ∷ f .class-is .second ∷ [])
-    (class .kind ∷ class .first ∷ class .second ∷ [])
+    && same (classNumbers (f .class-is)) (classNumbers class)
     && sameRows (f .items) items
 
 -- the day's book is accepted and read as written down, and everything else written down of the day is what the definitions
@@ -714,7 +717,8 @@ exampleHolds =
     && same (listingOf standard example-book) example-listing
     && same (listingOf standard []) empty-listing
 
--- the example holds, and the days, the further ones before the twelve; and the repeat of P3 has the table of P3, and its listing
+-- the example holds, and the days, the further ones before the twelve; and the repeat of P3 has the table of P3, and the listing
+-- written down above
 unfoldable pub daysHold : Bool
 daysHold =
     exampleHolds

@@ -148,7 +148,7 @@ pub record RowTooMany (row : Word) (count : ℕ) (s : Store) : Type 0 where
   pub over :
       (nodes rows : List Word) → Grown nodes rows count s → state-limit < length (withStates nodes (beginnings row))
 
--- what becomes of the tree: of n states where the row is new, as many as before where it was there
+-- the tree with the row: of n states where the row is new, of as many as before where it was there; or it would have too many
 abbrev pub TreeWith : Word → ℕ → Store → Store → Added → Type 0
 TreeWith row count s s′ (added.New n) = RowAdded row count s s′ n
 TreeWith row count s s′ added.Again = RowAdded row count s s′ count

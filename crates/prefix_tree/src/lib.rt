@@ -202,9 +202,7 @@ pub fn add_rows(
                 distinct += 1;
             }
             Added::Again => {}
-            Added::Full => {
-                return Tree::TooLarge;
-            }
+            Added::Full => return Tree::TooLarge,
         }
         at = next_field(book, at);
         i += 1;
