@@ -156,9 +156,7 @@ pub fn add_row(
                 state = v;
                 n = m;
             }
-            Went::Full => {
-                return Added::Full;
-            }
+            Went::Full => return Added::Full,
         }
         i += 1;
     }
