@@ -11,7 +11,7 @@ from .fields import ENTRY_LIMIT, ROW_LIMIT, Book, Class, Refused, Row, Table, re
 from .files import Failure, Input, Kind, label_of, put, read_input, say, write_output
 from .models import Built, Outcome, Walked, build, judged_book, judged_table, list_book, list_table, rewrite, walk
 from .plan_rows import NO_BOOK, Names, Plan, collected, judge_book, missing, names_in, read_plan, rows_alone, rows_of
-from .showing import counted, cut, different, nearest, plain, shown
+from .showing import all_and_different, counted, cut, different, nearest, plain, shown
 from .texts import BadClass, BadText, Text, name_problem, read_class, read_text, write_text
 
 YES, NO, ERROR = 0, 1, 2
@@ -50,8 +50,7 @@ def name_lines(names: Mapping[str, int]) -> List[str]:
 def notes(source: Input, text: Text, copies: bool) -> List[str]:
     """What was read of a text."""
     names = text.names()
-    days = f"{counted(len(text.days), 'day')}, {different(len(set(text.days)), len(text.days), 'day')}"
-    lines = [f"{source.label}: {days}; {counted(len(names), 'name')}:", *name_lines(names)]
+    lines = [f"{source.label}: {all_and_different(text.days, 'day')}; {counted(len(names), 'name')}:", *name_lines(names)]
     if text.blank_lines:
         passed = counted(text.blank_lines, "blank line")
         lines.append(f"{source.label}: {passed} passed over (a single - is the empty day)")
@@ -64,14 +63,14 @@ def put_lines(lines: Iterable[str]) -> None:
     put("".join(line + "\n" for line in lines).encode("utf-8", "backslashreplace"))
 
 
-def text_book(source: Input, asked: Asked, copies: bool) -> Book:
-    """The text's book, with notes on it; BadText if it has none."""
+def text_and_book(source: Input, asked: Asked, copies: bool) -> Tuple[Text, Book]:
+    """The text and its book, with notes on it; BadText if it has none."""
     text = read_text(source.data)
     book = text.book(copies)
     if not asked.quiet:
         for line in notes(source, text, copies):
             say(line)
-    return book
+    return text, book
 
 
 def wrong_kind(source: Input, wanted: str) -> Failure:
@@ -88,7 +87,7 @@ def book_of(source: Input, asked: Asked, copies: bool = False, wanted: str = "a 
     if source.kind not in (Kind.TEXT, Kind.BOOK):
         raise wrong_kind(source, wanted)
     try:
-        book = text_book(source, asked, copies) if source.kind is Kind.TEXT else judged_book(source.data)
+        book = text_and_book(source, asked, copies)[1] if source.kind is Kind.TEXT else judged_book(source.data)
     except BadText as problem:
         raise Failure(*source.faulty_lines(problem)) from None
     except Refused as problem:
@@ -182,7 +181,7 @@ def accepted_fields(source: Input) -> str:
     """What accepted fields are; Refused if they are not."""
     if source.kind is Kind.BOOK:
         book = judged_book(source.data)
-        return f"a book of {counted(len(book.names), 'name')}, {counted(len(book.rows), 'row')}"
+        return f"a book of {counted(len(book.names), 'name')}, {all_and_different(book.rows, 'row')}"
     table = judged_table(source.data)
     return f"a table of {counted(len(table.names), 'name')}, {table.named_class}, {counted(len(table.states), 'state')}"
 
@@ -191,8 +190,8 @@ def judged(source: Input, asked: Asked) -> Tuple[bool, List[str]]:
     """Whether a file is accepted, and the lines that say so."""
     try:
         if source.kind is Kind.TEXT:
-            book = text_book(source, asked, copies=False)
-            counts = f"{counted(len(set(book.rows)), 'different day')}, {counted(len(book.names), 'name')}"
+            text, book = text_and_book(source, asked, copies=False)
+            counts = f"{all_and_different(text.days, 'day')}, {counted(len(book.names), 'name')}"
             return True, [f"{source.label}: accepted: a text of {counts}"]
         return True, [f"{source.label}: accepted: {accepted_fields(source)}"]
     except BadText as problem:
@@ -322,8 +321,7 @@ def names_of(plans: Sequence[Plan], asked: Asked) -> Names:
 
 def row_notes(plans: Sequence[Plan], book: Book) -> List[str]:
     """What was read of plans."""
-    rows = f"{counted(len(book.rows), 'row')}, {different(len(set(book.rows)), len(book.rows), 'row')}"
-    front = f"{counted(len(plans), 'plan')}: {rows}; {counted(len(book.names), 'name')}:"
+    front = f"{counted(len(plans), 'plan')}: {all_and_different(book.rows, 'row')}; {counted(len(book.names), 'name')}:"
     counts = Counter(name for row in book.rows for name in row)
     return [front, *name_lines({name: counts[name] for name in book.names})]
 

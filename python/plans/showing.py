@@ -2,7 +2,7 @@
 import difflib
 import re
 import unicodedata
-from typing import Iterable, Optional
+from typing import Iterable, Optional, Sequence
 
 from .fields import NAME_BYTES
 
@@ -43,6 +43,11 @@ def different(count: int, given: int, what: str) -> str:
     copies = given - count
     told = f" ({copies:,} {'is a copy' if copies == 1 else 'are copies'})" if copies else ""
     return counted(count, f"different {what}") + told
+
+
+def all_and_different(given: Sequence, what: str) -> str:
+    """How many there are, and how many of them are different: '40 days, 22 different days (18 are copies)'."""
+    return f"{counted(len(given), what)}, {different(len(set(given)), len(given), what)}"
 
 
 def suggested(word: str) -> Optional[str]:

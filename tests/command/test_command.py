@@ -56,7 +56,8 @@ class Good(InFolder):
 
     def test_check(self):
         self.answers(0, "days.table: accepted: a table of 3 names, context (2,1), 4 states\n"
-                        "days.book: accepted: a book of 3 names, 3 rows\ndays.txt: accepted: a text of 3 different days, 3 names\n",
+                        "days.book: accepted: a book of 3 names, 3 rows, 3 different rows\n"
+                        "days.txt: accepted: a text of 3 days, 3 different days, 3 names\n",
                      "check", "days.table", "days.book", "days.txt", said=NOTES)
 
     def test_diff(self):
@@ -186,7 +187,8 @@ class Bad(InFolder):
         self.fails("plans: days.txt/x: Not a directory", "list", "days.txt/x")
 
     def test_check_judges_the_other_files_where_one_is_missing(self):
-        accepted, missing = "days.book: accepted: a book of 3 names, 3 rows\n", "plans: none: No such file or directory\n"
+        accepted = "days.book: accepted: a book of 3 names, 3 rows, 3 different rows\n"
+        missing = "plans: none: No such file or directory\n"
         self.answers(2, accepted, "check", "days.book", "none", said=missing)
         self.put("empty", b"")
         done = self.plans("check", "none", "empty", "days.book")

@@ -78,6 +78,17 @@ class Words(InFolder):
         told = "out: 12 states, 0 joins, 10 different rows (30 are copies), 135 bytes\n"
         self.answers(0, "", "build", "days.book", "-o", "out", said=told)
         self.answers(0, "", "build", "-q", "days.book", "-o", "out")
+        self.answers(0, "days.book: accepted: a book of 11 names, 40 rows, 10 different rows (30 are copies)\n"
+                        "days.txt: accepted: a text of 40 days, 10 different days (30 are copies), 11 names\n",
+                     "check", "-q", "days.book", "days.txt")
+
+    def test_more_days_than_a_book_may_have(self):
+        """All that were typed are counted; the book that is built has each once."""
+        self.put("days.txt", 150 * "lunch\nlunch tea\n")
+        self.answers(0, "days.txt: accepted: a text of 300 days, 2 different days (298 are copies), 2 names\n", "check", "-q", "days.txt")
+        said = self.plans("build", "days.txt", "-o", "out").stderr.decode().splitlines()
+        self.assertEqual(said[0], "days.txt: 300 days, 2 different days (298 are copies); 2 names:")
+        self.assertEqual(said[-1], "out: 3 states, 0 joins, 2 different rows, 38 bytes")
 
 
 class NoNumber(InFolder):

@@ -67,6 +67,22 @@ class AgainstTheReference(unittest.TestCase):
 
 
 class Documented(unittest.TestCase):
+    def test_the_readme(self):
+        """Its block of Python: what an expression gives stands after `#`, on the same line or the next."""
+        block = re.findall(r"^```python\n(.*?)^```", (ROOT / "README.md").read_text(), re.M | re.S)[0]
+        names = {}
+        told = []
+        for line in re.sub(r"\n# ", "  # ", block).splitlines():
+            code, _, given = line.partition("  # ")
+            if not given:
+                exec(code, names)
+                continue
+            result = eval(code, names)
+            self.assertTrue(given.strip().startswith(repr(result)), (code, result))
+            told.append(result)
+        self.assertEqual(told[0], (5, 2, 2))
+        self.assertEqual(len(told), 2)
+
     def test_the_examples_run(self):
         names = {"plans": plans}
         results = []

@@ -41,7 +41,7 @@ impl Counts {
         }
     }
 
-    /// A rewriting or a listing.
+    /// A build, a rewriting or a listing.
     pub fn count_written<T>(&mut self, written: &Result<T, Refusal>) {
         self.inputs += 1;
         self.refused[written.as_ref().map_or_else(|refusal| usize::from(refusal.number()), |_| 0)] += 1;

@@ -28,7 +28,8 @@ pub fn build_outputs(run: &mut Run) -> Result<(), Mismatch> {
 
 pub fn rewrite_outputs(run: &mut Run) -> Result<(), Mismatch> {
     let table = draw_small_table(&mut run.random).bytes();
-    for output in 0..=table.len() + 1 {
+    let rewritten = run.compare_rewrite(&table)?.expect("a valid table");
+    for output in 0..=rewritten.bytes.len() + 1 {
         run.compare_rewrite_lent(&table, Lent { work: WORK_BYTES, output })?;
     }
     Ok(())
