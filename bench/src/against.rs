@@ -10,6 +10,7 @@ use std::ffi::{c_char, c_void, CStr, CString};
 use std::fs;
 use std::hint::black_box;
 use std::mem::transmute;
+use std::os::unix::ffi::OsStrExt;
 
 const RUNS: usize = 5;
 
@@ -53,8 +54,10 @@ impl Library {
     fn open(path: &str) -> Result<Library, String> {
         let bytes = fs::read(path).map_err(|error| format!("{path}: {error}"))?;
         let version = version(&bytes).ok_or_else(|| format!("{path}: no libplans.so, by what it holds"))?;
-        let file = CString::new(path).map_err(|_| format!("{path}: no file's name"))?;
-        // SAFETY: both names end with a 0; the library's constructors, if any, are trusted as it is
+        // a name without a folder would be looked for among the machine's libraries
+        let whole = fs::canonicalize(path).map_err(|error| format!("{path}: {error}"))?;
+        let file = CString::new(whole.as_os_str().as_bytes()).expect("a file's name has no 0");
+        // SAFETY: both names end with a 0; whoever names a library has its code run
         let call = unsafe {
             let library = dlopen(file.as_ptr(), RTLD_NOW);
             if library.is_null() {
