@@ -68,11 +68,12 @@ impl Library {
         if call.is_null() {
             return Err(format!("{path}: it has no plans_build"));
         }
-        // SAFETY: the header of each version declares plans_build so
+        // SAFETY: the header of each of these versions declares plans_build so
         let build = unsafe {
             match version {
                 1 => Build::First(transmute::<*mut c_void, Call<FirstBuilt>>(call)),
-                _ => Build::Now(transmute::<*mut c_void, Call<Built>>(call)),
+                2 => Build::Now(transmute::<*mut c_void, Call<Built>>(call)),
+                _ => return Err(format!("{path}: the results of version {version} are not known here")),
             }
         };
         Ok(Library { build, lent: Lent::new() })
