@@ -2,7 +2,7 @@
 .DEFAULT_GOAL := help
 .DELETE_ON_ERROR:
 .NOTPARALLEL:
-.PHONY: help run test check lib listing install uninstall header example images fuzz bench bench-search fmt
+.PHONY: help run test check lib listing install uninstall header example images fuzz bench bench-search bench-against fmt
 .PHONY: test-command test-division test-outside test-c test-install seeded-fault
 
 help:
@@ -29,6 +29,7 @@ help:
 	@echo "make fuzz SECONDS=600   the comparison of test-outside with new inputs, as long as asked"
 	@echo "make bench         what calls cost, as multiples of one memset, beside a second implementation and beside expat"
 	@echo "make bench-search SECONDS=300   looks for books that cost more"
+	@echo "make bench-against BEFORE=FILE  builds against those by an earlier libplans.so, in one run"
 	@echo "make fmt           puts every .rt and .antt file into the layout"
 
 # What is proved and compiled: scripts/anew makes it where it was not made from the sources as they are. The kit is asked for only
@@ -43,11 +44,13 @@ PREFIX ?= /usr/local
 export PREFIX DESTDIR
 
 # Every target that needs a tool or a setting asks for it here, so that a newcomer reads what is missing.
-.PHONY: kit python seconds always
+.PHONY: kit python seconds before always
 kit:
 	@command -v rt >/dev/null || { echo "make: the command 'rt' is missing: it comes with the Rattle kit (rattle-kit-5)"; exit 1; }
 seconds:
 	@[ -n "$(SECONDS)" ] || { echo "make: say for how long, as SECONDS=300"; exit 1; }
+before:
+	@[ -f "$(BEFORE)" ] || { echo "make: say which libplans.so, as BEFORE=FILE"; exit 1; }
 python:
 	@command -v python3 >/dev/null || { echo "make: the command 'python3' is missing: it is in Debian's package python3"; exit 1; }
 
@@ -118,6 +121,9 @@ bench: lib
 
 bench-search: seconds lib
 	@scripts/bench search "$(SECONDS)"
+
+bench-against: before lib
+	@scripts/bench against $(SHARED) "$(BEFORE)"
 
 fmt: kit
 	@rt fmt

@@ -38,7 +38,7 @@ int main(void)
         printf("refused %u: %s\n", built.refusal, plans_refusal_text(built.refusal));
         return 1;
     }
-    printf("states %u joins %u\n", (unsigned)built.states, (unsigned)built.joins);
+    printf("states %u joins %u distinct %u\n", (unsigned)built.states, (unsigned)built.joins, (unsigned)built.distinct);
     for (uint32_t i = 0; i < built.length; i++)
         printf("%02X%c", table[i], i + 1 == built.length ? '\n' : ' ');
     print_walk(built.length, row, 3);

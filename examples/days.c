@@ -6,7 +6,7 @@
 
 #include "plans_fields.h"
 
-enum { DAYS = 4, ASKED = 6, LONGEST = 5 };
+enum { DAYS = 5, ASKED = 6, LONGEST = 5 };
 
 /* Days as they were written down; a null pointer ends each. */
 static const char *const days[DAYS][LONGEST + 1] = {
@@ -14,6 +14,7 @@ static const char *const days[DAYS][LONGEST + 1] = {
     {"breakfast", "snack", "lunch", "dinner", NULL},
     {"breakfast", "lunch", "snack", "dinner", NULL},
     {"medication", "breakfast", "lunch", "dinner", NULL},
+    {"breakfast", "lunch", "dinner", NULL}, /* a copy of the first */
 };
 
 /* Days that are asked about. */
@@ -137,7 +138,7 @@ int main(void)
         printf("refused: %s\n", plans_refusal_text(built.refusal));
         return 1;
     }
-    printf("%u days, a model of %u states\n", (unsigned)DAYS, (unsigned)built.states);
+    printf("%u days, %u of them different, a model of %u states\n", (unsigned)DAYS, (unsigned)built.distinct, (unsigned)built.states);
     for (size_t i = 0; i < ASKED; i++)
         ask(asked[i], built.length);
     return 0;

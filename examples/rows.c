@@ -8,12 +8,13 @@
 
 enum { NAMES = 5, ASKED = 3, LONGEST = 4 };
 
-/* A plan as the clinic keeps it; examples/plans has more. */
+/* A plan as the clinic keeps it; examples/plans has more. Text is left out of rows, so Thursday's is a copy of Monday's. */
 static const char plan[] =
     "<week>\n"
     "  <day>Monday <breakfast>porridge</breakfast> <lunch>soup, bread</lunch> <dinner>fish</dinner></day>\n"
     "  <day>Tuesday <breakfast>toast</breakfast> <snack/> <lunch>rice</lunch> <dinner>stew</dinner></day>\n"
     "  <day>Wednesday, fasting</day>\n"
+    "  <day>Thursday <breakfast>eggs</breakfast> <lunch>salad</lunch> <dinner>pie</dinner></day>\n"
     "</week>\n";
 
 /* A plan that is refused: a tag has no attributes. */
@@ -123,7 +124,7 @@ int main(void)
         printf("refused %u, %s\n", built.refusal, plans_refusal_text(built.refusal));
         return 1;
     }
-    printf("%d days, a model of %u states\n", days, (unsigned)built.states);
+    printf("%d days, %u of them different, a model of %u states\n", days, (unsigned)built.distinct, (unsigned)built.states);
     for (size_t i = 0; i < ASKED; i++)
         ask(asked[i], built.length);
     return 0;

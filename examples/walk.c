@@ -49,7 +49,7 @@ int main(void)
     static const uint8_t snacks[] = {0, 0, 0};
     static const uint8_t unknown[] = {0, 1};
     uint8_t out[sizeof table + 1];
-    plans_built b;
+    plans_rewritten again;
 
     print_walk(NULL, 0);
     print_walk(snacks, 1);
@@ -58,11 +58,11 @@ int main(void)
     print_walk(unknown, 2);
 
     memset(out, 0xEE, sizeof out);
-    b = plans_rewrite(table, sizeof table, work, sizeof work, out, sizeof out);
-    printf("rewritten: refusal %u, %u bytes, %u states, %u joins, %s, the byte after it %s\n", b.refusal, (unsigned)b.length,
-           (unsigned)b.states, (unsigned)b.joins, memcmp(out, table, sizeof table) == 0 ? "the same bytes" : "OTHER BYTES",
+    again = plans_rewrite(table, sizeof table, work, sizeof work, out, sizeof out);
+    printf("rewritten: refusal %u, %u bytes, %u states, %s, the byte after it %s\n", again.refusal, (unsigned)again.length,
+           (unsigned)again.states, memcmp(out, table, sizeof table) == 0 ? "the same bytes" : "OTHER BYTES",
            out[sizeof table] == 0xEE ? "untouched" : "TOUCHED");
-    b = plans_rewrite(table, sizeof table, work, sizeof work, out, sizeof table - 1);
-    printf("in an output one byte shorter: refusal %u\n", b.refusal);
+    again = plans_rewrite(table, sizeof table, work, sizeof work, out, sizeof table - 1);
+    printf("in an output one byte shorter: refusal %u\n", again.refusal);
     return 0;
 }

@@ -33,7 +33,7 @@ extern "C" {
 #endif
 
 /* The version of this header and of the library beside it. scripts/header writes this line from the file VERSION. */
-#define PLANS_VERSION "1.1.0"
+#define PLANS_VERSION "2.0.0"
 
 /* The least length of a working area, in bytes. */
 #define PLANS_WORK_BYTES 65536
@@ -111,13 +111,22 @@ enum {
     PLANS_STOPS = 3       /* some name has no arc */
 };
 
-/* What a call that writes a table gives back. Where it is refused, all but `refusal` is 0. */
+/* What building a table gives back. Where it is refused, all but `refusal` is 0. */
+typedef struct {
+    uint8_t refusal;   /* 0, or the refusal */
+    uint32_t length;   /* the table's length in bytes */
+    uint32_t states;   /* how many states it has */
+    uint32_t joins;    /* states of the prefix tree less states of the table */
+    uint32_t distinct; /* how many different rows the book has, each counted once: at least 1, at most the book's rows */
+} plans_built;
+
+/* What rewriting a table gives back. Where it is refused, all but `refusal` is 0. A table does not say how many joins or different
+ * rows there were. */
 typedef struct {
     uint8_t refusal; /* 0, or the refusal */
     uint32_t length; /* the table's length in bytes */
     uint32_t states; /* how many states it has */
-    uint32_t joins;  /* states of the prefix tree less states of the table; 0 for a rewritten table */
-} plans_built;
+} plans_rewritten;
 
 /* What a call that writes a text gives back. */
 typedef struct {
@@ -144,7 +153,8 @@ typedef struct {
 
 /*
  * Builds the table of a book, to the front of `out`: the prefix tree of its rows, joined by the rules of its class until none
- * applies, its states numbered first-met. Every book with the same names, class and set of rows gives the same bytes.
+ * applies, its states numbered first-met. Every book with the same names, class and set of rows gives the same bytes, and the same
+ * `distinct`, which is the size of that set: of forty rows with `distinct` 10, thirty are copies of others.
  * Reads `book`; writes `work` (zeros) and `out`. Bytes of `out` beyond the table are left as they were, and where the call is
  * refused all of `out` is. Refusals, the first that applies: 1; those of the fields, in the book's order; 10; 13. An output of
  * PLANS_TABLE_BYTES is always enough.
@@ -158,9 +168,9 @@ plans_built plans_build(const uint8_t *book, size_t book_len,
  * Reads `table`; writes `work` (zeros) and `out`. Bytes of `out` beyond the table are left as they were, and where the call is
  * refused all of `out` is. Refusals, the first that applies: 1; those of the fields, in the table's order; 12; 13.
  */
-plans_built plans_rewrite(const uint8_t *table, size_t table_len,
-                          uint8_t *work, size_t work_len,
-                          uint8_t *out, size_t out_len);
+plans_rewritten plans_rewrite(const uint8_t *table, size_t table_len,
+                              uint8_t *work, size_t work_len,
+                              uint8_t *out, size_t out_len);
 
 /*
  * Walks the row, a name's number in each byte, over the table from its state 0.
@@ -172,8 +182,9 @@ plans_walked plans_walk(const uint8_t *table, size_t table_len,
                         uint8_t *work, size_t work_len);
 
 /*
- * Writes the listing of a book's table to the front of `text`: the line `states N joins M`, then a line for each state: its number,
- * `+` accepting or `-` not, and each arc as name, `>`, target. Every line ends with a newline; no 0 byte is written after the last.
+ * Writes the listing of a book's table to the front of `text`: the line `states N joins M distinct D`, the three numbers that
+ * plans_build gives, then a line for each state: its number, `+` accepting or `-` not, and each arc as name, `>`, target. Every line
+ * ends with a newline; no 0 byte is written after the last.
  * Reads `book`; writes `work` (zeros) and `text`. Bytes of `text` beyond the listing are left as they were, and where the call is
  * refused all of `text` is. Refusals, the first that applies: 1; those of the fields, in the book's order; 10; 13. A text of
  * PLANS_LISTING_BYTES is always enough.

@@ -8,6 +8,7 @@ pub enum Bar {
     Worst,
     Walk,
     Ratio,
+    Copied,
     ClinicPlan,
     DensePlan,
     NestedPlan,
@@ -16,13 +17,14 @@ pub enum Bar {
     ReadingStack,
 }
 
-const BARS: [(Bar, &str, f64); 12] = [
+const BARS: [(Bar, &str, f64); 13] = [
     (Bar::TypicalDefault, "typical (2,1), memsets", 8.0),
     (Bar::Typical, "typical, any class, memsets", 30.0),
     (Bar::Large, "512-state books, memsets", 200.0),
     (Bar::Worst, "worst books found, memsets", 4000.0),
     (Bar::Walk, "walk of 64 names over 512 states, memsets", 12.0),
     (Bar::Ratio, "library to maps, ratio", 1.2),
+    (Bar::Copied, "days copied sixfold to once, library, ratio", 4.0),
     (Bar::ClinicPlan, "plan of a clinic, library to expat, ratio", 0.4),
     (Bar::DensePlan, "tag-dense plan, library to expat, ratio", 0.75),
     (Bar::NestedPlan, "nested to tag-dense plan, library, ratio", 3.0),

@@ -77,6 +77,15 @@ pub fn typical() -> Book {
     day_book((0..40).map(|_| varied_day(&mut random)).collect())
 }
 
+/// How often each day stands in the book of copied days.
+const COPIED: usize = 6;
+
+/// The same 40 days again and again, so that most are copies.
+pub fn copied() -> Book {
+    let days = typical().rows;
+    day_book((0..COPIED).flat_map(|_| days.clone()).collect())
+}
+
 /// Varied days with a prefix tree of so many states.
 pub fn typical_of(states: usize) -> Book {
     let mut random = Random::new(2);

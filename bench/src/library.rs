@@ -3,8 +3,7 @@
 #[path = "../../tests/outside/src/library.rs"]
 mod calls;
 
-use calls::Call;
-pub use calls::{Built, RowsGiven, Walked, Written};
+pub use calls::{Built, Call, Rewritten, RowsGiven, Walked, Written};
 
 pub const WORK_BYTES: usize = 65_536;
 pub const INPUT_LIMIT: usize = 65_535;
@@ -13,7 +12,7 @@ pub fn build(book: &[u8], work: &mut [u8], out: &mut [u8]) -> Built {
     call(calls::plans_build, book, work, out)
 }
 
-pub fn rewrite(table: &[u8], work: &mut [u8], out: &mut [u8]) -> Built {
+pub fn rewrite(table: &[u8], work: &mut [u8], out: &mut [u8]) -> Rewritten {
     call(calls::plans_rewrite, table, work, out)
 }
 
@@ -34,7 +33,7 @@ pub fn read_rows(plan: &[u8], list: &[u8], chosen: u8, work: &mut [u8], out: &mu
     unsafe { calls::plans_read_rows(plan.as_ptr(), plan_len, list.as_ptr(), list_len, chosen, work, work_len, out, out_len) }
 }
 
-fn call<R>(call: Call<R>, input: &[u8], work: &mut [u8], out: &mut [u8]) -> R {
+pub fn call<R>(call: Call<R>, input: &[u8], work: &mut [u8], out: &mut [u8]) -> R {
     // SAFETY: each pointer comes with the length of the slice it was taken from, and the slices do not overlap
     unsafe { call(input.as_ptr(), input.len(), work.as_mut_ptr(), work.len(), out.as_mut_ptr(), out.len()) }
 }

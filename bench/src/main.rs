@@ -1,7 +1,9 @@
 //! What builds and walks cost, against a second implementation in two variants that is written for speed; what reading plans costs,
 //! against expat; and all against bars.
-//! With `search SECONDS`: looks for books that cost the library most, and keeps them under bench/books.
+//! With `search SECONDS`: looks for books that cost the library most, and keeps them under bench/books. With `against FILE FILE`: builds
+//! by one shared library against those by another.
 
+mod against;
 mod bars;
 mod book;
 mod cases;
@@ -30,7 +32,8 @@ fn main() -> ExitCode {
             Ok(seconds) => search::run(seconds).map(|()| true),
             Err(_) => Err(format!("'{seconds}' is no number of seconds")),
         },
-        _ => Err("usage: bench, or bench search SECONDS".to_string()),
+        ["against", now, other] => against::run(now, other),
+        _ => Err("usage: bench, bench search SECONDS, or bench against FILE FILE".to_string()),
     };
     match ended {
         Ok(true) => ExitCode::SUCCESS,

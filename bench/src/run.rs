@@ -16,6 +16,10 @@ const PASSES: usize = 3;
 
 const GROWTH: [usize; 4] = [64, 128, 256, 512];
 
+const TYPICAL: &str = "typical";
+
+const COPIED: &str = "typical, copied";
+
 enum Input {
     Book(Vec<u8>),
     Walk { table: Vec<u8>, row: Vec<u8> },
@@ -51,6 +55,7 @@ pub fn run() -> Result<bool, String> {
         readings.time(EFFORT);
     }
     show_cases(&timed, &mut bars);
+    hold_copied(&timed, &mut bars);
     show_growth(&growth);
     readings.show(&mut bars);
     show_stack(&mut bars);
@@ -64,8 +69,9 @@ fn builds() -> Result<Vec<Case>, String> {
             Class::Context(2, 1) => &[Bar::Typical, Bar::TypicalDefault],
             _ => &[Bar::Typical],
         };
-        builds.push(Case::build("typical", &cases::typical().with_class(class), bars));
+        builds.push(Case::build(TYPICAL, &cases::typical().with_class(class), bars));
     }
+    builds.push(Case::build(COPIED, &cases::copied(), &[]));
     for (name, book) in cases::large() {
         builds.extend(CLASSES.map(|class| Case::build(name, &book.with_class(class), &[Bar::Large])));
     }
@@ -139,6 +145,14 @@ fn show_cases(timed: &[Case], bars: &mut Bars) {
         }
         bars.take(Bar::Ratio, ratio, &of);
     }
+}
+
+/// The copied days against the same days once, of the same class.
+fn hold_copied(timed: &[Case], bars: &mut Bars) {
+    let copied = timed.iter().find(|case| case.name == COPIED).expect("the copied days are timed");
+    let once = timed.iter().find(|case| case.name == TYPICAL && case.class == copied.class).expect("so are the days once");
+    let [copied_cost, once_cost] = [copied, once].map(|case| case.times.in_memsets()[0]);
+    bars.take(Bar::Copied, copied_cost / once_cost, &format!("{COPIED} {}", copied.class));
 }
 
 fn show_growth(growth: &[Case]) {

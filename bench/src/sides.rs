@@ -7,13 +7,13 @@ use std::fmt::Debug;
 use std::hint::black_box;
 
 /// What is lent to a call.
-struct Lent {
-    work: Vec<u8>,
-    out: Vec<u8>,
+pub struct Lent {
+    pub work: Vec<u8>,
+    pub out: Vec<u8>,
 }
 
 impl Lent {
-    fn new() -> Lent {
+    pub fn new() -> Lent {
         Lent { work: vec![0; WORK_BYTES], out: vec![0; INPUT_LIMIT] }
     }
 }

@@ -19,7 +19,8 @@ from .differences import Difference, compare
 from .fields import (DEFAULT_CLASS, REFUSALS, Book, Class, Refused, State, Table, read_book, read_table, write_book, write_names,
                      write_table)
 from .library import LibraryMissing
-from .models import Built, Outcome, Walked, build, judged_book, judged_table, list_book, list_table, read_rows, rewrite, walk
+from .models import (Built, Outcome, Rewritten, Walked, build, judged_book, judged_table, list_book, list_table, read_rows, rewrite,
+                     walk)
 from .texts import BadClass, BadText, Problem, Text, read_class, read_text, write_class, write_text
 
 
@@ -32,6 +33,6 @@ def _version() -> str:
 
 __version__ = _version()
 __all__ = ["DEFAULT_CLASS", "REFUSALS", "BadClass", "BadText", "Book", "Built", "Class", "Difference", "LibraryMissing",
-           "Outcome", "Problem", "Refused", "State", "Table", "Text", "Walked", "build", "compare", "judged_book",
+           "Outcome", "Problem", "Refused", "Rewritten", "State", "Table", "Text", "Walked", "build", "compare", "judged_book",
            "judged_table", "list_book", "list_table", "read_book", "read_class", "read_rows", "read_table", "read_text", "rewrite",
            "walk", "write_book", "write_class", "write_names", "write_table", "write_text"]

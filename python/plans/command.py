@@ -11,7 +11,7 @@ from .fields import ENTRY_LIMIT, ROW_LIMIT, Book, Class, Refused, Row, Table, re
 from .files import Failure, Input, Kind, label_of, put, read_input, say, write_output
 from .models import Built, Outcome, Walked, build, judged_book, judged_table, list_book, list_table, rewrite, walk
 from .plan_rows import NO_BOOK, Names, Plan, collected, judge_book, missing, names_in, read_plan, rows_alone, rows_of
-from .showing import counted, cut, nearest, plain, shown
+from .showing import all_and_different, counted, cut, different, nearest, plain, shown
 from .texts import BadClass, BadText, Text, name_problem, read_class, read_text, write_text
 
 YES, NO, ERROR = 0, 1, 2
@@ -31,11 +31,12 @@ class Asked:
 
 @dataclass(frozen=True)
 class Model:
-    """A table, and the book that it was built from, if it was."""
+    """A table with its bytes; and, if it was built, the book that it was built from and what the build told."""
     source: Input
-    book: Optional[Book]
-    built: Built
+    data: bytes
     table: Table
+    book: Optional[Book]
+    built: Optional[Built]
 
 
 def name_lines(names: Mapping[str, int]) -> List[str]:
@@ -49,8 +50,7 @@ def name_lines(names: Mapping[str, int]) -> List[str]:
 def notes(source: Input, text: Text, copies: bool) -> List[str]:
     """What was read of a text."""
     names = text.names()
-    different = counted(len(set(text.days)), "different day")
-    lines = [f"{source.label}: {counted(len(text.days), 'day')}, {different}; {counted(len(names), 'name')}:", *name_lines(names)]
+    lines = [f"{source.label}: {all_and_different(text.days, 'day')}; {counted(len(names), 'name')}:", *name_lines(names)]
     if text.blank_lines:
         passed = counted(text.blank_lines, "blank line")
         lines.append(f"{source.label}: {passed} passed over (a single - is the empty day)")
@@ -63,14 +63,14 @@ def put_lines(lines: Iterable[str]) -> None:
     put("".join(line + "\n" for line in lines).encode("utf-8", "backslashreplace"))
 
 
-def text_book(source: Input, asked: Asked, copies: bool) -> Book:
-    """The text's book, with notes on it; BadText if it has none."""
+def text_and_book(source: Input, asked: Asked, copies: bool) -> Tuple[Text, Book]:
+    """The text and its book, with notes on it; BadText if it has none."""
     text = read_text(source.data)
     book = text.book(copies)
     if not asked.quiet:
         for line in notes(source, text, copies):
             say(line)
-    return book
+    return text, book
 
 
 def wrong_kind(source: Input, wanted: str) -> Failure:
@@ -87,7 +87,7 @@ def book_of(source: Input, asked: Asked, copies: bool = False, wanted: str = "a 
     if source.kind not in (Kind.TEXT, Kind.BOOK):
         raise wrong_kind(source, wanted)
     try:
-        book = text_book(source, asked, copies) if source.kind is Kind.TEXT else judged_book(source.data)
+        book = text_and_book(source, asked, copies)[1] if source.kind is Kind.TEXT else judged_book(source.data)
     except BadText as problem:
         raise Failure(*source.faulty_lines(problem)) from None
     except Refused as problem:
@@ -103,17 +103,17 @@ def model_of(path: str, asked: Asked) -> Model:
             if asked.named_class is not None:
                 raise Failure(f"{source.label}: this is a table, which has its class; --class is for texts and books")
             table = judged_table(source.data)
-            return Model(source, None, rewrite(source.data), table)
+            return Model(source, rewrite(source.data).table, table, None, None)
         book = book_of(source, asked, wanted="a text, a book or a table")
         built = build(book)
-        return Model(source, book, built, read_table(built.table))
+        return Model(source, built.table, read_table(built.table), book, built)
     except Refused as problem:
         raise source.refused(problem) from None
 
 
 def listing(asked: Asked) -> int:
     model = model_of(asked.words[0], asked)
-    text = list_table(model.built.table) if model.book is None else list_book(model.book)
+    text = list_table(model.data) if model.book is None else list_book(model.book)
     write_output(asked.out, text.encode("ascii"), [model.source], binary=False)
     return YES
 
@@ -128,11 +128,13 @@ def written(asked: Asked, sources: Sequence[Input], data: bytes, what: str) -> i
 def building(asked: Asked) -> int:
     source = read_input(asked.words[0])
     try:
-        built = build(book_of(source, asked))
+        book = book_of(source, asked)
+        built = build(book)
     except Refused as problem:
         raise source.refused(problem) from None
-    counts = f"{counted(built.states, 'state')}, {counted(built.joins, 'join')}, {counted(len(built.table), 'byte')}"
-    return written(asked, [source], built.table, counts)
+    counts = [counted(built.states, "state"), counted(built.joins, "join"), different(built.distinct, len(book.rows), "row"),
+              counted(len(built.table), "byte")]
+    return written(asked, [source], built.table, ", ".join(counts))
 
 
 def day_of(words: Sequence[str]) -> Row:
@@ -169,7 +171,7 @@ def answer(day: Row, result: Walked, names: Sequence[str]) -> str:
 def walking(asked: Asked) -> int:
     day = day_of(asked.words[1:])
     model = model_of(asked.words[0], asked)
-    result = walk(model.built.table, day)
+    result = walk(model.data, day)
     following = ", ".join(result.next_names) or "nothing"
     put_lines([answer(day, result, model.table.names), f"next: {following}"])
     return YES if result.outcome is Outcome.ADMITTED else NO
@@ -179,7 +181,7 @@ def accepted_fields(source: Input) -> str:
     """What accepted fields are; Refused if they are not."""
     if source.kind is Kind.BOOK:
         book = judged_book(source.data)
-        return f"a book of {counted(len(book.names), 'name')}, {counted(len(book.rows), 'row')}"
+        return f"a book of {counted(len(book.names), 'name')}, {all_and_different(book.rows, 'row')}"
     table = judged_table(source.data)
     return f"a table of {counted(len(table.names), 'name')}, {table.named_class}, {counted(len(table.states), 'state')}"
 
@@ -188,8 +190,8 @@ def judged(source: Input, asked: Asked) -> Tuple[bool, List[str]]:
     """Whether a file is accepted, and the lines that say so."""
     try:
         if source.kind is Kind.TEXT:
-            book = text_book(source, asked, copies=False)
-            counts = f"{counted(len(set(book.rows)), 'different day')}, {counted(len(book.names), 'name')}"
+            text, book = text_and_book(source, asked, copies=False)
+            counts = f"{all_and_different(text.days, 'day')}, {counted(len(book.names), 'name')}"
             return True, [f"{source.label}: accepted: a text of {counts}"]
         return True, [f"{source.label}: accepted: {accepted_fields(source)}"]
     except BadText as problem:
@@ -220,10 +222,10 @@ def difference_lines(ours: Model, theirs: Model, found: Difference) -> List[str]
              for label, names in ((one, found.only_first), (two, found.only_second)) if names]
     if ours.table.named_class != theirs.table.named_class:
         lines.append(f"class: {ours.table.named_class} in {one}, {theirs.table.named_class} in {two}")
-    if ours.built.states != theirs.built.states:
-        lines.append(f"states: {ours.built.states} in {one}, {theirs.built.states} in {two}")
+    if len(ours.table.states) != len(theirs.table.states):
+        lines.append(f"states: {len(ours.table.states)} in {one}, {len(theirs.table.states)} in {two}")
     elif ours.table.states != theirs.table.states:
-        lines.append(f"states: {ours.built.states} in both, but they are not the same")
+        lines.append(f"states: {len(ours.table.states)} in both, but they are not the same")
     if found.day is None:
         return lines + ["days: both allow the same"]
     day = " ".join(found.day) or "the empty day"
@@ -235,7 +237,7 @@ def difference_lines(ours: Model, theirs: Model, found: Difference) -> List[str]
 
 def differing(asked: Asked) -> int:
     ours, theirs = (model_of(path, asked) for path in asked.words)
-    if ours.built.table == theirs.built.table:
+    if ours.data == theirs.data:
         put(b"same\n")
         return YES
     lines = difference_lines(ours, theirs, compare(ours.table, theirs.table))
@@ -266,8 +268,7 @@ def picturing(asked: Asked) -> int:
         model = model_of(asked.words[0], asked)
         if asked.tree and model.book is None:
             raise Failure(f"{model.source.label}: this is a table, which has no days; --tree is for texts and books")
-        joins = None if model.book is None else model.built.joins
-        text = drawings.drawing(model.table, joins, model.book if asked.tree else None)
+        text = drawings.drawing(model.table, model.built, model.book if asked.tree else None)
         write_output(asked.out, drawings.rendered(text, form), [model.source])
     except drawings.NotDrawn as problem:
         raise Failure(f"plans picture: {problem}") from None
@@ -320,8 +321,7 @@ def names_of(plans: Sequence[Plan], asked: Asked) -> Names:
 
 def row_notes(plans: Sequence[Plan], book: Book) -> List[str]:
     """What was read of plans."""
-    different = counted(len(set(book.rows)), "different row")
-    front = f"{counted(len(plans), 'plan')}: {counted(len(book.rows), 'row')}, {different}; {counted(len(book.names), 'name')}:"
+    front = f"{counted(len(plans), 'plan')}: {all_and_different(book.rows, 'row')}; {counted(len(book.names), 'name')}:"
     counts = Counter(name for row in book.rows for name in row)
     return [front, *name_lines({name: counts[name] for name in book.names})]
 

@@ -8,6 +8,7 @@ from collections import Counter
 from typing import Dict, List, Optional, Sequence
 
 from .fields import Book, Table, prefix_tree
+from .models import Built
 from .showing import counted
 
 FORMS = ("svg", "png", "pdf", "dot")
@@ -96,10 +97,11 @@ def cluster(key: str, label: str, lines: List[str]) -> List[str]:
     return [f"subgraph cluster_{key} {{", f'label="{label}"', "pencolor=none", *lines, "}"]
 
 
-def drawing(table: Table, joins: Optional[int], book: Optional[Book]) -> str:
-    """The drawing's text. With a book its prefix tree stands beside the table, and both show which states were joined."""
+def drawing(table: Table, built: Optional[Built], book: Optional[Book]) -> str:
+    """The drawing's text, with the numbers of the build, if the table was built. With a book its prefix tree stands beside the table,
+    and both show which states were joined."""
     title = f"{table.named_class}: {counted(len(table.states), 'state')}"
-    title += "" if joins is None else f", {counted(joins, 'join')}"
+    title += "" if built is None else f", {counted(built.joins, 'join')}, {counted(built.distinct, 'different row')}"
     if book is None:
         parts = [f'label="{title}"', "labelloc=t", *table_lines(table, {})]
     else:

@@ -27,12 +27,12 @@ LIST = """\
 plans list FILE [--class CLASS] [-o FILE] [-q]
 
 Prints the model of a text, a book or a table. The first line has the number of
-states and, but for a table, of joins. Then each state has a line: its number,
-+ if a day may end there or - if not, and each name that may come next with the
-state that it leads to.
+states and, but for a table, of joins and of different days (distinct). Then
+each state has a line: its number, + if a day may end there or - if not, and
+each name that may come next with the state that it leads to.
 
-  $ printf 'tea\\ntea cake\\n' | plans list -q -
-  states 3 joins 0
+  $ printf 'tea\\ntea cake\\ntea\\n' | plans list -q -
+  states 3 joins 0 distinct 2
   0 - tea>1
   1 + cake>2
   2 +
@@ -43,7 +43,8 @@ plans build FILE [--class CLASS] [-o TABLE] [-q]
 
 Writes the table of a text or a book. CLASS says how generous the model is:
 "k h" (context; k from 1 to 8, h from 1 to k), seen, or "last j" (j 0 to 8).
-Without it the class is the file's own or, if it names none, "2 1".
+Without it the class is the file's own or, if it names none, "2 1". With -o it
+says how many states, joins and different rows there are, and how many copies.
 
   $ printf 'tea\\ntea cake cake\\n' | plans build -q - --class seen -o tea.table
   $ plans list tea.table
@@ -129,7 +130,7 @@ colour.
 
   $ printf 'tea\\n' | plans picture -q - -o tea.dot
   $ grep label tea.dot | head -n 1
-  label="context (2,1): 2 states, 0 joins"
+  label="context (2,1): 2 states, 0 joins, 1 different row"
 """
 
 ROWS = """\

@@ -6,7 +6,8 @@ from pathlib import Path
 from typing import Callable, List, Tuple
 
 HERE = Path(__file__).resolve().parent
-FILES = ("libplans.so.1", "libplans.so")
+# the library by its soname: one with another first number has results of another layout
+FILE = "libplans.so.2"
 
 WORK_BYTES = 65536
 LISTING_BYTES = 32768
@@ -14,11 +15,16 @@ ROWS_BYTES = 17152
 
 
 class LibraryMissing(Exception):
-    """libplans.so cannot be loaded: where it was looked for, and what to do."""
+    """The shared library cannot be loaded: where it was looked for, and what to do."""
 
 
 class BuiltLayout(ctypes.Structure):
-    _fields_ = [("refusal", ctypes.c_uint8), ("length", ctypes.c_uint32), ("states", ctypes.c_uint32), ("joins", ctypes.c_uint32)]
+    _fields_ = [("refusal", ctypes.c_uint8), ("length", ctypes.c_uint32), ("states", ctypes.c_uint32), ("joins", ctypes.c_uint32),
+                ("distinct", ctypes.c_uint32)]
+
+
+class RewrittenLayout(ctypes.Structure):
+    _fields_ = [("refusal", ctypes.c_uint8), ("length", ctypes.c_uint32), ("states", ctypes.c_uint32)]
 
 
 class WrittenLayout(ctypes.Structure):
@@ -35,8 +41,8 @@ class PlanRowsLayout(ctypes.Structure):
 
 
 # each call's result, and what it takes: slices, a slice being (pointer, length), and numbers
-RESULTS = {"plans_build": BuiltLayout, "plans_rewrite": BuiltLayout, "plans_walk": WalkedLayout, "plans_list": WrittenLayout,
-           "plans_read_rows": PlanRowsLayout}
+RESULTS = {"plans_build": BuiltLayout, "plans_rewrite": RewrittenLayout, "plans_walk": WalkedLayout,
+           "plans_list": WrittenLayout, "plans_read_rows": PlanRowsLayout}
 READ = [ctypes.c_char_p, ctypes.c_size_t]
 LENT = [ctypes.c_void_p, ctypes.c_size_t]
 TAKEN = {"plans_build": READ + LENT + LENT, "plans_rewrite": READ + LENT + LENT, "plans_walk": READ + READ + LENT,
@@ -55,10 +61,10 @@ def _path() -> str:
     given = os.environ.get("PLANS_LIBRARY")
     if given:
         return given
-    found = [folder / name for folder in _folders() for name in FILES if (folder / name).is_file()]
+    found = [folder / FILE for folder in _folders() if (folder / FILE).is_file()]
     if not found:
         places = " and ".join(str(folder) for folder in _folders())
-        raise LibraryMissing(f"libplans.so is not in {places}: 'make lib' builds it; or PLANS_LIBRARY names it")
+        raise LibraryMissing(f"{FILE} is not in {places}: 'make lib' builds it; or PLANS_LIBRARY names it")
     return str(found[0])
 
 

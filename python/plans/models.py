@@ -19,10 +19,18 @@ class Outcome(enum.Enum):
 
 @dataclass(frozen=True)
 class Built:
-    """A table's bytes, how many states it has, and how many joins made it (0 for a rewritten table)."""
+    """The bytes of a book's table, how many states it has, how many joins made it, and how many different rows the book has."""
     table: bytes
     states: int
     joins: int
+    distinct: int
+
+
+@dataclass(frozen=True)
+class Rewritten:
+    """A table's bytes, and how many states it has; it does not say how many joins and different rows there were."""
+    table: bytes
+    states: int
 
 
 @dataclass(frozen=True)
@@ -58,16 +66,16 @@ def _written(call: str, data: bytes, room: int) -> Tuple:
 def build(book: Union[Book, Bytes]) -> Built:
     """The table of a book. A book that cannot be written is a ValueError (see write_book)."""
     result, table = _written("plans_build", _book_bytes(book), INPUT_LIMIT)
-    return Built(table, result.states, result.joins)
+    return Built(table, result.states, result.joins, result.distinct)
 
 
-def rewrite(table: Union[Table, Bytes]) -> Built:
+def rewrite(table: Union[Table, Bytes]) -> Rewritten:
     """The table judged and written again, to the same bytes. A table that cannot be written is a ValueError (see write_book)."""
     result, again = _written("plans_rewrite", _table_bytes(table), INPUT_LIMIT)
-    return Built(again, result.states, result.joins)
+    return Rewritten(again, result.states)
 
 
-def _judged(call: Callable[[bytes], Built], read: Callable[[bytes], File], data: bytes) -> File:
+def _judged(call: Callable[[bytes], object], read: Callable[[bytes], File], data: bytes) -> File:
     try:
         call(data)
     except Refused as problem:
@@ -96,7 +104,7 @@ def list_book(book: Union[Book, Bytes]) -> str:
 
 
 def list_table(table: Union[Table, Bytes]) -> str:
-    """The listing of a table. Its first line has no joins: a table does not say how many there were."""
+    """The listing of a table. Its first line has the states alone: a table does not say how many joins and different rows there were."""
     states = read_table(rewrite(table).table).states
     lines = [f"states {len(states)}"]
     for number, state in enumerate(states):

@@ -2,7 +2,7 @@
 import difflib
 import re
 import unicodedata
-from typing import Iterable, Optional
+from typing import Iterable, Optional, Sequence
 
 from .fields import NAME_BYTES
 
@@ -36,6 +36,18 @@ def shown(word: str) -> str:
 def counted(count: int, what: str) -> str:
     """A count with its noun: '1 join', '1,200 states'."""
     return f"{count:,} {what}" if count == 1 else f"{count:,} {what}s"
+
+
+def different(count: int, given: int, what: str) -> str:
+    """How many different ones there are, and how many of those given are copies, if any: '22 different days (18 are copies)'."""
+    copies = given - count
+    told = f" ({copies:,} {'is a copy' if copies == 1 else 'are copies'})" if copies else ""
+    return counted(count, f"different {what}") + told
+
+
+def all_and_different(given: Sequence, what: str) -> str:
+    """How many there are, and how many of them are different: '40 days, 22 different days (18 are copies)'."""
+    return f"{counted(len(given), what)}, {different(len(set(given)), len(given), what)}"
 
 
 def suggested(word: str) -> Optional[str]:

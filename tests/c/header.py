@@ -9,7 +9,13 @@ import sys
 from pathlib import Path
 
 ROOT = Path(__file__).resolve().parents[2]
-STRUCTS = {"plans_built": "Built", "plans_walked": "Walked", "plans_written": "Written", "plans_plan_rows": "PlanRows"}
+STRUCTS = {
+    "plans_built": "Built",
+    "plans_rewritten": "Rewritten",
+    "plans_walked": "Walked",
+    "plans_written": "Written",
+    "plans_plan_rows": "PlanRows",
+}
 TYPES = {"uint8_t": "u8", "uint32_t": "u32", "uint64_t": "u64"}
 # a slice passes as a pointer and a length
 SLICES = {"const uint8_t *": "&[u8]", "uint8_t *": "&mut [u8]"}

@@ -3,11 +3,17 @@
 
 #include "plans.h"
 
-_Static_assert(sizeof(plans_built) == 16, "size of plans_built");
+_Static_assert(sizeof(plans_built) == 20, "size of plans_built");
 _Static_assert(offsetof(plans_built, refusal) == 0, "plans_built.refusal");
 _Static_assert(offsetof(plans_built, length) == 4, "plans_built.length");
 _Static_assert(offsetof(plans_built, states) == 8, "plans_built.states");
 _Static_assert(offsetof(plans_built, joins) == 12, "plans_built.joins");
+_Static_assert(offsetof(plans_built, distinct) == 16, "plans_built.distinct");
+
+_Static_assert(sizeof(plans_rewritten) == 12, "size of plans_rewritten");
+_Static_assert(offsetof(plans_rewritten, refusal) == 0, "plans_rewritten.refusal");
+_Static_assert(offsetof(plans_rewritten, length) == 4, "plans_rewritten.length");
+_Static_assert(offsetof(plans_rewritten, states) == 8, "plans_rewritten.states");
 
 _Static_assert(sizeof(plans_walked) == 16, "size of plans_walked");
 _Static_assert(offsetof(plans_walked, refusal) == 0, "plans_walked.refusal");

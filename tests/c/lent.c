@@ -7,8 +7,6 @@
 
 enum { BEFORE = 0xEE };
 
-typedef plans_built table_call(const uint8_t *, size_t, uint8_t *, size_t, uint8_t *, size_t);
-
 static unsigned passed;
 static unsigned failed;
 
@@ -96,25 +94,28 @@ static void take_back(lent all, const writing *from, size_t length, writing *to)
     free(all.out);
 }
 
-static plans_built call_lent(table_call *call, const writing *from, size_t work_len, size_t out_len, writing *table)
+plans_built build(const writing *book, size_t work_len, size_t out_len, writing *table)
 {
-    lent all = lend_all(from, work_len, out_len);
-    plans_built built = call(all.input, from->length, all.work, work_len, all.out, out_len);
+    lent all = lend_all(book, work_len, out_len);
+    plans_built built = plans_build(all.input, book->length, all.work, work_len, all.out, out_len);
 
     if (built.refusal != PLANS_OK)
-        check("a refusal gives zeros else", built.length == 0 && built.states == 0 && built.joins == 0);
-    take_back(all, from, built.length, table);
+        check("a refusal gives zeros else", !built.length && !built.states && !built.joins && !built.distinct);
+    else
+        check("an accepted book has 1 to 256 different rows", built.distinct >= 1 && built.distinct <= PLANS_BOOK_ROWS);
+    take_back(all, book, built.length, table);
     return built;
 }
 
-plans_built build(const writing *book, size_t work_len, size_t out_len, writing *table)
+plans_rewritten rewrite(const writing *from, size_t work_len, size_t out_len, writing *table)
 {
-    return call_lent(plans_build, book, work_len, out_len, table);
-}
+    lent all = lend_all(from, work_len, out_len);
+    plans_rewritten rewritten = plans_rewrite(all.input, from->length, all.work, work_len, all.out, out_len);
 
-plans_built rewrite(const writing *from, size_t work_len, size_t out_len, writing *table)
-{
-    return call_lent(plans_rewrite, from, work_len, out_len, table);
+    if (rewritten.refusal != PLANS_OK)
+        check("a refusal gives zeros else", !rewritten.length && !rewritten.states);
+    take_back(all, from, rewritten.length, table);
+    return rewritten;
 }
 
 plans_written list(const writing *book, size_t work_len, size_t text_len, writing *text)

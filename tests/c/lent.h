@@ -23,7 +23,7 @@ uint8_t *lend_copy(const uint8_t *bytes, size_t length);
 
 /* The calls; `work_len`, `out_len` and `text_len` are the lengths lent. What is written goes to `table`, `text` or `rows`. */
 plans_built build(const writing *book, size_t work_len, size_t out_len, writing *table);
-plans_built rewrite(const writing *from, size_t work_len, size_t out_len, writing *table);
+plans_rewritten rewrite(const writing *from, size_t work_len, size_t out_len, writing *table);
 plans_written list(const writing *book, size_t work_len, size_t text_len, writing *text);
 plans_walked walk(const writing *table, const uint8_t *row, size_t row_len, size_t work_len);
 plans_plan_rows read_rows(const writing *plan, const writing *list, uint8_t chosen, size_t work_len, size_t out_len, writing *rows);

@@ -74,11 +74,44 @@ static void worked_days(void)
         built = build_all();
         check("the book is accepted", built.refusal == PLANS_OK);
         check("states and joins", built.states == (h == 1 ? 6u : 7u) && built.joins == (h == 1 ? 2u : 1u));
+        check("its rows are different", built.distinct == 3);
         for (size_t i = 0; i < 3; i++)
             check("a row of the book is admitted", walk_day(days[i]).outcome == PLANS_ADMITTED);
         walked = walk_day("dsb");
         check("dsb", h == 1 ? walked.outcome == PLANS_ADMITTED : walked.outcome == PLANS_STOPS && walked.walked == 2);
     }
+}
+
+/* A day of four names, by the last four binary digits of a number: breakfast for 0 and snack for 1. */
+static void put_number(unsigned number)
+{
+    uint8_t row[4];
+
+    for (size_t i = 0; i < sizeof row; i++)
+        row[i] = number >> i & 1 ? 3 : 0;
+    put_field(&book, PLANS_ROW_MARK, row, sizeof row);
+}
+
+/* Forty days of which thirty are copies; days that are beginnings of others; and days without an entry. */
+static void copied_days(void)
+{
+    start_book(PLANS_CONTEXT, 2, 1);
+    for (unsigned i = 0; i < 10; i++)
+        put_number(i);
+    check("ten different days", build_all().distinct == 10);
+    again = table;
+    for (unsigned i = 0; i < 30; i++)
+        put_number(i * 7 % 10);
+    check("of forty days thirty are copies", build_all().distinct == 10);
+    check("copies leave the table as it is", table.length == again.length && memcmp(table.bytes, again.bytes, table.length) == 0);
+    put_day("bbb");
+    check("a beginning of another day is a day of its own", build_all().distinct == 11);
+    put_day("");
+    put_day("");
+    check("days without an entry are one more", build_all().distinct == 12);
+    check("13: a refused build counts no rows", build(&book, PLANS_WORK_BYTES, 0, &again).distinct == 0);
+    book.length--;
+    check("2: nor does one of a book cut off", build_all().distinct == 0);
 }
 
 /* The rows s and ss in each kind of class; two of them are worked days P8 and P9. */
@@ -128,16 +161,16 @@ static void tap_a_day(void)
 static void rewrite_it(void)
 {
     plans_built built = build_all();
-    plans_built rewritten = rewrite(&table, PLANS_WORK_BYTES, built.length, &again);
+    plans_rewritten rewritten = rewrite(&table, PLANS_WORK_BYTES, built.length, &again);
 
-    check("a table is rewritten", rewritten.refusal == PLANS_OK && rewritten.states == built.states && rewritten.joins == 0);
+    check("a table is rewritten", rewritten.refusal == PLANS_OK && rewritten.states == built.states);
     check("to the same bytes", again.length == table.length && memcmp(again.bytes, table.bytes, table.length) == 0);
 }
 
 /* Worked day P2 of docs/SCOPE.md, whose listing is that of its example. */
 static void list_it(void)
 {
-    static const char listing[] = "states 2 joins 1\n0 - snack>1\n1 + snack>1\n";
+    static const char listing[] = "states 2 joins 1 distinct 1\n0 - snack>1\n1 + snack>1\n";
     size_t length = sizeof listing - 1;
     plans_written listed;
 
@@ -146,6 +179,9 @@ static void list_it(void)
     listed = list(&book, PLANS_WORK_BYTES, PLANS_LISTING_BYTES, &again);
     check("a book is listed", listed.refusal == PLANS_OK && listed.length == length);
     check("line by line", memcmp(again.bytes, listing, length) == 0);
+    put_day("ss");
+    listed = list(&book, PLANS_WORK_BYTES, PLANS_LISTING_BYTES, &again);
+    check("with a copy of its row as before", listed.length == length && memcmp(again.bytes, listing, length) == 0);
     check("a text just long enough", list(&book, PLANS_WORK_BYTES, length, &again).refusal == PLANS_OK);
     check("13: a text one byte short", list(&book, PLANS_WORK_BYTES, length - 1, &again).refusal == PLANS_OUTPUT_TOO_SHORT);
     check("13: no text", list(&book, PLANS_WORK_BYTES, 0, &again).refusal == PLANS_OUTPUT_TOO_SHORT);
@@ -412,6 +448,7 @@ static void refused_states(void)
 static void *tablet(void *unused)
 {
     worked_days();
+    copied_days();
     class_kinds();
     tap_a_day();
     rewrite_it();

@@ -18,6 +18,7 @@ typedef struct {
     size_t table_len;
     size_t text_len;
     size_t rows_len;
+    uint32_t distinct;
     plans_walked walked;
     unsigned wrong;
 } areas;
@@ -30,18 +31,18 @@ static size_t list_len; /* the book's names, which are its first bytes */
 static areas alone;
 static areas lent[THREADS];
 
-/* Worked day P6 of docs/SCOPE.md. */
+/* Worked day P6 of docs/SCOPE.md, with a copy of its first row. */
 static void write_book(void)
 {
     static const char *const names[] = {"breakfast", "dinner", "lunch", "snack"};
-    static const uint8_t days[3][3] = {{0, 3, 2}, {1, 3, 2}, {0, 3, 0}};
+    static const uint8_t days[4][3] = {{0, 3, 2}, {1, 3, 2}, {0, 3, 0}, {0, 3, 2}};
 
     book = plans_write_to(book_bytes, sizeof book_bytes);
     for (size_t i = 0; i < 4; i++)
         plans_write_name(&book, names[i]);
     list_len = book.length;
     plans_write_class(&book, PLANS_CONTEXT, 2, 1);
-    for (size_t i = 0; i < 3; i++)
+    for (size_t i = 0; i < 4; i++)
         plans_write_row(&book, days[i], sizeof days[i]);
 }
 
@@ -49,7 +50,7 @@ static void write_book(void)
 static int call_all(areas *to)
 {
     plans_built built = plans_build(book.bytes, book.length, to->work, sizeof to->work, to->table, sizeof to->table);
-    plans_built again = plans_rewrite(to->table, built.length, to->work, sizeof to->work, to->again, sizeof to->again);
+    plans_rewritten again = plans_rewrite(to->table, built.length, to->work, sizeof to->work, to->again, sizeof to->again);
     plans_written written = plans_list(book.bytes, book.length, to->work, sizeof to->work, to->text, sizeof to->text);
     plans_plan_rows read = plans_read_rows((const uint8_t *)plan, strlen(plan), book.bytes, list_len, 1, to->work, sizeof to->work,
                                            to->rows, sizeof to->rows);
@@ -58,6 +59,7 @@ static int call_all(areas *to)
     to->table_len = built.length;
     to->text_len = written.length;
     to->rows_len = read.length;
+    to->distinct = built.distinct;
     return built.refusal == PLANS_OK && again.refusal == PLANS_OK && written.refusal == PLANS_OK && to->walked.refusal == PLANS_OK &&
            read.refusal == PLANS_OK && read.rows == 2 && again.length == built.length && memcmp(to->again, to->table, built.length) == 0;
 }
@@ -66,7 +68,7 @@ static int as_alone(const areas *to)
 {
     return to->table_len == alone.table_len && memcmp(to->table, alone.table, alone.table_len) == 0 &&
            to->text_len == alone.text_len && memcmp(to->text, alone.text, alone.text_len) == 0 &&
-           to->rows_len == alone.rows_len && memcmp(to->rows, alone.rows, alone.rows_len) == 0 &&
+           to->rows_len == alone.rows_len && memcmp(to->rows, alone.rows, alone.rows_len) == 0 && to->distinct == alone.distinct &&
            to->walked.outcome == alone.walked.outcome && to->walked.walked == alone.walked.walked &&
            to->walked.next_names == alone.walked.next_names && to->walked.next_count == alone.walked.next_count;
 }
@@ -86,7 +88,7 @@ int main(void)
     unsigned failed = 0;
 
     write_book();
-    if (!call_all(&alone) || alone.walked.outcome != PLANS_ADMITTED) {
+    if (!call_all(&alone) || alone.walked.outcome != PLANS_ADMITTED || alone.distinct != 3) {
         printf("FAILED: one thread alone\n0 passed, 1 failed\n");
         return 1;
     }

@@ -125,7 +125,7 @@ def table_bytes(sample: Sample, states: list) -> bytes:
 
 
 def listing(sample: Sample, states: list, joins: int) -> str:
-    lines = [f"states {len(states)} joins {joins}"]
+    lines = [f"states {len(states)} joins {joins} distinct {len(set(sample.rows))}"]
     for number, (accepts, arcs) in enumerate(states):
         shown = [f"{sample.names[name]}>{target}" for name, target in arcs]
         lines.append(" ".join([str(number), "+" if accepts else "-"] + shown))

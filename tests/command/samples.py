@@ -7,6 +7,7 @@ from reference import Sample
 FIRST = "ABCXYZabcxyz_:"
 LATER = FIRST + "0189.-"
 STATE_LIMIT = 512
+ROW_LIMIT = 256
 
 
 def a_name(draw: random.Random) -> str:
@@ -38,6 +39,14 @@ def a_sample(draw: random.Random, names=(1, 2, 5, 30, 64), rows=(1, 2, 10, 40, 2
 def a_small_sample(draw: random.Random) -> Sample:
     """One that the reference joins quickly."""
     return a_sample(draw, names=(1, 2, 3, 4), rows=(1, 2, 3, 5, 8), lengths=(0, 1, 2, 3, 4, 5))
+
+
+def with_copies(draw: random.Random, sample: Sample) -> Sample:
+    """The sample with some of its rows repeated, and all in another order."""
+    rows = list(sample.rows)
+    rows += draw.choices(rows, k=min(draw.choice([0, 1, 2, 30]), ROW_LIMIT - len(rows)))
+    draw.shuffle(rows)
+    return sample._replace(rows=tuple(rows))
 
 
 def book_of(sample: Sample) -> Book:

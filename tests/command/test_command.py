@@ -24,16 +24,16 @@ class Good(InFolder):
         self.put("days.table", TABLE)
 
     def test_list(self):
-        self.answers(0, "states 4 joins 0\n" + LISTED, "list", "days.txt", said=NOTES)
-        self.answers(0, "states 4 joins 0\n" + LISTED, "list", "-q", "days.book")
+        self.answers(0, "states 4 joins 0 distinct 3\n" + LISTED, "list", "days.txt", said=NOTES)
+        self.answers(0, "states 4 joins 0 distinct 3\n" + LISTED, "list", "-q", "days.book")
         self.answers(0, "states 4\n" + LISTED, "list", "days.table")
         self.answers(0, "states 4\n" + LISTED, "list", "-", input=TABLE)
-        self.answers(0, "states 2 joins 2\n0 - lunch>1\n1 + cake>1 tea>1\n", "list", "days.book", "--class", "last 0")
+        self.answers(0, "states 2 joins 2 distinct 3\n0 - lunch>1\n1 + cake>1 tea>1\n", "list", "days.book", "--class", "last 0")
         self.answers(0, "", "list", "days.txt", "-q", "-o", "listing")
-        self.assertEqual((self.folder / "listing").read_text(), "states 4 joins 0\n" + LISTED)
+        self.assertEqual((self.folder / "listing").read_text(), "states 4 joins 0 distinct 3\n" + LISTED)
 
     def test_build(self):
-        self.answers(0, "", "build", "days.txt", "-o", "out", said=NOTES + "out: 4 states, 0 joins, 52 bytes\n")
+        self.answers(0, "", "build", "days.txt", "-o", "out", said=NOTES + "out: 4 states, 0 joins, 3 different rows, 52 bytes\n")
         self.assertEqual((self.folder / "out").read_bytes(), TABLE)
         for words in (["days.txt"], ["days.book"], ["-q", "-o", "-", "days.txt"]):
             self.assertEqual(self.plans("build", *words).stdout, TABLE)
@@ -56,7 +56,8 @@ class Good(InFolder):
 
     def test_check(self):
         self.answers(0, "days.table: accepted: a table of 3 names, context (2,1), 4 states\n"
-                        "days.book: accepted: a book of 3 names, 3 rows\ndays.txt: accepted: a text of 3 different days, 3 names\n",
+                        "days.book: accepted: a book of 3 names, 3 rows, 3 different rows\n"
+                        "days.txt: accepted: a text of 3 days, 3 different days, 3 names\n",
                      "check", "days.table", "days.book", "days.txt", said=NOTES)
 
     def test_diff(self):
@@ -84,7 +85,7 @@ class Good(InFolder):
 
     def test_picture(self):
         self.answers(0, "", "picture", "-q", "days.txt", "-o", "days.dot")
-        self.assertIn('label="context (2,1): 4 states, 0 joins"', (self.folder / "days.dot").read_text())
+        self.assertIn('label="context (2,1): 4 states, 0 joins, 3 different rows"', (self.folder / "days.dot").read_text())
         self.answers(0, "", "picture", "days.book", "--tree", "-o", "days.dot")
         self.assertIn('label="prefix tree: 4 states"', (self.folder / "days.dot").read_text())
         dot = self.folder / "dot"
@@ -134,8 +135,9 @@ class WhatPeopleType(InFolder):
     def test_names_are_told_so_that_slips_are_seen(self):
         self.put("days.txt", "breakfast lunch\nBreakfast lucnh\n\nbreakfast lunch\n-\n")
         self.answers(0, "", "build", "days.txt", "-o", "out", said=(
-            "days.txt: 4 days, 3 different days; 4 names:\n  Breakfast 1, breakfast 2, lucnh 1, lunch 2\n"
-            "days.txt: 1 blank line passed over (a single - is the empty day)\nout: 5 states, 0 joins, 78 bytes\n"))
+            "days.txt: 4 days, 3 different days (1 is a copy); 4 names:\n  Breakfast 1, breakfast 2, lucnh 1, lunch 2\n"
+            "days.txt: 1 blank line passed over (a single - is the empty day)\n"
+            "out: 5 states, 0 joins, 3 different rows (1 is a copy), 78 bytes\n"))
 
     def test_all_faulty_lines_are_told(self):
         self.put("days.txt", '"morning snack",lunch\nlunch\nFrühstück\n')
@@ -148,8 +150,8 @@ class WhatPeopleType(InFolder):
     def test_copies_are_taken_once_for_a_model(self):
         self.put("days.txt", 150 * "lunch\nlunch tea\n")
         once = "days.txt: over 256 days: each different one is taken once, which gives the same model\n"
-        self.answers(0, "states 3 joins 0\n0 - lunch>1\n1 + tea>2\n2 +\n", "list", "days.txt", said=(
-            "days.txt: 300 days, 2 different days; 2 names:\n  lunch 300, tea 150\n" + once))
+        self.answers(0, "states 3 joins 0 distinct 2\n0 - lunch>1\n1 + tea>2\n2 +\n", "list", "days.txt", said=(
+            "days.txt: 300 days, 2 different days (298 are copies); 2 names:\n  lunch 300, tea 150\n" + once))
         self.fails("days.txt:257: a 257th day: at most 256 are allowed; give fewer days (only 2 different days: leave copies out)",
                    "book", "days.txt", "-o", "out")
 
@@ -185,7 +187,8 @@ class Bad(InFolder):
         self.fails("plans: days.txt/x: Not a directory", "list", "days.txt/x")
 
     def test_check_judges_the_other_files_where_one_is_missing(self):
-        accepted, missing = "days.book: accepted: a book of 3 names, 3 rows\n", "plans: none: No such file or directory\n"
+        accepted = "days.book: accepted: a book of 3 names, 3 rows, 3 different rows\n"
+        missing = "plans: none: No such file or directory\n"
         self.answers(2, accepted, "check", "days.book", "none", said=missing)
         self.put("empty", b"")
         done = self.plans("check", "none", "empty", "days.book")

@@ -15,11 +15,12 @@ EXAMPLES = ROOT / "examples"
 PROGRAM = ROOT / "crates" / "worked_days"
 TEXTS = sorted(EXAMPLES.glob("*/*.txt"))
 
-# The table of docs/SCOPE.md, section 10: states of the prefix tree, states, joins. Q1 to Q3 stand in crates/model/specs/WorkedDays.antt.
+# The table of docs/SCOPE.md, section 10: states of the prefix tree, states, joins, different rows. Q1 to Q3 stand in
+# crates/model/specs/WorkedDays.antt.
 WORKED_DAYS = {
-    "P1": (1, 1, 0), "P2": (3, 2, 1), "P3": (3, 3, 0), "P4": (7, 5, 2), "P5": (7, 6, 1), "P6": (8, 6, 2), "P7": (8, 7, 1),
-    "P8": (3, 2, 1), "P9": (3, 1, 2), "P10": (3, 2, 1), "P11": (5, 4, 1), "P12": (3, 3, 0), "Q1": (6, 5, 1), "Q2": (7, 5, 2),
-    "Q3": (6, 4, 2), "example": (3, 2, 1),
+    "P1": (1, 1, 0, 1), "P2": (3, 2, 1, 1), "P3": (3, 3, 0, 1), "P4": (7, 5, 2, 2), "P5": (7, 6, 1, 2), "P6": (8, 6, 2, 3),
+    "P7": (8, 7, 1, 3), "P8": (3, 2, 1, 2), "P9": (3, 1, 2, 2), "P10": (3, 2, 1, 2), "P11": (5, 4, 1, 2), "P12": (3, 3, 0, 1),
+    "Q1": (6, 5, 1, 2), "Q2": (7, 5, 2, 4), "Q3": (6, 4, 2, 2), "example": (3, 2, 1, 1),
 }
 
 
@@ -89,6 +90,7 @@ class Shipped(unittest.TestCase):
     def test_the_forty_days(self):
         book = book_at(EXAMPLES / "books" / "days.txt")
         self.assertEqual((len(book.rows), len(set(book.rows)), len(book.names)), (40, 22, 12))
+        self.assertEqual(plans.build(book).distinct, 22)
 
 
 class WorkedDays(unittest.TestCase):
@@ -99,7 +101,7 @@ class WorkedDays(unittest.TestCase):
         for name, counts in WORKED_DAYS.items():
             path = EXAMPLES / "worked_days" / (name + ".txt")
             built = plans.build(book_at(path))
-            self.assertEqual((len(prefix_tree(book_at(path).rows)), built.states, built.joins), counts, name)
+            self.assertEqual((len(prefix_tree(book_at(path).rows)), built.states, built.joins, built.distinct), counts, name)
 
 
 class Program(unittest.TestCase):

@@ -130,4 +130,4 @@ class ThereAndBack(unittest.TestCase):
         states = plans.State(False, (("lunch", 1),)), plans.State(True, ())
         self.assertEqual(table, plans.Table(("lunch", "snack"), plans.Class(1), states))
         self.assertEqual(plans.write_table(table), FRONT + START + END)
-        self.assertEqual(plans.rewrite(table), plans.Built(FRONT + START + END, 2, 0))
+        self.assertEqual(plans.rewrite(table), plans.Rewritten(FRONT + START + END, 2))

@@ -28,9 +28,10 @@ def book_at(path: Path) -> plans.Book:
 
 
 def counts(path: Path) -> tuple:
-    """States of the prefix tree, states, joins."""
-    states, joins = re.match(r"states (\d+) joins (\d+)\n", path.with_suffix(".listing").read_text()).groups()
-    return len(prefix_tree(book_at(path).rows)), int(states), int(joins)
+    """States of the prefix tree, states, joins, different rows: the second and third as the listing has them."""
+    rows = book_at(path).rows
+    first_line = rf"states (\d+) joins (\d+) distinct {len(set(rows))}\n"
+    return len(prefix_tree(rows)), *map(int, re.match(first_line, path.with_suffix(".listing").read_text()).groups()), len(set(rows))
 
 
 class Formats(unittest.TestCase):
@@ -68,18 +69,18 @@ class Formats(unittest.TestCase):
             self.assertEqual(caught.exception.number, number)
 
     def test_shipped_books(self):
-        shown = re.findall(r"^\| `(\w+)` \| [^|]* \| [^|]* \| (\d+), (\d+), (\d+) \| (\d+), (\d+), (\d+) \|$", FORMATS, re.MULTILINE)
+        shown = re.findall(r"^\| `(\w+)` \| [^|]* \| [^|]* \| (\d+), (\d+) \| (\d+), (\d+), (\d+), (\d+) \|$", FORMATS, re.MULTILINE)
         self.assertEqual(sorted(row[0] for row in shown), sorted(path.stem for path in (EXAMPLES / "books").glob("*.txt")))
         for name, *numbers in shown:
             path = EXAMPLES / "books" / (name + ".txt")
             book = book_at(path)
-            found = (len(book.rows), len(set(book.rows)), len(book.names)) + counts(path)
+            found = (len(book.rows), len(book.names)) + counts(path)
             self.assertEqual(tuple(map(int, numbers)), found, name)
 
 
 class Sources(unittest.TestCase):
     def test_counts(self):
-        shown = re.findall(r"^\| `(\w+)` \| [^|]* \| [^|]* \| (\d+)[^|]* \| (\d+), (\d+), (\d+) \|", SOURCES, re.MULTILINE)
+        shown = re.findall(r"^\| `(\w+)` \| [^|]* \| [^|]* \| (\d+)[^|]* \| (\d+), (\d+), (\d+), (\d+) \|", SOURCES, re.MULTILINE)
         texts = {path.stem: path for path in (EXAMPLES / "sources").glob("*.txt")}
         self.assertEqual({row[0] for row in shown}, set(texts))
         for name, rows, *numbers in shown:

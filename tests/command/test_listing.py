@@ -13,7 +13,7 @@ class Listing(unittest.TestCase):
         return subprocess.run([PROGRAM], input=data, check=True, capture_output=True).stdout.decode()
 
     def test_the_example_book(self):
-        self.assertEqual(self.printed(EXAMPLE), "states 2 joins 1\n0 - snack>1\n1 + snack>1\n")
+        self.assertEqual(self.printed(EXAMPLE), "states 2 joins 1 distinct 1\n0 - snack>1\n1 + snack>1\n")
 
     def test_empty_input(self):
         self.assertEqual(self.printed(b""), "refused 4\n")

@@ -18,8 +18,8 @@ from reference import book_bytes, joined, listing, states_of, table_bytes, walke
 from samples import a_sample, a_small_sample, book_of, damaged
 
 ROOT = Path(__file__).resolve().parents[2]
-LAYOUTS = {"plans_built": library.BuiltLayout, "plans_walked": library.WalkedLayout, "plans_written": library.WrittenLayout,
-           "plans_plan_rows": library.PlanRowsLayout}
+LAYOUTS = {"plans_built": library.BuiltLayout, "plans_rewritten": library.RewrittenLayout, "plans_walked": library.WalkedLayout,
+           "plans_written": library.WrittenLayout, "plans_plan_rows": library.PlanRowsLayout}
 
 
 def number_of(read, data: bytes) -> int:
@@ -37,10 +37,10 @@ class AgainstTheReference(unittest.TestCase):
         states = states_of(quotient)
         joins = len(quotient.tree) - len(states)
         built = plans.build(book_of(sample))
-        self.assertEqual(built, plans.Built(table_bytes(sample, states), len(states), joins), sample)
+        self.assertEqual(built, plans.Built(table_bytes(sample, states), len(states), joins, len(set(sample.rows))), sample)
         self.assertEqual(plans.build(book_bytes(sample)), built)
         self.assertEqual(plans.list_book(book_of(sample)), listing(sample, states, joins))
-        self.assertEqual(plans.rewrite(built.table), plans.Built(built.table, len(states), 0))
+        self.assertEqual(plans.rewrite(built.table), plans.Rewritten(built.table, len(states)))
         self.assertEqual(plans.write_table(plans.read_table(built.table)), built.table)
         for _ in range(4):
             row = tuple(draw.randrange(len(sample.names)) for _ in range(draw.choice([0, 1, 2, 3, 6])))
@@ -67,6 +67,22 @@ class AgainstTheReference(unittest.TestCase):
 
 
 class Documented(unittest.TestCase):
+    def test_the_readme(self):
+        """Its block of Python: what an expression gives stands after `#`, on the same line or the next."""
+        block = re.findall(r"^```python\n(.*?)^```", (ROOT / "README.md").read_text(), re.M | re.S)[0]
+        names = {}
+        told = []
+        for line in re.sub(r"\n# ", "  # ", block).splitlines():
+            code, _, given = line.partition("  # ")
+            if not given:
+                exec(code, names)
+                continue
+            result = eval(code, names)
+            self.assertTrue(given.strip().startswith(repr(result)), (code, result))
+            told.append(result)
+        self.assertEqual(told[0], (5, 2, 2))
+        self.assertEqual(len(told), 2)
+
     def test_the_examples_run(self):
         names = {"plans": plans}
         results = []
@@ -75,7 +91,7 @@ class Documented(unittest.TestCase):
             exec("\n".join(lines), names)
             results.append(eval(last, names))
         self.assertEqual(results, [plans.Walked(plans.Outcome.ON_THE_WAY, ("breakfast", "lunch"), ("dinner",)),
-                                   "states 3 joins 0\n0 - breakfast>1\n1 - lunch>2\n2 +\n"])
+                                   "states 3 joins 0 distinct 1\n0 - breakfast>1\n1 - lunch>2\n2 +\n"])
 
     def test_all_that_is_offered_says_what_it_is(self):
         for name in plans.__all__:
@@ -178,6 +194,9 @@ class Finding(unittest.TestCase):
         environment = dict(os.environ, PLANS_LIBRARY=setting, PYTHONPATH=str(ROOT / "python"))
         return subprocess.run([sys.executable, "-B", "-c", code], env=environment, capture_output=True, text=True, check=True).stdout
 
+    def test_soname_of_this_version(self):
+        self.assertEqual(library.FILE, f"libplans.so.{plans.__version__.split('.')[0]}")
+
     def test_named_by_the_environment(self):
         self.assertEqual(self.run_with(str(ROOT / "target" / "lib" / "libplans.so")), f"refusal 4: {plans.REFUSALS[4]}\n")
 
@@ -199,8 +218,8 @@ class Finding(unittest.TestCase):
             environment.pop("PLANS_LIBRARY", None)
             done = subprocess.run([sys.executable, "-B", "-c", code], env=environment, capture_output=True, text=True, check=False)
             self.assertEqual(done.stdout, "9.9.9\n")
-            self.assertIn(f"libplans.so is not in {module} and {folder}/lib: 'make lib' builds it", done.stderr)
+            self.assertIn(f"libplans.so.2 is not in {module} and {folder}/lib: 'make lib' builds it", done.stderr)
             (Path(folder) / "lib").mkdir()
-            (Path(folder) / "lib" / "libplans.so.1").write_bytes((ROOT / "target" / "lib" / "libplans.so").read_bytes())
+            (Path(folder) / "lib" / "libplans.so.2").write_bytes((ROOT / "target" / "lib" / "libplans.so").read_bytes())
             done = subprocess.run([sys.executable, "-B", "-c", code], env=environment, capture_output=True, text=True, check=False)
             self.assertIn("refusal 4: the input ends while a field is still due", done.stderr)

@@ -16,12 +16,12 @@ SPACE = "{http://www.w3.org/2000/svg}"
 def drawn(text: Path, with_tree: bool) -> str:
     book = plans.read_text(text.read_bytes()).book()
     built = plans.build(book)
-    return drawing(plans.read_table(built.table), built.joins, book if with_tree else None)
+    return drawing(plans.read_table(built.table), built, book if with_tree else None)
 
 
 def svg_parts(path: Path) -> tuple:
-    """By what Graphviz calls them: nodes with their texts, rings and fill, edges, and clusters with their labels."""
-    found = {"node": {}, "edge": {}, "cluster": {}}
+    """By what Graphviz calls them: nodes with their texts, rings and fill, edges, and the labels of clusters and of the whole."""
+    found = {"node": {}, "edge": {}, "cluster": {}, "graph": {}}
     for group in xml.etree.ElementTree.parse(path).iter(SPACE + "g"):
         if group.get("class") not in found:
             continue
@@ -30,7 +30,7 @@ def svg_parts(path: Path) -> tuple:
         if rings:
             part += [len(rings), rings[0].get("fill")]
         found[group.get("class")][group.find(SPACE + "title").text] = part
-    return found["node"], set(found["edge"]), found["cluster"]
+    return found["node"], set(found["edge"]), found["cluster"], *found["graph"].values()
 
 
 def dot_parts(text: str) -> tuple:
@@ -42,7 +42,8 @@ def dot_parts(text: str) -> tuple:
         nodes[key] = [line for line in label.split("\\n") if line] + rings
     edges = {f"{source}->{target}" for source, target in re.findall(r"^(\w+) -> (\w+)", text, re.MULTILINE)}
     clusters = re.findall(r'^subgraph (\w+) {\nlabel="(.*)"$', text, re.MULTILINE)
-    return nodes, edges, {key: [label] for key, label in clusters}
+    whole = re.findall(r'^label="(.*)"\nlabelloc', text, re.MULTILINE)
+    return nodes, edges, {key: [label] for key, label in clusters}, whole
 
 
 def boxes(path: Path) -> list:
@@ -92,7 +93,7 @@ class Drawings(unittest.TestCase):
             self.assertLessEqual(int(width), 600, path)
 
     def test_tree_beside_table(self):
-        nodes, edges, clusters = dot_parts(drawn(ROOT / "examples" / "classes" / "last_1.txt", True))
+        nodes, edges, clusters, whole = dot_parts(drawn(ROOT / "examples" / "classes" / "last_1.txt", True))
         one, two = nodes["s2"], nodes["s3"]
         self.assertNotEqual(one[2], two[2])
         self.assertEqual((one[:2], two[:2]), (["2", 1], ["3", 2]))
@@ -104,14 +105,16 @@ class Drawings(unittest.TestCase):
                           "start": [], "s0": ["0", 1, "white"], "s1": ["1", 1, "white"], "s2": one, "s3": two})
         halves = [[f"{key.split('_')[0]}->{key}", f"{key}->{key.split('_')[1]}"] for key in words]
         self.assertEqual(edges, {edge for both in halves for edge in both} | {"root->t0", "start->s0"})
-        self.assertEqual(clusters, {"cluster_tree": ["prefix tree: 6 states"], "cluster_table": ["last 1: 4 states, 2 joins"]})
+        self.assertEqual(clusters, {"cluster_tree": ["prefix tree: 6 states"],
+                                    "cluster_table": ["last 1: 4 states, 2 joins, 2 different rows"]})
+        self.assertEqual(whole, [])
 
     def test_titles(self):
-        for text, title in [("snack\n", "context (2,1): 2 states, 0 joins"),
-                            ("class = seen\nsnack\nsnack snack\n", "seen set: 2 states, 1 join"),
-                            ("class = last 0\nsnack\n-\n", "last 0: 1 state, 1 join")]:
+        for text, title in [("snack\n", "context (2,1): 2 states, 0 joins, 1 different row"),
+                            ("class = seen\nsnack\nsnack snack\n", "seen set: 2 states, 1 join, 2 different rows"),
+                            ("class = last 0\nsnack\n-\nsnack\n", "last 0: 1 state, 1 join, 2 different rows")]:
             built = plans.build(plans.read_text(text).book())
-            self.assertIn(f'label="{title}"', drawing(plans.read_table(built.table), built.joins, None))
+            self.assertIn(f'label="{title}"', drawing(plans.read_table(built.table), built, None))
         self.assertIn('label="last 0: 1 state"', drawing(plans.read_table(built.table), None, None))
 
     def test_as_many_colours_as_joined_groups(self):

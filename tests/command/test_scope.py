@@ -23,14 +23,16 @@ def row_of(shown: str) -> tuple:
 
 class Scope(unittest.TestCase):
     def test_worked_days(self):
-        shown = re.findall(r"^\| ([PQ]\d+) \| ([^|]*) \| ([^|]*) \| (\d+), (\d+), (\d+) \|", section("10. Worked days"), re.MULTILINE)
+        line = r"^\| ([PQ]\d+) \| ([^|]*) \| ([^|]*) \| (\d+), (\d+), (\d+), (\d+) \|"
+        shown = re.findall(line, section("10. Worked days"), re.MULTILINE)
         self.assertEqual({row[0] for row in shown}, {path.stem for path in DAYS.glob("[PQ]*.txt")})
         for day, class_shown, rows, *numbers in shown:
             named_class = None if class_shown == "none" else plans.read_class(class_shown)
             book = plans.Book(NAMES, named_class, tuple(map(row_of, rows.split(", "))))
             self.assertEqual(plans.read_text((DAYS / (day + ".txt")).read_bytes()).book(), book, day)
             built = plans.build(book)
-            self.assertEqual(tuple(map(int, numbers)), (len(prefix_tree(book.rows)), built.states, built.joins), day)
+            found = (len(prefix_tree(book.rows)), built.states, built.joins, built.distinct)
+            self.assertEqual(tuple(map(int, numbers)), found, day)
 
     def test_joining_step_by_step(self):
         shown = section("7. From rows to a table").split("```\n")[1]

@@ -62,7 +62,7 @@ impl<C: Containers> Fast<C> {
     pub fn build(&mut self, book: &[u8], work: &mut [u8], out: &mut [u8]) -> Built {
         let built = self.try_build(book, work.len(), out);
         work.fill(0);
-        built.unwrap_or_else(|refusal| Built { refusal: refusal as u8, length: 0, states: 0, joins: 0 })
+        built.unwrap_or_else(|refusal| Built { refusal: refusal as u8, length: 0, states: 0, joins: 0, distinct: 0 })
     }
 
     /// As plans_walk.

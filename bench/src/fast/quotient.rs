@@ -19,7 +19,13 @@ pub fn write<C: Containers>(fast: &mut Fast<C>, names: &[u8], class: Class, out:
     out[..names.len()].copy_from_slice(names);
     out[names.len()..front].copy_from_slice(&class_field(class));
     write_states(fast, states, out, front);
-    Ok(Built { refusal: 0, length: total as u32, states: states as u32, joins: (fast.tree.count - states) as u32 })
+    Ok(Built {
+        refusal: 0,
+        length: total as u32,
+        states: states as u32,
+        joins: (fast.tree.count - states) as u32,
+        distinct: fast.tree.ends.len() as u32,
+    })
 }
 
 fn class_field(class: Class) -> [u8; 6] {

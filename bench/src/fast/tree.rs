@@ -11,18 +11,19 @@ use crate::book::{ROW_LENGTH, ROW_LIMIT};
 pub struct Tree<C: Containers> {
     pub count: usize,
     pub nodes: C::Column<Node>,
-    /// The state where each row ends.
+    /// The states where rows end, each once: as many as the book has different rows.
     pub ends: Vec<State>,
     pub children: C::Arcs,
 }
 
-/// How a state of the tree is reached.
+/// How a state of the tree is reached, and whether a row ends there.
 #[derive(Clone, Copy, Default)]
 pub struct Node {
     /// The last names, as `suffixes` has them.
     pub code: u64,
     pub parent: State,
     pub name: u8,
+    pub accepting: bool,
 }
 
 impl<C: Containers> Tree<C> {
@@ -76,11 +77,14 @@ impl<C: Containers> Tree<C> {
                 if self.count == STATES {
                     return check_names(&row[at..], names).map(|()| false);
                 }
-                self.append(Node { code, parent, name });
+                self.append(Node { code, parent, name, accepting: false });
             }
             parent = child;
         }
-        self.ends.push(parent);
+        if !self.nodes[parent].accepting {
+            self.nodes[parent].accepting = true;
+            self.ends.push(parent);
+        }
         Ok(true)
     }
 }

@@ -9,7 +9,7 @@ use mathlib.Core.List.{Memᴰ·cast, Memᴰ·of-map, Memᴰ·append-left, Memᴰ
 use Prim.Native.Nat.{suc, _≤_, _<_}
 use native.Mathlib.Omega.{arith}
 use lib.ListN.{length}
-use Rattle.base.specs.Lists.{filterBy, lastOr}
+use Rattle.base.specs.Lists.{filterBy, lastOr, Distinct}
 
 module _ {A B : Type 0} where
   -- an element of a mapped list is what an element became
@@ -66,11 +66,6 @@ module _ {A : Type 0} where
   lastOr-snoc d [] x = refl
   lastOr-snoc d (y ∷ xs) x = lastOr-snoc y xs x
 
-  -- no element stands twice
-  abbrev pub Distinct : List A → Type 0
-  Distinct [] = Unit {0}
-  Distinct (x ∷ xs) = (In x xs → ⊥) × Distinct xs
-
   -- one more at the end, if it is new
   pub distinct-snoc : (xs : List A) (y : A) → Distinct xs → (In y xs → ⊥) → Distinct (xs ++ (y ∷ []))
   distinct-snoc [] y d out = (λ m. List·Memᴰ·not-nil m, tt)
@@ -78,6 +73,19 @@ module _ {A : Type 0} where
     λ m. ⊎-elim (λ n. d .0 n) (λ n. out (here (sym (List·Memᴰ·eq-of-singleton n)))) (List·Memᴰ·append-cases xs m),
     distinct-snoc xs y (d .1) (λ n. out (there n)),
   )
+
+  -- some of the elements
+  pub distinct-filterBy : (test : A → Bool) (xs : List A) → Distinct xs → Distinct (filterBy test xs)
+  unfolding filterBy
+  distinct-filterBy test [] d = tt
+  distinct-filterBy test (x ∷ xs) d =
+      go (test x) (distinct-filterBy test xs (d .1)) (λ m. d .0 (filterBy-in test xs m .0))
+    where
+      go :
+          (b : Bool) → Distinct (filterBy test xs) → (In x (filterBy test xs) → ⊥) →
+          Distinct (cond b (x ∷ filterBy test xs) (filterBy test xs))
+      go true rest out = (out, rest)
+      go false rest out = rest
 
   -- a list one shorter than ys that holds all its elements but x
   abbrev Without : A → List A → Type 0

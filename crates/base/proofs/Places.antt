@@ -9,9 +9,8 @@ use native.Mathlib.Omega.{arith}
 use lib.ListN.{length, getD}
 use borrow.Author.Tests.{eq-eqb, ne-eqb}
 use native.Mathlib.Nat.{add-zero, not-suc-le-zero}
-use Rattle.base.specs.Lists.{numbersFrom, indexIn}
+use Rattle.base.specs.Lists.{numbersFrom, indexIn, Distinct}
 use Rattle.base.proofs.Tests.{eq-dec}
-use Rattle.base.proofs.Lists.{Distinct}
 
 -- ---- numbers in succession
 

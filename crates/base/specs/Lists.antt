@@ -1,7 +1,7 @@
--- Tests and choices over lists that the definitions share. What lib.ListN and mathlib have (length, getD, take, drop, map,
--- flatMap, dropLast, cond) is taken from there. Assumes nothing.
+-- Tests and choices over lists that the definitions share, and what it is for no element to stand twice. What lib.ListN and mathlib
+-- have (length, getD, take, drop, map, flatMap, dropLast, cond) is taken from there. Assumes nothing.
 use mathlib.Core.Bool.{Bool, true, false, _&&_, _||_, cond}
-use mathlib.Core.List.{List, [], _∷_}
+use mathlib.Core.List.{List, [], _∷_, List·Memᴰ as In}
 use Prim.Native.Nat.{ℕ, zero, suc}
 use lib.Dec.{eqb, ltb}
 
@@ -48,6 +48,11 @@ same (x ∷ xs) (y ∷ ys) = eqb x y && same xs ys
 -- the row is in the list of rows
 unfoldable pub hasRow : List ℕ → List (List ℕ) → Bool
 hasRow x ys = any (λ (y : List ℕ). same x y) ys
+
+-- no element stands twice
+abbrev pub Distinct : {A : Type 0} → List A → Type 0
+Distinct [] = Unit {0}
+Distinct (x ∷ xs) = (In x xs → ⊥) × Distinct xs
 
 -- ascending byte order: the first difference decides, and a proper beginning comes first
 unfoldable pub before : List ℕ → List ℕ → Bool

@@ -7,19 +7,16 @@ use Prim.Native.Nat.{ℕ, _≤_, _<_}
 use native.Mathlib.Omega.{arith}
 use lib.ListN.{length}
 use Rattle.base.specs.Limits.{firstOf, input-limit, state-limit, bad-sizes}
-use Rattle.model.specs.Fields.{Settings, Allowed, File, readBook}
+use Rattle.model.specs.Fields.{Settings, Allowed, readBook}
 use Rattle.model.specs.Fields as fields
-use Rattle.model.specs.Joinings.{treeOf, joinedGroups}
 use Rattle.model.specs.Quotients.{bookStates, bookTable}
-use Rattle.model.specs.Calls.{Gives, faultWith, bookOf, treeFault, bookFault, buildFault, joinsOf}
+use Rattle.model.specs.Calls.{Gives, faultWith, bookOf, treeFault, bookFault, buildFault, joinsOf, distinctOf}
 use Rattle.model.specs.Claims.{Accepted}
 use Rattle.model.proofs.FieldLaws.{first-of}
 use Rattle.model.proofs.CallLaws.{refuses-first, refuses-then, refuses-none, call-refused, seen-as, refusal-is, answer-by, answered}
 use Rattle.model.proofs.CallLaws.{SizesBad, sizes-refuse, sizes-pass, one-wrote, FrontOf, front-of}
-use Rattle.model.proofs.Trees.{treeOf-tree}
-use Rattle.model.proofs.FirstMet.{met-few, states-length}
-use Rattle.model.proofs.Joined.{joinedGroups-joined}
-use Rattle.model.proofs.Demands.{accepted-tree, table-length}
+use Rattle.model.proofs.DifferentRows.{different-nodes}
+use Rattle.model.proofs.Demands.{accepted-tree, states-few, table-length}
 use Rattle.fields.specs.Places.{fileOf, ReadAs}
 use Rattle.fields.specs.declared.Place.{Place}
 use Rattle.fields.specs.declared.Fields.the-variants as answer
@@ -35,16 +32,9 @@ pub joins-few : (settings : Settings) (s : List ℕ) → Accepted settings s →
 unfolding joinsOf
 joins-few settings s ok = omega (arith, accepted-tree settings s ok)
 
--- a book has at most as many states as its prefix tree
-states-few : (f : File) → length (bookStates f) ≤ length (treeOf (f .items))
-unfolding bookStates
-states-few f =
-    let nodes = treeOf (f .items) in
-    let groups = joinedGroups (f .class-is) (f .items) in
-    let fits = joinedGroups-joined (f .class-is) (f .items) .fits in
-    let few = met-few nodes groups (treeOf-tree (f .items)) fits in
-    let size = states-length nodes groups (treeOf-tree (f .items)) fits (f .items) in
-    omega arith
+pub distinct-few : (settings : Settings) (s : List ℕ) → Accepted settings s → distinctOf (bookOf settings s) ≤ state-limit
+unfolding distinctOf
+distinct-few settings s ok = omega (arith, different-nodes (bookOf settings s .items), accepted-tree settings s ok)
 
 -- ---- what the reader's answer says of the book
 
@@ -65,16 +55,18 @@ book-read-as settings s p read =
 
 -- what inference gives back, as a build's result
 abbrev pub asBuilt : Inferred → Built
-asBuilt i = built (i .refusal) (i .length) (i .states) (i .joins)
+asBuilt i = built (i .refusal) (i .length) (i .states) (i .joins) (i .distinct)
 
 -- its numbers are at most what they are for an accepted book
 pub record Small (i : Inferred) : Type 0 where
   pub length-small : i .length ≤ input-limit
   pub states-small : i .states ≤ state-limit
   pub joins-small : i .joins ≤ state-limit
+  pub distinct-small : i .distinct ≤ state-limit
 
 module _ (settings : Settings) (book work out : List ℕ) where
-  pub build-sizes-refused : SizesBad book work ≡ true → Gives (building settings book work) (out ∷ []) (out ∷ []) (not-built bad-sizes)
+  pub build-sizes-refused :
+      SizesBad book work ≡ true → Gives (building settings book work) (out ∷ []) (out ∷ []) (not-built bad-sizes)
   unfolding building buildFault
   build-sizes-refused bad = call-refused (building settings book work) (out ∷ []) (refuses-first _ (sizes-refuse book work bad))
 
@@ -106,7 +98,7 @@ module _ (settings : Settings) (book work out : List ℕ) where
       (record {
         refusal = k;
         none = not-built;
-        answer = built 0 (length (bookTable f)) (length (bookStates f)) (joinsOf f);
+        answer = built 0 (length (bookTable f)) (length (bookStates f)) (joinsOf f) (distinctOf f);
         writes = bookTable f ∷ [];
       })
       (out ∷ []) (out′ ∷ []) (asBuilt i))
@@ -118,7 +110,14 @@ module _ (settings : Settings) (book work out : List ℕ) where
       Infers (bookOf settings book) out out′ i → Small i
   unfolding inferring bookFault
   inferred-small out′ i allowed e gives =
-      answer-by gives Small (λ k. record { length-small = omega arith; states-small = omega arith; joins-small = omega arith })
+      answer-by gives Small
+      (λ k.
+      record {
+        length-small = omega arith;
+        states-small = omega arith;
+        joins-small = omega arith;
+        distinct-small = omega arith;
+      })
       (λ none.
       let few : treeFault (bookOf settings book .items) ≡ 0 = first-of _ _ none .0 in
       let ok : Accepted settings book = refuses-none e few in
@@ -126,6 +125,7 @@ module _ (settings : Settings) (book work out : List ℕ) where
         length-small = omega (arith, table-length settings allowed book ok);
         states-small = omega (arith, states-few (bookOf settings book), accepted-tree settings book ok);
         joins-small = joins-few settings book ok;
+        distinct-small = distinct-few settings book ok;
       })
 
 -- ---- what a build that is not refused left in the output

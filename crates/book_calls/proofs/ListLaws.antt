@@ -7,11 +7,11 @@ use Prim.Native.Nat.{ℕ, _≤_, _<_}
 use native.Mathlib.Omega.{arith}
 use borrow.Author.Tests.{le-ltb}
 use lib.ListN.{length, take}
-use Rattle.base.specs.Limits.{work-bytes, table-bytes, listing-bytes, output-too-short}
+use Rattle.base.specs.Limits.{work-bytes, table-bytes, listing-bytes, number-limit, output-too-short}
 use Rattle.model.specs.Fields.{Settings, Allowed, Read, readTable}
 use Rattle.model.specs.Tables.{State}
 use Rattle.model.specs.Quotients.{bookTable}
-use Rattle.model.specs.Calls.{Gives, tooShort, sizesFault, bookOf, bookFault, buildFault, joinsOf}
+use Rattle.model.specs.Calls.{Gives, tooShort, sizesFault, bookOf, bookFault, buildFault, joinsOf, distinctOf}
 use Rattle.model.specs.Calls.{tableOf, tableStates}
 use Rattle.model.specs.Listing.{listing, bookListing}
 use Rattle.model.specs.Claims.{Accepted}
@@ -26,12 +26,13 @@ use Rattle.listings.proofs.Lengths.{book-listing-length}
 use Rattle.results.specs.declared.Built.{Built}
 use Rattle.results.specs.declared.Written.{Written}
 use Rattle.results.specs.Says.{building, written, not-written, copying, listingBook}
-use Rattle.book_calls.proofs.BuildLaws.{joins-few, built-front}
+use Rattle.book_calls.proofs.BuildLaws.{joins-few, distinct-few, built-front}
 
 -- ---- bytes copied to a text
 
 pub copy-short :
-    (bytes text : List ℕ) → length text < length bytes → Gives (copying bytes) (text ∷ []) (text ∷ []) (not-written output-too-short)
+    (bytes text : List ℕ) → length text < length bytes →
+    Gives (copying bytes) (text ∷ []) (text ∷ []) (not-written output-too-short)
 unfolding copying
 copy-short bytes text short = call-one-short (copying bytes) bytes text refl refl short
 
@@ -45,12 +46,13 @@ copy-whole bytes text text′ room copied =
 -- ---- the table that was built
 
 -- a table that is read, and whose listing is the book's
-pub record ListedBy (settings : Settings) (book work table : List ℕ) (joins : ℕ) : Type 0 where
+pub record ListedBy (settings : Settings) (book work table : List ℕ) (joins distinct : ℕ) : Type 0 where
   pub no-fault : buildFault settings book work ≡ 0
   pub work-fits : work-bytes ≤ length work
   pub no-refusal : readTable table .number ≡ 0
-  pub few-joins : joins < 65536
-  pub is : listing (tableOf table .names) (tableStates table) joins ≡ bookListing (bookOf settings book)
+  pub few-joins : joins < number-limit
+  pub few-distinct : distinct < number-limit
+  pub is : listing (tableOf table .names) (tableStates table) joins distinct ≡ bookListing (bookOf settings book)
   pub short : length (bookListing (bookOf settings book)) ≤ listing-bytes
 
 module _ (settings : Settings) (allowed : Allowed settings) where
@@ -61,11 +63,13 @@ module _ (settings : Settings) (allowed : Allowed settings) where
 
   pub listing-short : (book : List ℕ) → Accepted settings book → length (bookListing (bookOf settings book)) ≤ listing-bytes
   listing-short book ok =
-      book-listing-length settings allowed book _ (joinsOf (bookOf settings book)) ok (book-writable settings allowed book ok)
+      book-listing-length settings allowed book _ (joinsOf (bookOf settings book)) (distinctOf (bookOf settings book)) ok
+      (book-writable settings allowed book ok)
 
   table-listed :
       (book work : List ℕ) → buildFault settings book work ≡ 0 →
       ListedBy settings book work (bookTable (bookOf settings book)) (joinsOf (bookOf settings book))
+      (distinctOf (bookOf settings book))
   unfolding buildFault
   table-listed book work none =
       let parts = first-of (sizesFault book work) (bookFault settings book) none in
@@ -76,22 +80,23 @@ module _ (settings : Settings) (allowed : Allowed settings) where
         work-fits = sizes-fit book work (parts .0) .work-fits;
         no-refusal = ap (λ (r : Read). r .number) (read-table settings allowed book ok);
         few-joins = omega (arith, joins-few settings book ok);
+        few-distinct = omega (arith, distinct-few settings book ok);
         is =
-            ap (λ (names : List (List ℕ)). listing names (tableStates (bookTable f)) (joinsOf f)) (names-read book ok)
-            ∙ ap (λ (states : List State). listing (f .names) states (joinsOf f))
+            ap (λ (names : List (List ℕ)). listing names (tableStates (bookTable f)) (joinsOf f) (distinctOf f)) (names-read book ok)
+            ∙ ap (λ (states : List State). listing (f .names) states (joinsOf f) (distinctOf f))
             (demands .reads-back settings allowed .same-states book ok);
         short = listing-short book ok;
       }
 
   module _ (book work out out′ : List ℕ) (r : Built) (gives : Gives (building settings book work) (out ∷ []) (out′ ∷ []) r) where
     -- a build that is not refused left such a table at the front
-    pub built-listed : r .refusal ≡ 0 → ListedBy settings book work (take (r .length) out′) (r .joins)
+    pub built-listed : r .refusal ≡ 0 → ListedBy settings book work (take (r .length) out′) (r .joins) (r .distinct)
     unfolding building
     built-listed none =
         let f = bookOf settings book in
         let front = built-front settings book work out out′ r gives none in
-        subst (λ (table : List ℕ). ListedBy settings book work table (r .joins)) (sym (front .at-front .bytes-are))
-        (subst (λ (joins : ℕ). ListedBy settings book work (bookTable f) joins) (sym (ap (λ (b : Built). b .joins) (front .answer-is)))
+        subst (λ (table : List ℕ). ListedBy settings book work table (r .joins) (r .distinct)) (sym (front .at-front .bytes-are))
+        (subst (λ (b : Built). ListedBy settings book work (bookTable f) (b .joins) (b .distinct)) (sym (front .answer-is))
         (table-listed book work (front .not-refused)))
 
     -- one that is refused, with an output that takes every table, is refused as a listing is
@@ -113,7 +118,8 @@ module _ (settings : Settings) (allowed : Allowed settings) where
 
 -- the listing at the front of a text
 pub puts-front :
-    (whole text text′ bytes : List ℕ) (after : ℕ) → bytes ≡ whole → Put text text′ 0 bytes after → FrontOf whole text′ after
+    (whole text text′ bytes : List ℕ) (after : ℕ) → bytes ≡ whole → Put text text′ 0 bytes after →
+    FrontOf whole text′ after
 puts-front whole text text′ bytes after is puts =
     subst (λ (l : List ℕ). FrontOf l text′ after) is
     (front-of bytes text text′ after (written-from-zero (puts .written)) (omega (arith, puts .ends)))

@@ -32,6 +32,7 @@ pub fn build(settings: Settings, book: &[u8], work: &mut [u8], out: &mut [u8]) -
                 length: inferred.length as u32,
                 states: inferred.states as u32,
                 joins: inferred.joins as u32,
+                distinct: inferred.distinct as u32,
             }
         }
         Fields::Refused(k) => not_built(k),

@@ -23,16 +23,16 @@ ghost use Rattle.writing.specs.Writing.{Fits, Put};
 ghost use Rattle.results.specs.Says.{copying, listingBook};
 
 // The listing of a table that was accepted, at the front of the text; its length.
-fn list_accepted(table: &[u8], joins: usize, text: &mut [u8]) -> usize
+fn list_accepted(table: &[u8], joins: usize, distinct: usize, text: &mut [u8]) -> usize
     requires { ⌜ readTable (now table) .number ≡ 0 ⌝ }
-    requires { ⌜ joins < number-limit ⌝ }
-    requires { ⌜ Fits (now text) 0 (listing (tableOf (now table) .names) (tableStates (now table)) joins) ⌝ }
+    requires { ⌜ (joins < number-limit) × (distinct < number-limit) ⌝ }
+    requires { ⌜ Fits (now text) 0 (listing (tableOf (now table) .names) (tableStates (now table)) joins distinct) ⌝ }
     ensures { λ r. ⌜ Put (now (text .entry)) (now (text .exit)) 0
-        (listing (tableOf (now (table .entry)) .names) (tableStates (now (table .entry))) joins) r ⌝ }
+        (listing (tableOf (now (table .entry)) .names) (tableStates (now (table .entry))) joins distinct) r ⌝ }
 {
     let read = read_table(table);
     match read {
-        Fields::Accepted(p) => list_table(table, p, joins, text),
+        Fields::Accepted(p) => list_table(table, p, joins, distinct, text),
         // never met: an accepted table is accepted again
         Fields::Refused(_) => 0,
     }
@@ -65,6 +65,11 @@ pub fn list(settings: Settings, book: &[u8], work: &mut [u8], text: &mut [u8]) -
         return not_written(built.refusal);
     }
     let end = built.length as usize;
-    let length = list_accepted(&table[..end], built.joins as usize, work);
+    let length = list_accepted(
+        &table[..end],
+        built.joins as usize,
+        built.distinct as usize,
+        work,
+    );
     copy_out(&work[..length], text)
 }

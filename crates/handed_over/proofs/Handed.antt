@@ -10,7 +10,7 @@ use Rattle.model.specs.Fields.{Settings, Allowed}
 use Rattle.model.specs.Tables.{State, admits}
 use Rattle.model.specs.Classes.{Word, InClass}
 use Rattle.model.specs.Quotients.{bookStates, bookTable}
-use Rattle.model.specs.Calls.{sizesFault, bookOf, bookFault, buildFault, joinsOf, tableStates}
+use Rattle.model.specs.Calls.{sizesFault, bookOf, bookFault, buildFault, joinsOf, distinctOf, tableStates}
 use Rattle.model.specs.Claims.{Accepted, SameBook}
 use Rattle.model.proofs.FieldLaws.{first-of}
 use Rattle.model.proofs.Demands.{tree-size-same, demands}
@@ -68,6 +68,10 @@ joins-are : (b : AcceptedBuild) → b .result .joins ≡ joinsOf (bookIn b)
 unfolding building
 joins-are b = ap (λ (r : Built). r .joins) (front b .answer-is)
 
+distinct-is : (b : AcceptedBuild) → b .result .distinct ≡ distinctOf (bookIn b)
+unfolding building
+distinct-is b = ap (λ (r : Built). r .distinct) (front b .answer-is)
+
 handed-over : (b : AcceptedBuild) → HandedOver (bookIn b) (written b)
 handed-over b =
     subst (λ (bytes : List ℕ). HandedOver (bookIn b) bytes) (sym (front b .at-front .bytes-are))
@@ -98,6 +102,13 @@ module _ (b c : AcceptedBuild) (like : SameBook (bookIn b) (bookIn c)) where
         lengths-same = omega (arith, length-is b, ap length tables-same, length-is c);
         states-same = omega (arith, states-are b, ap length book-states-same, states-are c);
         joins-same = omega (arith, joins-are b, book-joins-same, joins-are c);
+        distinct-same =
+            omega (
+              arith,
+              distinct-is b,
+              demands .different-rows .same-number (bookIn b) (bookIn c) (like .rows-there) (like .rows-back),
+              distinct-is c,
+            );
       }
 
 -- ---- all of it

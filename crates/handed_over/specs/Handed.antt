@@ -72,6 +72,7 @@ pub record SameResults (b c : AcceptedBuild) : Type 0 where
   pub lengths-same : b .result .length ≡ c .result .length
   pub states-same : b .result .states ≡ c .result .states
   pub joins-same : b .result .joins ≡ c .result .joins
+  pub distinct-same : b .result .distinct ≡ c .result .distinct
 
 -- demand 3, undivided, of every build that is not refused
 pub record BuildHandedOver : Type 1 where

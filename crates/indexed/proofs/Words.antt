@@ -10,10 +10,9 @@ use native.Mathlib.Omega.{arith}
 use lib.ListN.{length, getD, length-append}
 use lib.Seq.{drop-length, drop-append-le}
 use Rattle.base.specs.Limits.{state-limit}
-use Rattle.base.specs.Lists.{hasRow}
+use Rattle.base.specs.Lists.{hasRow, Distinct}
 use Rattle.model.specs.Classes.{Word, lastNames}
 use Rattle.model.specs.Joinings.{beginnings, withStates, withRows, treeOf, groupAt}
-use Rattle.base.proofs.Lists.{Distinct}
 use Rattle.base.proofs.Places.{nth-in, place-of, one-place}
 use Rattle.model.proofs.Notions.{Fits, Inside, Ker, _▸_}
 use Rattle.model.proofs.GroupCases.{groupAt-first, groupAt-later, no-groups, fits-rest}

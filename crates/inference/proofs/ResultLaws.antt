@@ -1,8 +1,8 @@
 -- What is given back: refusal 10, refusal 13, and the table written. Assumes nothing.
-use mathlib.Core.Path.{_≡_, refl, sym, ap}
+use mathlib.Core.Path.{_≡_, refl, sym, ap, subst}
 use mathlib.Core.Bool.{Bool}
 use mathlib.Core.List.{List, [], _∷_}
-use Prim.Native.Nat.{ℕ, _+_, _-_, _<_, _≤_}
+use Prim.Native.Nat.{ℕ, _+_, _-_, _≤_}
 use native.Mathlib.Omega.{arith}
 use borrow.Author.Tests.{le-ltb}
 use lib.Dec.{leb}
@@ -10,11 +10,14 @@ use lib.ListN.{length}
 use Rattle.base.specs.Limits.{state-limit, tree-too-large, output-too-short, when}
 use Rattle.model.specs.Fields.{File}
 use Rattle.model.specs.Joinings.{treeOf}
-use Rattle.model.specs.Quotients.{bookStates, bookTable}
-use Rattle.model.specs.Calls.{over, treeFault, joinsOf}
+use Rattle.model.specs.Quotients.{bookTable}
+use Rattle.model.specs.Calls.{treeFault, joinsOf, distinctOf}
+use Rattle.model.proofs.Demands.{states-few}
 use Rattle.model.proofs.CallLaws.{call-refused, call-one-short, call-one-wrote}
 use Rattle.base.proofs.Tests.{same-tests, tells-leb}
-use Rattle.inference.specs.Results.{refused-with, inferring, Infers}
+use Rattle.inference.specs.Results.{WritesTable, statesTold, refused-with, resultOf, inferring, Infers}
+use Rattle.inference.specs.declared.Table.{Table}
+use Rattle.inference.specs.declared.Table.the-variants as table
 
 -- the second part fits after the first
 pub fits-after : (room front rest : ℕ) → front ≤ room → leb rest (room - front) ≡ leb (front + rest) room
@@ -30,17 +33,32 @@ module _ (f : File) (out : List ℕ) where
   unfolding inferring
   not-too-large few = ap (λ (b : Bool). when b tree-too-large) (le-ltb state-limit (length (treeOf (f .items))) few)
 
-  pub gives-too-short :
-      length (treeOf (f .items)) ≤ state-limit → length out < length (bookTable f) → Infers f out out (refused-with output-too-short)
-  unfolding inferring
-  gives-too-short few short = call-one-short (inferring f) (bookTable f) out refl (not-too-large few) short
+  module _ (out′ : List ℕ) where
+    -- the states that an answer tells are at most those of the tree
+    pub told-few :
+        (answer : Table) (tree : ℕ) → tree ≡ length (treeOf (f .items)) → WritesTable f out out′ answer →
+        statesTold answer ≤ tree
+    told-few (table.Written bytes states) tree size h = omega (arith, size, h .states-are, states-few f)
+    told-few table.TooLong tree size h = omega arith
 
-  -- the table written
-  pub gives-table :
-      (out′ : List ℕ) (end states joins : ℕ) → length (treeOf (f .items)) ≤ state-limit → length (bookTable f) ≤ length out →
-      out′ ≡ over (bookTable f) out → end ≡ length (bookTable f) → states ≡ length (bookStates f) → joins ≡ joinsOf f →
-      Infers f out out′ (record { refusal = 0; length = end; states = states; joins = joins })
-  unfolding inferring
-  gives-table out′ end states joins few fits written ends as-many joined =
-      call-one-wrote (inferring f) (bookTable f) out refl out′ _ (not-too-large few) fits written
-      (λ i. record { refusal = 0; length = ends i; states = as-many i; joins = joined i })
+    -- an answer with the tree's states and the different rows is what is given back
+    pub gives-result :
+        (answer : Table) (tree distinct : ℕ) → length (treeOf (f .items)) ≤ state-limit → tree ≡ length (treeOf (f .items)) →
+        distinct ≡ distinctOf f → WritesTable f out out′ answer → Infers f out out′ (resultOf answer tree distinct)
+    unfolding inferring joinsOf
+    gives-result (table.Written bytes states) tree distinct few size different h =
+        call-one-wrote (inferring f) (bookTable f) out refl out′ _ (not-too-large few) (h .fits) (h .out-is)
+        (λ i.
+        record {
+          refusal = 0;
+          length = h .bytes-are i;
+          states = h .states-are i;
+          joins = joined i;
+          distinct = different i;
+        })
+      where
+        joined : tree - states ≡ joinsOf f
+        joined = omega (arith, size, h .states-are)
+    gives-result table.TooLong tree distinct few size different h =
+        subst (λ (after : List ℕ). Infers f out after (refused-with output-too-short)) (sym (h .out-kept))
+        (call-one-short (inferring f) (bookTable f) out refl (not-too-large few) (h .short))

@@ -1,9 +1,9 @@
--- From a joined partition to the table: what the joining and the automaton are handed, how many states there are, and the table refused or
--- written. Assumes nothing.
-use mathlib.Core.Path.{_≡_, sym, ap, _∙_, subst}
+-- From a joined partition to the table: what the joining and the automaton are handed, and the table written or longer than the output.
+-- Assumes nothing.
+use mathlib.Core.Path.{_≡_, refl, sym, ap, _∙_, subst}
 use mathlib.Core.Bool.{true, false}
 use mathlib.Core.List.{List, _++_}
-use Prim.Native.Nat.{ℕ, _+_, _-_, _<_, _≤_}
+use Prim.Native.Nat.{ℕ, _+_, _<_, _≤_}
 use native.Mathlib.Nat.{zero-add}
 use native.Mathlib.Omega.{arith}
 use borrow.Author.Tests.{leb-true, leb-false}
@@ -15,11 +15,8 @@ use Rattle.model.specs.Tables.{State, stateFields}
 use Rattle.model.specs.Classes.{Word}
 use Rattle.model.specs.Joinings.{treeOf}
 use Rattle.model.specs.Quotients.{statesOf, bookStates, bookTable}
-use Rattle.base.specs.Limits.{class-bytes, output-too-short}
-use Rattle.model.specs.Calls.{over, joinsOf}
-use Rattle.model.proofs.Notions.{Fits}
-use Rattle.model.proofs.Trees.{treeOf-tree}
-use Rattle.model.proofs.FirstMet.{met-few, states-length}
+use Rattle.base.specs.Limits.{class-bytes}
+use Rattle.model.specs.Calls.{over}
 use Rattle.fields.specs.Places.{fileOf}
 use Rattle.fields.specs.declared.Place.{Place}
 use Rattle.indexed.specs.Trees.{Arrays}
@@ -29,9 +26,8 @@ use Rattle.quotient.specs.Gathered.{Joined}
 use Rattle.writing.specs.Writing.{Put, frontOf}
 use Rattle.writing.proofs.WritingLaws.{put-append, written-from-zero}
 use Rattle.inference.specs.Books.{BookAt, rowsAt, classAt, namesEnd, TreeIn, JoinedBy}
-use Rattle.inference.specs.Results.{refused-with, Infers}
+use Rattle.inference.specs.Results.{TableWritten, TableTooLong}
 use Rattle.inference.proofs.FrontLaws.{table-parts, table-length}
-use Rattle.inference.proofs.ResultLaws.{gives-too-short, gives-table}
 
 -- a front of a list that was written, and read again
 pub prefix-fits : (n : ℕ) (front rest : List ℕ) → length front ≡ n → n ≤ length (front ++ rest)
@@ -59,18 +55,6 @@ module _ (rows : List Word) (parents names accepts : List ℕ) (c : Class) (grou
   joined-tree tree joined =
       record { tree = tree .tree; few = tree .few; labels = joined .labels; forks = joined .forks }
 
-module _ (rows : List Word) (parents names : List ℕ) (c : Class) (groups : List ℕ) where
-  -- it has no more states than the tree
-  pub states-few : JoinedBy c rows parents names groups → length (statesOf rows (treeOf rows) groups) ≤ length groups
-  states-few joined =
-      let fits : Fits (treeOf rows) groups = record { lengths = joined .labels .size } in
-      omega (
-        arith,
-        states-length (treeOf rows) groups (treeOf-tree rows) fits rows,
-        met-few (treeOf rows) groups (treeOf-tree rows) fits,
-        joined .labels .size,
-      )
-
 module _ (s : List ℕ) (p : Place) (parents names accepts groups : List ℕ) (at : BookAt s p)
     (bytes : (i : ℕ) → i < length s → getD s i 0 < 256) (tree : TreeIn (rowsAt s p) parents names accepts)
     (joined : JoinedBy (classAt p) (rowsAt s p) parents names groups) where
@@ -90,27 +74,26 @@ module _ (s : List ℕ) (p : Place) (parents names accepts groups : List ℕ) (a
         ap (λ (states : List State). length (stateFields states)) states-same,
       )
 
-  pub table-too-short :
-      (out : List ℕ) (size : ℕ) → size ≡ length (stateFields made) → leb ((namesEnd p + class-bytes) + size) (length out) ≡ false →
-      Infers (fileOf s p) out out (refused-with output-too-short)
-  table-too-short out size e over-room =
-      gives-too-short (fileOf s p) out (tree .few)
-      (omega (arith, leb-false ((namesEnd p + class-bytes) + size) (length out) over-room, total size e))
+  pub table-too-long :
+      (out : List ℕ) (size : ℕ) → size ≡ length (stateFields made) →
+      leb ((namesEnd p + class-bytes) + size) (length out) ≡ false → TableTooLong (fileOf s p) out out
+  table-too-long out size e over-room =
+      record {
+        short = omega (arith, leb-false ((namesEnd p + class-bytes) + size) (length out) over-room, total size e);
+        out-kept = refl;
+      }
 
   pub table-written :
       (out mid out′ : List ℕ) (next end states size : ℕ) → leb ((namesEnd p + class-bytes) + size) (length out) ≡ true →
       states ≡ length made → size ≡ length (stateFields made) → Put out mid 0 (frontOf s (namesEnd p) (classAt p)) next →
-      Put mid out′ next (stateFields made) end →
-      Infers (fileOf s p) out out′ (record { refusal = 0; length = end; states = states; joins = length groups - states })
-  unfolding joinsOf
+      Put mid out′ next (stateFields made) end → TableWritten (fileOf s p) out out′ end states
   table-written out mid out′ next end states size fits counted e front back =
       let whole = put-append front back (omega arith) in
       let all : frontOf s (namesEnd p) (classAt p) ++ stateFields made ≡ bookTable (fileOf s p) =
       ap (λ (z : List State). frontOf s (namesEnd p) (classAt p) ++ stateFields z) states-same ∙ sym (table-parts s p at bytes) in
-      let as-many : states ≡ length (bookStates (fileOf s p)) = counted ∙ ap length states-same in
-      gives-table (fileOf s p) out out′ end states (length groups - states) (tree .few)
-      (omega (arith, leb-true ((namesEnd p + class-bytes) + size) (length out) fits, total size e))
-      (subst (λ (z : List ℕ). out′ ≡ over z out) all (written-from-zero (whole .written)))
-      (whole .ends ∙ zero-add _ ∙ ap length all)
-      as-many
-      (omega (arith, joined .labels .size, as-many))
+      record {
+        fits = omega (arith, leb-true ((namesEnd p + class-bytes) + size) (length out) fits, total size e);
+        out-is = subst (λ (z : List ℕ). out′ ≡ over z out) all (written-from-zero (whole .written));
+        bytes-are = whole .ends ∙ zero-add _ ∙ ap length all;
+        states-are = counted ∙ ap length states-same;
+      }

@@ -19,14 +19,21 @@ ghost use lib.ListN.{length};
 ghost use Rattle.base.specs.Limits.{input-limit, work-bytes};
 ghost use Rattle.fields.specs.Places.{fileOf};
 ghost use Rattle.inference.specs.Books.{BookAt, rowsAt, classAt, TreeIn, JoinedBy};
-ghost use Rattle.inference.specs.Results.{Infers, refused-with};
+ghost use Rattle.inference.specs.Results.{WritesTable, statesTold, Infers, refused-with, resultOf};
 
-// What is given back: the refusal, or 0 with the table's length, its states, and the joins.
+// The table's length in bytes and its states; or it is longer than the output, and nothing is written.
+pub enum Table {
+    Written(usize, usize),
+    TooLong,
+}
+
+// What is given back: the refusal, or 0 with the table's length, its states, the joins, and how many different rows the book has.
 pub struct Inferred {
     pub refusal: u8,
     pub length: usize,
     pub states: usize,
     pub joins: usize,
+    pub distinct: usize,
 }
 
 // What is given back with a refusal.
@@ -38,6 +45,24 @@ fn refused(refusal: u8) -> Inferred
         length: 0,
         states: 0,
         joins: 0,
+        distinct: 0,
+    }
+}
+
+// What is given back for a table, of a tree of so many states and so many different rows.
+fn result_of(table: Table, tree: usize, distinct: usize) -> Inferred
+    requires { ⌜ statesTold table ≤ tree ⌝ }
+    ensures { λ r. ⌜ r ≡ resultOf table tree distinct ⌝ }
+{
+    match table {
+        Table::Written(length, states) => Inferred {
+            refusal: 0,
+            length: length,
+            states: states,
+            joins: tree - states,
+            distinct: distinct,
+        },
+        Table::TooLong => refused(OUTPUT_TOO_SHORT),
     }
 }
 
@@ -51,7 +76,7 @@ fn fits(room: usize, front: usize, rest: usize) -> bool
     rest <= room - front
 }
 
-// The automaton of a joined partition, numbered and written after the names and the class; or 13, and nothing is written.
+// The automaton of a joined partition, numbered and written after the names and the class.
 fn write_joined(
     book: &[u8],
     place: Place,
@@ -61,11 +86,11 @@ fn write_joined(
     groups: &[u16],
     work: &mut [u8],
     out: &mut [u8],
-) -> Inferred
+) -> Table
     requires { ⌜ BookAt (now book) place × (length (now book) ≤ input-limit) × (work-bytes ≤ length (now work)) ⌝ }
     requires { ⌜ TreeIn (rowsAt (now book) place) (now parents) (now names) (now accepts) ⌝ }
     requires { ⌜ JoinedBy (classAt place) (rowsAt (now book) place) (now parents) (now names) (now groups) ⌝ }
-    ensures { λ r. ⌜ Infers (fileOf (now (book .entry)) place) (now (out .entry)) (now (out .exit)) r ⌝ }
+    ensures { λ r. ⌜ WritesTable (fileOf (now (book .entry)) place) (now (out .entry)) (now (out .exit)) r ⌝ }
 {
     let mut next = [0u64; STATE_LIMIT];
     let mut accepting = [0u8; STATE_LIMIT];
@@ -85,17 +110,11 @@ fn write_joined(
     let states = automaton.states;
     let named = place.last + place.width;
     if !fits(out.len(), named + CLASS_BYTES, automaton.bytes) {
-        return refused(OUTPUT_TOO_SHORT);
+        return Table::TooLong;
     }
     let at = put_front(out, book, named, place.kind, place.first, place.second);
     let end = write_states(work, &next, &accepting, &met, &numbers, states, out, at);
-    let joins = groups.len() - states;
-    Inferred {
-        refusal: 0,
-        length: end,
-        states: states,
-        joins: joins,
-    }
+    Table::Written(end, states)
 }
 
 // The prefix tree joined by the class's rule, and then written.
@@ -107,10 +126,10 @@ fn join_and_write(
     accepts: &[u8],
     work: &mut [u8],
     out: &mut [u8],
-) -> Inferred
+) -> Table
     requires { ⌜ BookAt (now book) place × (length (now book) ≤ input-limit) × (work-bytes ≤ length (now work)) ⌝ }
     requires { ⌜ TreeIn (rowsAt (now book) place) (now parents) (now names) (now accepts) ⌝ }
-    ensures { λ r. ⌜ Infers (fileOf (now (book .entry)) place) (now (out .entry)) (now (out .exit)) r ⌝ }
+    ensures { λ r. ⌜ WritesTable (fileOf (now (book .entry)) place) (now (out .entry)) (now (out .exit)) r ⌝ }
 {
     let n = parents.len();
     let mut groups = [0u16; STATE_LIMIT];
@@ -135,8 +154,8 @@ fn join_and_write(
     )
 }
 
-// The table of an accepted book at the front of the output, which is untouched beyond it: its length, its states and the joins; or
-// refusal 10 or 13, and the output is as it was. The lent area may hold anything at first.
+// The table of an accepted book at the front of the output, which is untouched beyond it: its length, its states, the joins and the
+// different rows; or refusal 10 or 13, and the output is as it was. The lent area may hold anything at first.
 pub fn infer(book: &[u8], place: Place, work: &mut [u8], out: &mut [u8]) -> Inferred
     requires { ⌜ BookAt (now book) place × (length (now book) ≤ input-limit) × (work-bytes ≤ length (now work)) ⌝ }
     ensures { λ r. ⌜ Infers (fileOf (now (book .entry)) place) (now (out .entry)) (now (out .exit)) r ⌝ }
@@ -155,14 +174,17 @@ pub fn infer(book: &[u8], place: Place, work: &mut [u8], out: &mut [u8]) -> Infe
     );
     match tree {
         Tree::TooLarge => refused(TREE_TOO_LARGE),
-        Tree::Built(n) => join_and_write(
-            book,
-            place,
-            &parents[..n],
-            &names[..n],
-            &accepts[..n],
-            work,
-            out,
-        ),
+        Tree::Built(n, distinct) => {
+            let table = join_and_write(
+                book,
+                place,
+                &parents[..n],
+                &names[..n],
+                &accepts[..n],
+                work,
+                out,
+            );
+            result_of(table, n, distinct)
+        }
     }
 }

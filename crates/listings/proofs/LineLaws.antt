@@ -7,11 +7,10 @@ use native.Mathlib.Numerals.{add-one}
 use lib.ListN.{length, getD, drop, drop-of-length-le}
 use lib.Seq.{drop-cons}
 use Rattle.model.specs.Tables.{Arc, arc, State, empty-state, stateIn}
-use Rattle.model.specs.Listing.{arcText, stateLine, stateLines, listing}
+use Rattle.model.specs.Listing.{arcText, stateLine, stateLines, firstLine, listing}
 use Rattle.tables.specs.Arcs.{targetAt}
 use Rattle.tables.proofs.ArcLaws.{arcsFrom, arcs-all, arcs-turn, arcs-end}
 use Rattle.writing.specs.Writing.{Fits, Put}
-use Rattle.listings.specs.Texts.{firstLine}
 use Rattle.writing.proofs.TextLaws.{Writing, begins, finishes}
 
 -- of the arcs of a state's field those from offset i on are left to write
@@ -50,7 +49,8 @@ abbrev pub StatesWriting : List (List ℕ) → List State → List ℕ → ℕ �
 StatesWriting names states text₀ at text next i =
     Writing text₀ at (stateLines names 0 states) text next (stateLines names i (drop i states))
 
-module _ (names : List (List ℕ)) (states : List State) (i : ℕ) {text₀ : List ℕ} {at : ℕ} {whole text : List ℕ} {next : ℕ} where
+module _ (names : List (List ℕ)) (states : List State) (i : ℕ)
+    {text₀ : List ℕ} {at : ℕ} {whole text : List ℕ} {next : ℕ} where
   -- the next state's line comes first of what is left
   pub states-next :
       (s : State) → i < length states → s ≡ getD states i empty-state →
@@ -73,8 +73,9 @@ module _ (names : List (List ℕ)) (states : List State) (i : ℕ) {text₀ : Li
 
 -- a listing, with the names and the number of states that the code has at hand
 pub listing-parts :
-    (names names′ : List (List ℕ)) (states : List State) (items joins : ℕ) → names ≡ names′ → length states ≡ items →
-    firstLine items joins ++ stateLines names 0 states ≡ listing names′ states joins
-unfolding listing firstLine
-listing-parts names names′ states items joins d e =
-    ap₂ (λ (n : ℕ) (l : List (List ℕ)). firstLine n joins ++ stateLines l 0 states) (sym e) d
+    (names names′ : List (List ℕ)) (states : List State) (items joins distinct : ℕ) → names ≡ names′ →
+    length states ≡ items →
+    firstLine items joins distinct ++ stateLines names 0 states ≡ listing names′ states joins distinct
+unfolding listing
+listing-parts names names′ states items joins distinct d e =
+    ap₂ (λ (n : ℕ) (l : List (List ℕ)). firstLine n joins distinct ++ stateLines l 0 states) (sym e) d

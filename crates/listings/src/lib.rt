@@ -1,6 +1,6 @@
-// The listing of a table as text, written once into a lent slice: a first line with the number of states and of joins, then a line
-// for each state; and the text of a refusal. Each function writes its bytes from an offset on, or at the front, leaves the rest of
-// the slice as it was, and returns the offset after them.
+// The listing of a table as text, written once into a lent slice: a first line with the numbers of states, joins and different rows,
+// then a line for each state; and the text of a refusal. Each function writes its bytes from an offset on, or at the front, leaves the
+// rest of the slice as it was, and returns the offset after them.
 mod arcs;
 mod words;
 
@@ -66,14 +66,20 @@ fn put_states(table: &[u8], place: Place, text: &mut [u8], at: usize) -> usize
 }
 
 // The listing of a table as read, at the front of the text; its length.
-pub fn list_table(table: &[u8], place: Place, joins: usize, text: &mut [u8]) -> usize
+pub fn list_table(
+    table: &[u8],
+    place: Place,
+    joins: usize,
+    distinct: usize,
+    text: &mut [u8],
+) -> usize
     requires { ⌜ TableRead (now table) place ⌝ }
-    requires { ⌜ joins < number-limit ⌝ }
-    requires { ⌜ Fits (now text) 0 (listing (tableOf (now table) .names) (tableStates (now table)) joins) ⌝ }
+    requires { ⌜ (joins < number-limit) × (distinct < number-limit) ⌝ }
+    requires { ⌜ Fits (now text) 0 (listing (tableOf (now table) .names) (tableStates (now table)) joins distinct) ⌝ }
     ensures { λ r. ⌜ Put (now (text .entry)) (now (text .exit)) 0
-        (listing (tableOf (now (table .entry)) .names) (tableStates (now (table .entry))) joins) r ⌝ }
+        (listing (tableOf (now (table .entry)) .names) (tableStates (now (table .entry))) joins distinct) r ⌝ }
 {
-    let next = put_first_line(place.items, joins, text);
+    let next = put_first_line(place.items, joins, distinct, text);
     put_states(table, place, text, next)
 }
 

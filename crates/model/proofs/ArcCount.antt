@@ -9,11 +9,10 @@ use lib.Dec.{eqb, ltb}
 use lib.ListN.{length, length-map}
 use borrow.Author.Tests.{eqb-true, ne-eqb}
 use Rattle.model.specs.Classes.{Word}
-use Rattle.base.specs.Lists.{indexIn}
+use Rattle.base.specs.Lists.{indexIn, Distinct}
 use Rattle.model.specs.Tables.{Arc, arc}
 use Rattle.model.specs.Joinings.{Transition, transitionsInto, transitionsOf}
 use Rattle.model.specs.Quotients.{putArc, arcsOutOf, renumbered, stateOf}
-use Rattle.base.proofs.Lists.{Distinct}
 use Rattle.model.proofs.Writable.{arcCount}
 
 -- the arcs out of these groups

@@ -1,5 +1,5 @@
 -- All that is claimed: `demands`. First what an accepted book and two like books give, then demand 3, whole, then that tables
--- read back as they were written and are rewritten to the same bytes. Assumes nothing.
+-- read back as they were written and are rewritten to the same bytes, then the number of different rows. Assumes nothing.
 use mathlib.Core.Path.{_≡_, refl, sym, ap, _∙_, subst}
 use mathlib.Core.Logic.{_↔_}
 use mathlib.Core.Bool.{Bool, true, _||_}
@@ -15,14 +15,17 @@ use Rattle.model.specs.Tables.{State, stateBody, statesIn, isFirstMet, t
 use Rattle.model.specs.Classes.{Word}
 use Rattle.model.specs.Joinings.{Step, treeOf, apart, isFullJoining, afterSteps, joinedGroups}
 use Rattle.model.specs.Quotients.{statesOf, bookStates, bookTable, tableAfter}
-use Rattle.model.specs.Calls.{bookOf, treeFault, bookFault, sizesFault, tableOf, tableFault, tableStates}
-use Rattle.model.specs.Claims.{Accepted, allAmong, SameBook, DefiningJoining, Demand-3}
-use Rattle.model.specs.Claims.{Same-bytes, Reads-back, Demands}
+use Rattle.model.specs.Calls.{bookOf, treeFault, bookFault, sizesFault, distinctOf, tableOf, tableFault, tableStates}
+use Rattle.model.specs.Claims.{Accepted, SameBook, DefiningJoining, Demand-3}
+use Rattle.model.specs.Claims.{Same-bytes, Reads-back, Different-rows, Demands}
 use Rattle.base.proofs.Lists.{same-length}
-use Rattle.base.proofs.Tests.{tells-hasRow, tells-all, or-false}
+use Rattle.base.proofs.Tests.{tells-hasRow, or-false}
 use Rattle.model.proofs.Notions.{_▸_}
 use Rattle.model.proofs.Trees.{treeOf-tree, node-begins-row, same-nodes}
+use Rattle.model.proofs.DifferentRows.{tells-among, different-set, set-size, different-same, different-few}
+use Rattle.model.proofs.DifferentRows.{different-some, accepting-nodes}
 use Rattle.model.proofs.Ends.{joined-is-full-joining}
+use Rattle.model.proofs.FirstMet.{met-few, states-length}
 use Rattle.model.proofs.Joined.{Joined, joining-joined, joinedGroups-joined, joined-deterministic, joined-states}
 use Rattle.model.proofs.InTheClass.{admits-row, admits-in-class, admits-smallest}
 use Rattle.model.proofs.Writable.{Writable}
@@ -45,11 +48,6 @@ accepted-tree settings s ok =
     ltb-false state-limit (length (treeOf rows))
     (when-none (ltb state-limit (length (treeOf rows))) tree-too-large (omega arith) none)
 
--- rows that are all among others
-all-there : (rows others : List Word) → allAmong rows others ≡ true → (r : Word) → In r rows → In r others
-unfolding allAmong
-all-there rows others e = tells-all (λ r. tells-hasRow r others) rows .fact e
-
 -- a book is like itself
 like-itself : (f : File) → SameBook f f
 like-itself f =
@@ -59,7 +57,7 @@ like-itself f =
 -- like books have the same set of rows
 same-rows : (f g : File) → SameBook f g → (r : Word) → In r (f .items) ↔ In r (g .items)
 same-rows f g same r =
-    (all-there (f .items) (g .items) (same .rows-there) r, all-there (g .items) (f .items) (same .rows-back) r)
+    (tells-among (f .items) (g .items) .fact (same .rows-there) r, tells-among (g .items) (f .items) .fact (same .rows-back) r)
 
 -- and prefix trees of one size
 pub tree-size-same : (f g : File) → SameBook f g → length (treeOf (f .items)) ≡ length (treeOf (g .items))
@@ -67,6 +65,17 @@ tree-size-same f g same =
     same-length (treeOf (f .items)) (treeOf (g .items)) (treeOf-tree (f .items) .distinct) (treeOf-tree (g .items) .distinct)
     (same-nodes (f .items) (g .items) (λ r. same-rows f g same r .0))
     (same-nodes (g .items) (f .items) (λ r. same-rows f g same r .1))
+
+-- a book has at most as many states as its prefix tree
+pub states-few : (f : File) → length (bookStates f) ≤ length (treeOf (f .items))
+unfolding bookStates
+states-few f =
+    let nodes = treeOf (f .items) in
+    let groups = joinedGroups (f .class-is) (f .items) in
+    let fits = joinedGroups-joined (f .class-is) (f .items) .fits in
+    let few = met-few nodes groups (treeOf-tree (f .items)) fits in
+    let size = states-length nodes groups (treeOf-tree (f .items)) fits (f .items) in
+    omega arith
 
 -- ---- demand 3
 
@@ -197,6 +206,30 @@ module _ (settings : Settings) (allowed : Allowed settings) where
 pub same-bytes : Same-bytes
 same-bytes = record { rewrites = rewrites-same }
 
+-- how many different rows a book has
+different-rows : Different-rows
+unfolding distinctOf
+different-rows =
+    record {
+      is-set = λ f. different-set (f .items);
+      set-size = λ f set s. set-size (f .items) set s;
+      same-number = λ f g there back.
+          different-same (f .items) (g .items) (tells-among (f .items) (g .items) .fact there)
+          (tells-among (g .items) (f .items) .fact back);
+      few = λ f. different-few (f .items);
+      some = λ settings allowed s ok.
+          let first-row = accepted-has-row settings allowed s ok in
+          different-some (bookOf settings s .items) (first-row .0) (first-row .1);
+      accepting = λ f. accepting-nodes (f .items);
+    }
+
 -- all that is claimed
 pub demands : Demands
-demands = record { third = demand-3; same-bytes = same-bytes; reads-back = reads-back; rows-make-books = rows-make-books }
+demands =
+    record {
+      third = demand-3;
+      same-bytes = same-bytes;
+      reads-back = reads-back;
+      rows-make-books = rows-make-books;
+      different-rows = different-rows;
+    }

@@ -2,17 +2,18 @@
 -- met, then all groups, and that there are as many states as groups. Assumes nothing.
 use mathlib.Core.Path.{_≡_, refl, sym, ap, _∙_, subst}
 use mathlib.Core.Logic.{_⊎_, inl, inr}
-use mathlib.Core.List.{List, [], _∷_, List·Memᴰ as In, List·Memᴰ·head as here, List·Memᴰ·not-nil, List·Memᴰ·eq-of-singleton}
+use mathlib.Core.List.{List, [], _∷_, List·Memᴰ as In, List·Memᴰ·head as here}
+use mathlib.Core.List.{List·Memᴰ·not-nil, List·Memᴰ·eq-of-singleton}
 use mathlib.Core.List.{Memᴰ·cast}
 use Prim.Native.Nat.{ℕ, _+_, _≤_, _<_}
 use native.Mathlib.Omega.{arith}
 use lib.ListN.{length, length-map}
 use Rattle.model.specs.Classes.{Word}
-use Rattle.base.specs.Lists.{indexIn}
+use Rattle.base.specs.Lists.{indexIn, Distinct}
 use Rattle.model.specs.Tables.{arc}
 use Rattle.model.specs.Joinings.{transition, transitionsOf, groupAt, groupsIn, memberOf, Deterministic}
 use Rattle.model.specs.Quotients.{arcsOutOf, metGroups, stateOf, statesOf}
-use Rattle.base.proofs.Lists.{Distinct, distinct-length, same-length}
+use Rattle.base.proofs.Lists.{distinct-length, same-length}
 use Rattle.base.proofs.Places.{index-here, nth-of-index}
 use Rattle.model.proofs.Notions.{Tree, Fits, Walks}
 use Rattle.model.proofs.Groups.{group-in, member-of, in-groupsIn, groupsIn-in, groupsIn-distinct}

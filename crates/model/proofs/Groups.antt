@@ -8,10 +8,10 @@ use Prim.Native.Nat.{ℕ, zero, suc, _≤_, _<_}
 use native.Mathlib.Omega.{arith}
 use lib.ListN.{length, length-map}
 use Rattle.model.specs.Classes.{Word}
-use Rattle.base.specs.Lists.{numbersFrom}
+use Rattle.base.specs.Lists.{numbersFrom, Distinct}
 use Rattle.model.specs.Joinings.{apart, groupAt, groupsIn, mergedTo, merged, memberOf, groupAccepts}
 use Rattle.base.proofs.Tests.{Tells, tells-eqb, tells-and, tells-any, tells-by, tells-isIn, tells-hasRow, decided, eq-dec}
-use Rattle.base.proofs.Lists.{Distinct, map-in, distinct-length, distinct-shorter}
+use Rattle.base.proofs.Lists.{map-in, distinct-length, distinct-shorter}
 use Rattle.base.proofs.Places.{length-numbersFrom}
 use Rattle.model.proofs.GroupCases.{groupAt-first, groupAt-later, first-or-later, no-groups, fits-rest, memberOf-first}
 use Rattle.model.proofs.GroupCases.{memberOf-later, lower, lower-cases, told-either, merged-either, merged-neither}
@@ -32,7 +32,8 @@ low-groups [] i w m = absurd (List·Memᴰ·not-nil m)
 low-groups (node ∷ nodes) i w m = go (first-or-later node w nodes m) (λ n. low-groups nodes (suc i) w n)
   where
     go :
-        (w ≡ node) ⊎ ((w ≡ node → ⊥) × In w nodes) → (In w nodes → suc i ≤ groupAt nodes (numbersFrom (length nodes) (suc i)) w) →
+        (w ≡ node) ⊎ ((w ≡ node → ⊥) × In w nodes) →
+        (In w nodes → suc i ≤ groupAt nodes (numbersFrom (length nodes) (suc i)) w) →
         i ≤ groupAt (node ∷ nodes) (i ∷ numbersFrom (length nodes) (suc i)) w
     go (inl e) again = omega (arith, groupAt-first node nodes i (numbersFrom (length nodes) (suc i)) w e)
     go (inr r) again = omega (arith, groupAt-later node nodes i (numbersFrom (length nodes) (suc i)) w (r .0), again (r .1))
@@ -118,7 +119,8 @@ mergedTo-cases x y g h e = go (decided (told-either x y g)) (decided (told-eithe
     of-two k p = ⊎-elim (λ q. inl (p ∙ q)) (λ q. inr (p ∙ q)) (lower-cases x y)
 
     go :
-        ((g ≡ x) ⊎ (g ≡ y)) ⊎ ((g ≡ x) ⊎ (g ≡ y) → ⊥) → ((h ≡ x) ⊎ (h ≡ y)) ⊎ ((h ≡ x) ⊎ (h ≡ y) → ⊥) →
+        ((g ≡ x) ⊎ (g ≡ y)) ⊎ ((g ≡ x) ⊎ (g ≡ y) → ⊥) →
+        ((h ≡ x) ⊎ (h ≡ y)) ⊎ ((h ≡ x) ⊎ (h ≡ y) → ⊥) →
         (g ≡ h) ⊎ (((g ≡ x) ⊎ (g ≡ y)) × ((h ≡ x) ⊎ (h ≡ y)))
     go (inl p) (inl q) = inr (p, q)
     go (inl p) (inr q) = inr (p, of-two h (sym (merged-neither x y h q) ∙ sym e ∙ merged-either x y g p))
@@ -185,7 +187,9 @@ in-groupsIn (x ∷ groups) g m =
     go (decided (tells-isIn x (groupsIn groups)))
     (⊎-elim (λ e. inl e) (λ n. inr (in-groupsIn groups g n)) (List·Memᴰ·cases-cons m))
   where
-    go : In x (groupsIn groups) ⊎ (In x (groupsIn groups) → ⊥) → (g ≡ x) ⊎ In g (groupsIn groups) → In g (groupsIn (x ∷ groups))
+    go :
+        In x (groupsIn groups) ⊎ (In x (groupsIn groups) → ⊥) → (g ≡ x) ⊎ In g (groupsIn groups) →
+        In g (groupsIn (x ∷ groups))
     go (inl k) (inl e) = subst (In g) (sym (groupsIn-kept x groups k)) (Memᴰ·cast e k)
     go (inl k) (inr n) = subst (In g) (sym (groupsIn-kept x groups k)) n
     go (inr k) (inl e) = subst (In g) (sym (groupsIn-new x groups k)) (here e)
@@ -226,7 +230,8 @@ merged-in groups x y m n g k =
     lower-in = ⊎-elim (λ e. Memᴰ·cast e m) (λ e. Memᴰ·cast e n) (lower-cases x y)
 
 -- and of the two only the lower one
-merged-out : (groups : List ℕ) (x y g : ℕ) → (g ≡ x) ⊎ (g ≡ y) → (g ≡ lower x y → ⊥) → In g (merged x y groups) → ⊥
+merged-out :
+    (groups : List ℕ) (x y g : ℕ) → (g ≡ x) ⊎ (g ≡ y) → (g ≡ lower x y → ⊥) → In g (merged x y groups) → ⊥
 unfolding merged
 merged-out groups x y g h d k =
     let r = map-in (mergedTo x y) groups k in

@@ -16,9 +16,10 @@ use Rattle.model.specs.Joinings.{joinedGroups}
 use Rattle.model.specs.Quotients.{bookStates}
 use Rattle.model.specs.Claims.{allAmong}
 use Rattle.model.specs.Sources.{AdmittedBy, ContextualStates, Passing, OverNames, Sample}
-use Rattle.base.proofs.Tests.{tells-itself, tells-all, tells-hasRow, same-tests}
+use Rattle.base.proofs.Tests.{tells-itself, tells-all, same-tests}
 use Rattle.base.proofs.Lists.{in-filterBy, filterBy-in}
 use Rattle.model.proofs.Books.{tells-allBelow}
+use Rattle.model.proofs.DifferentRows.{tells-among}
 use Rattle.model.proofs.Joined.{Joined, joinedGroups-joined}
 use Rattle.model.proofs.ContextualTables.{states-contextual, book-contextual}
 use Rattle.model.proofs.InTheClass.{admits-row, admits-none, admits-smallest}
@@ -30,8 +31,7 @@ book-of k h rows = file 3 [] (class-of 0 k h) rows
 
 -- rows are among themselves
 pub among-itself : (rows : List Word) → allAmong rows rows ≡ true
-unfolding allAmong
-among-itself rows = tells-all (λ r. tells-hasRow r rows) rows .test (λ r m. m)
+among-itself rows = tells-among rows rows .test (λ r m. m)
 
 -- a list has an element or none
 some-row : (rows : List Word) → ((r : Word) × In r rows) ⊎ ((r : Word) → In r rows → ⊥)
@@ -67,10 +67,10 @@ module _
 
     -- the set's short words are rows, so they are admitted
     short-admitted : (r : Word) → test r ≡ true → length r ≤ enough m k → AdmittedBy (bookStates f) r
-    unfolding bookStates allAmong
+    unfolding bookStates
     short-admitted r e few =
         admits-row (f .class-is) (f .items) (joinedGroups (f .class-is) (f .items)) joined r
-        (tells-all (λ x. tells-hasRow x (f .items)) sample-rows .fact there r
+        (tells-among sample-rows (f .items) .fact there r
         (in-filterBy test (shortWords m (enough m k))
         (in-shortWords m (enough m k) r (tells-allBelow m r .fact (below r e)) few) e))
 

@@ -12,8 +12,9 @@ pub mod Rules
 pub mod Sound
 pub mod Complete
 pub mod Functions
--- the prefix tree, and the end of its joining
+-- the prefix tree, the set of its rows, and the end of its joining
 pub mod Trees
+pub mod DifferentRows
 pub mod Ends
 -- numbering: arcs in order, their names as a set of bits, groups in first-met order, what a table admits, walks over any table
 -- and the states that they reach, and the numbering law

@@ -11,12 +11,12 @@ use native.Mathlib.Omega.{arith}
 use lib.Dec.{ltb}
 use lib.ListN.{length, getD, List·getD-append}
 use borrow.Author.Tests.{ltb-true, ltb-false}
-use Rattle.base.specs.Lists.{isIn}
+use Rattle.base.specs.Lists.{isIn, Distinct}
 use Rattle.model.specs.Tables.{Arc}
 use Rattle.model.specs.Joinings.{Transition, transition}
 use Rattle.model.specs.Quotients.{arcsOutOf, metWith, metFrom}
 use Rattle.base.proofs.Tests.{tells-isIn, not-told, eq-dec}
-use Rattle.base.proofs.Lists.{Distinct, distinct-snoc}
+use Rattle.base.proofs.Lists.{distinct-snoc}
 use Rattle.model.proofs.Arcs.{arcsOutOf-in}
 
 -- ---- more groups met

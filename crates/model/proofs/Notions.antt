@@ -7,10 +7,10 @@ use mathlib.Core.List.{List, [], _∷_, _++_, List·Memᴰ as In}
 use Prim.Native.Nat.{ℕ, _+_, _≤_}
 use lib.Dec.{eqb}
 use lib.ListN.{length}
+use Rattle.base.specs.Lists.{Distinct}
 use Rattle.model.specs.Fields.{Class}
 use Rattle.model.specs.Classes.{Word, fOf}
 use Rattle.model.specs.Joinings.{Transition, transition, groupAt}
-use Rattle.base.proofs.Lists.{Distinct}
 
 -- a word with one name more
 abbrev pub _▸_ : Word → ℕ → Word

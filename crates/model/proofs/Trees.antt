@@ -4,14 +4,15 @@ use mathlib.Core.Path.{_≡_, refl, sym, ap, subst}
 use mathlib.Core.Logic.{_⊎_, inl, inr, ⊎-elim}
 use mathlib.Core.Bool.{Bool, true, false, cond}
 use mathlib.Core.List.{List, [], _∷_, _++_, map, append-assoc, append-nil, append-ne-nil-of-right-ne-nil, cons≢nil}
-use mathlib.Core.List.{List·Memᴰ as In, List·Memᴰ·head as here, List·Memᴰ·tail as there, List·Memᴰ·not-nil, List·Memᴰ·cases-cons}
+use mathlib.Core.List.{List·Memᴰ as In, List·Memᴰ·head as here, List·Memᴰ·tail as there}
+use mathlib.Core.List.{List·Memᴰ·not-nil, List·Memᴰ·cases-cons}
 use mathlib.Core.List.{Memᴰ·cast, Memᴰ·map, Memᴰ·append-left, Memᴰ·append-right, List·Memᴰ·append-cases}
 use mathlib.Core.List.{List·Memᴰ·eq-of-singleton}
-use Rattle.base.specs.Lists.{hasRow}
+use Rattle.base.specs.Lists.{hasRow, Distinct}
 use Rattle.model.specs.Classes.{Word}
 use Rattle.model.specs.Joinings.{beginnings, withStates, withRows, treeOf}
 use Rattle.base.proofs.Tests.{tells-hasRow, not-told}
-use Rattle.base.proofs.Lists.{Distinct, distinct-snoc, map-in}
+use Rattle.base.proofs.Lists.{distinct-snoc, map-in}
 use Rattle.model.proofs.Notions.{Tree, _▸_}
 
 -- the word begins a row

@@ -25,9 +25,9 @@ use Rattle.model.specs.Joinings.{afterSameArc, byContext, intoOne, fOfGr
 use Rattle.model.specs.Joinings.{openSteps, isFull, afterSteps, allOpen, isFullJoining, joinFrom, joinedGroups}
 use Rattle.model.specs.Quotients.{putArc, arcsOutOf, metWith, metFrom, metGroups, renumbered, stateOf, statesOf, bookStates}
 use Rattle.model.specs.Quotients.{bookTable, tableAfter}
-use Rattle.model.specs.Calls.{bookOf, bookFault, joinsOf, tableOf, tableStates}
+use Rattle.model.specs.Calls.{bookOf, bookFault, joinsOf, differentRows, distinctOf, tableOf, tableStates}
 use Rattle.model.specs.Claims.{allAmong}
-use Rattle.model.specs.Listing.{digits, arcText, stateLine, stateLines, listing, refusalText, listingFault, listingOf}
+use Rattle.model.specs.Listing.{digits, arcText, stateLine, stateLines, firstLine, listing, refusalText, listingFault, listingOf}
 use Rattle.model.specs.WorkedDays.{sameRows, rowsOfLength, shortRows, acceptingIn, remarkHolds, isFile, dayHolds}
 use Rattle.model.specs.WorkedDays.{exampleHolds, daysHold, Day, Q3, finiteDays, TellsDefault, DaysClaimed}
 use Rattle.base.proofs.Tests.{Tells, decided, tells-itself, tells-eqb, tells-leb, tells-and, tells-or, tells-not}
@@ -82,8 +82,8 @@ unfolding flatMap walkable walkableTo onlyThese allAmong isExact statesBy candid
     transitionsOf forks routesFrom afterSameArc byContext intoOne fOfGroup byF byRule isOpen stepsBetween openSteps
     isFull afterSteps allOpen isFullJoining joinFrom joinedGroups
     putArc arcsOutOf metWith metFrom metGroups renumbered stateOf statesOf bookStates bookTable tableAfter
-    bookOf bookFault joinsOf tableOf tableStates
-    digits arcText stateLine stateLines listing refusalText listingFault listingOf
+    bookOf bookFault joinsOf differentRows distinctOf tableOf tableStates
+    digits arcText stateLine stateLines firstLine listing refusalText listingFault listingOf
     sameRows rowsOfLength shortRows acceptingIn remarkHolds isFile dayHolds exampleHolds daysHold
 computed = record { days = refl; finite = refl; classes = refl; default-states = refl; long-contexts = λ m h. refl }
 

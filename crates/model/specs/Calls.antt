@@ -7,6 +7,7 @@ use mathlib.Core.List.{List, [], _∷_, _++_}
 use Prim.Native.Nat.{ℕ, _-_, _<_}
 use lib.Dec.{eqb, ltb}
 use lib.ListN.{length, drop, replicate}
+use Rattle.base.specs.Lists.{filterBy, same}
 use Rattle.base.specs.Limits.{state-limit, input-limit, work-bytes, when, firstOf}
 use Rattle.base.specs.Limits.{bad-sizes, bad-row, tree-too-large, bad-numbering, output-too-short}
 use Rattle.model.specs.Fields.{File, Settings, readBook, readTable, readNames, rowOk}
@@ -94,6 +95,15 @@ buildFault settings s work = firstOf (sizesFault s work) (bookFault settings s)
 -- joins: tree states less table states
 unfoldable pub joinsOf : File → ℕ
 joinsOf f = length (treeOf (f .items)) - length (bookStates f)
+
+-- the rows without later copies: each different row once, where it is first met
+unfoldable pub differentRows : List Word → List Word
+differentRows [] = []
+differentRows (row ∷ rows) = row ∷ filterBy (λ (other : Word). not (same row other)) (differentRows rows)
+
+-- how many different rows a book has: the size of the set of its rows
+unfoldable pub distinctOf : File → ℕ
+distinctOf f = length (differentRows (f .items))
 
 -- the table that the bytes hold
 unfoldable pub tableOf : List ℕ → File

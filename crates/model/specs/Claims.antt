@@ -1,18 +1,19 @@
--- What is claimed of the definitions: demand 3, whole; that tables read back as written and are rewritten to the same bytes; and
--- that a list of names and rows make a book. `demands` of proofs/Demands.antt proves it all. Assumes nothing.
+-- What is claimed of the definitions: demand 3, whole; that tables read back as written and are rewritten to the same bytes; that
+-- a list of names and rows make a book; and how many different rows a book has. `demands` of proofs/Demands.antt proves it all. Assumes
+-- nothing.
 use mathlib.Core.Path.{_≡_}
 use mathlib.Core.Bool.{Bool, true}
 use mathlib.Core.List.{List, _++_, List·Memᴰ as In}
 use Prim.Native.Nat.{ℕ, _<_, _≤_}
 use lib.ListN.{length, getD}
 use Rattle.base.specs.Limits.{work-bytes, book-rows, items-met}
-use Rattle.base.specs.Lists.{all, hasRow}
+use Rattle.base.specs.Lists.{all, filterBy, hasRow, Distinct}
 use Rattle.model.specs.Fields.{Class, ClassOk, File, file, Settings, Allowed, rowOk, readBook, readNames, accepted-file}
 use Rattle.model.specs.Tables.{classField, rowFields, admits}
 use Rattle.model.specs.Classes.{Word, InClass}
 use Rattle.model.specs.Joinings.{Step, treeOf, apart, isFullJoining, afterSteps, joinedGroups}
 use Rattle.model.specs.Quotients.{bookStates, bookTable, tableAfter}
-use Rattle.model.specs.Calls.{bookFault, bookOf, tableFault, tableStates, rewritten, namesOf}
+use Rattle.model.specs.Calls.{bookFault, bookOf, differentRows, distinctOf, tableFault, tableStates, rewritten, namesOf}
 
 -- a book is accepted: read without a fault, and its prefix tree has at most 512 states
 abbrev pub Accepted : Settings → List ℕ → Type 0
@@ -100,9 +101,34 @@ pub record Rows-make-books (settings : Settings) : Type 0 where
       (s : List ℕ) (c : Class) (rows : List Word) → readNames s .number ≡ 0 → ClassOk c → RowsOk (namesOf s) rows →
       readBook settings (s ++ (classField c ++ rowFields rows)) ≡ accepted-file (file items-met (namesOf s) c rows)
 
+-- the list is the set of these rows: each of them stands there, no other, and none twice
+pub record SetOf (rows set : List Word) : Type 0 where
+  pub there : allAmong rows set ≡ true
+  pub no-other : allAmong set rows ≡ true
+  pub once : Distinct set
+
+-- the accepting states of the prefix tree: those whose words are rows
+unfoldable pub acceptingNodes : List Word → List Word
+acceptingNodes rows = filterBy (λ (w : Word). hasRow w rows) (treeOf rows)
+
+-- how many different rows a book has
+pub record Different-rows : Type 0 where
+  -- it is the size of the set of rows: the different rows are that set, and every list that is has as many
+  pub is-set : (f : File) → SetOf (f .items) (differentRows (f .items))
+  pub set-size : (f : File) (set : List Word) → SetOf (f .items) set → length set ≡ distinctOf f
+  -- books with the same set of rows have the same number, whatever else is in them
+  pub same-number :
+      (f g : File) → allAmong (f .items) (g .items) ≡ true → allAmong (g .items) (f .items) ≡ true → distinctOf f ≡ distinctOf g
+  -- it is at most the number of rows, and in an accepted book at least 1
+  pub few : (f : File) → distinctOf f ≤ length (f .items)
+  pub some : (settings : Settings) → Allowed settings → (s : List ℕ) → Accepted settings s → 1 ≤ distinctOf (bookOf settings s)
+  -- the prefix tree has as many accepting states
+  pub accepting : (f : File) → length (acceptingNodes (f .items)) ≡ distinctOf f
+
 -- all of it, with all settings that are allowed; that rows make books, with any settings
 pub record Demands : Type 1 where
   pub third : (settings : Settings) → Allowed settings → Demand-3 settings
   pub same-bytes : Same-bytes
   pub reads-back : (settings : Settings) → Allowed settings → Reads-back settings
   pub rows-make-books : (settings : Settings) → Rows-make-books settings
+  pub different-rows : Different-rows

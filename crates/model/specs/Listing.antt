@@ -9,7 +9,7 @@ use Rattle.base.specs.Limits.{input-limit, bad-sizes, when, firstOf}
 use Rattle.model.specs.Fields.{File, Settings}
 use Rattle.model.specs.Tables.{Arc, State}
 use Rattle.model.specs.Quotients.{bookStates}
-use Rattle.model.specs.Calls.{bookOf, bookFault, joinsOf}
+use Rattle.model.specs.Calls.{bookOf, bookFault, joinsOf, distinctOf}
 
 -- the decimal digits of a number (the first argument counts down and is at least the number of digits less one)
 unfoldable pub digits : ℕ → ℕ → List ℕ
@@ -50,19 +50,27 @@ states-word = 115 ∷ (116 ∷ (97 ∷ (116 ∷ (101 ∷ (115 ∷ (32 ∷ []))))
 abbrev pub joins-word : List ℕ
 joins-word = 32 ∷ (106 ∷ (111 ∷ (105 ∷ (110 ∷ (115 ∷ (32 ∷ []))))))
 
+-- the word `distinct` between two spaces
+abbrev pub distinct-word : List ℕ
+distinct-word = 32 ∷ (100 ∷ (105 ∷ (115 ∷ (116 ∷ (105 ∷ (110 ∷ (99 ∷ (116 ∷ (32 ∷ [])))))))))
+
 -- the word `refused` and a space
 abbrev pub refused-word : List ℕ
 refused-word = 114 ∷ (101 ∷ (102 ∷ (117 ∷ (115 ∷ (101 ∷ (100 ∷ (32 ∷ [])))))))
 
--- `states N joins M`, then a line for each state
-unfoldable pub listing : List (List ℕ) → List State → ℕ → List ℕ
-listing names states joins =
-    (states-word ++ (decimal (length states) ++ (joins-word ++ (decimal joins ++ newline))))
-    ++ stateLines names 0 states
+-- `states N joins M distinct D`
+unfoldable pub firstLine : ℕ → ℕ → ℕ → List ℕ
+firstLine states joins distinct =
+    states-word
+    ++ (decimal states ++ (joins-word ++ (decimal joins ++ (distinct-word ++ (decimal distinct ++ newline)))))
 
--- the listing of a book: its names, the states of its table, its joins
+-- the first line, then a line for each state
+unfoldable pub listing : List (List ℕ) → List State → ℕ → ℕ → List ℕ
+listing names states joins distinct = firstLine (length states) joins distinct ++ stateLines names 0 states
+
+-- the listing of a book: its names, the states of its table, its joins, and how many different rows it has
 abbrev pub bookListing : File → List ℕ
-bookListing f = listing (f .names) (bookStates f) (joinsOf f)
+bookListing f = listing (f .names) (bookStates f) (joinsOf f) (distinctOf f)
 
 -- `refused N`
 unfoldable pub refusalText : ℕ → List ℕ

@@ -16,7 +16,7 @@ use Rattle.model.specs.Tables.{State, empty-state, isFirstMet, walk, adm
 use Rattle.model.specs.Classes.{Word}
 use Rattle.model.specs.Joinings.{Step, step, treeOf, joinedGroups, isFullJoining}
 use Rattle.model.specs.Quotients.{bookStates, bookTable, tableAfter}
-use Rattle.model.specs.Calls.{bookOf, bookFault, joinsOf, tableStates}
+use Rattle.model.specs.Calls.{bookOf, bookFault, joinsOf, distinctOf, tableStates}
 use Rattle.model.specs.Listing.{listingOf}
 
 -- ---- the names
@@ -75,8 +75,8 @@ remark row ends taken beginning next count =
 
 -- a day: its book's bytes, a field a line; the class and the rows that are read there; the states of the prefix tree, and for
 -- each the group that it ends in, which goes by its first state; the steps of one full joining, here the last open step each
--- time; how many states and joins there are; the table's bytes, a field a line; the accepting states; all rows of at most four
--- names that are admitted, shorter ones first, then by the first different entry; walks worth a remark
+-- time; how many states, joins and different rows there are; the table's bytes, a field a line; the accepting states; all rows of
+-- at most four names that are admitted, shorter ones first, then by the first different entry; walks worth a remark
 pub record Day : Type 0 where
   pub book-bytes : List ℕ
   pub class-is : Class
@@ -87,6 +87,7 @@ pub record Day : Type 0 where
   pub tree-states : ℕ
   pub table-states : ℕ
   pub joins : ℕ
+  pub distinct : ℕ
   pub table-is : List ℕ
   pub accepting : List ℕ
   pub admitted-rows : List Word
@@ -110,6 +111,7 @@ P1 =
       tree-states = 1;
       table-states = 1;
       joins = 0;
+      distinct = 1;
       table-is =
           names-written
           ++ (2 ∷ 0 ∷ 3 ∷ 0 ∷ 2 ∷ 1 ∷ [])
@@ -137,6 +139,7 @@ P2 =
       tree-states = 3;
       table-states = 2;
       joins = 1;
+      distinct = 1;
       table-is =
           names-written
           ++ (2 ∷ 0 ∷ 3 ∷ 0 ∷ 1 ∷ 1 ∷ [])
@@ -166,6 +169,7 @@ P3 =
       tree-states = 3;
       table-states = 3;
       joins = 0;
+      distinct = 1;
       table-is =
           names-written
           ++ (2 ∷ 0 ∷ 3 ∷ 0 ∷ 2 ∷ 1 ∷ [])
@@ -192,12 +196,14 @@ P4 =
       class-is = class-of context-kind 2 1;
       rows = (b ∷ l ∷ d ∷ []) ∷ (b ∷ s ∷ l ∷ d ∷ []) ∷ [];
       tree =
-          [] ∷ (b ∷ []) ∷ (b ∷ l ∷ []) ∷ (b ∷ l ∷ d ∷ []) ∷ (b ∷ s ∷ []) ∷ (b ∷ s ∷ l ∷ []) ∷ (b ∷ s ∷ l ∷ d ∷ []) ∷ [];
+          [] ∷ (b ∷ []) ∷ (b ∷ l ∷ []) ∷ (b ∷ l ∷ d ∷ []) ∷
+          (b ∷ s ∷ []) ∷ (b ∷ s ∷ l ∷ []) ∷ (b ∷ s ∷ l ∷ d ∷ []) ∷ [];
       groups = 0 ∷ 1 ∷ 2 ∷ 3 ∷ 4 ∷ 2 ∷ 3 ∷ [];
       joining = step 6 3 ∷ step 5 2 ∷ [];
       tree-states = 7;
       table-states = 5;
       joins = 2;
+      distinct = 2;
       table-is =
           names-written
           ++ (2 ∷ 0 ∷ 3 ∷ 0 ∷ 2 ∷ 1 ∷ [])
@@ -226,12 +232,14 @@ P5 =
       class-is = class-of context-kind 2 2;
       rows = (b ∷ l ∷ d ∷ []) ∷ (b ∷ s ∷ l ∷ d ∷ []) ∷ [];
       tree =
-          [] ∷ (b ∷ []) ∷ (b ∷ l ∷ []) ∷ (b ∷ l ∷ d ∷ []) ∷ (b ∷ s ∷ []) ∷ (b ∷ s ∷ l ∷ []) ∷ (b ∷ s ∷ l ∷ d ∷ []) ∷ [];
+          [] ∷ (b ∷ []) ∷ (b ∷ l ∷ []) ∷ (b ∷ l ∷ d ∷ []) ∷
+          (b ∷ s ∷ []) ∷ (b ∷ s ∷ l ∷ []) ∷ (b ∷ s ∷ l ∷ d ∷ []) ∷ [];
       groups = 0 ∷ 1 ∷ 2 ∷ 3 ∷ 4 ∷ 5 ∷ 3 ∷ [];
       joining = step 6 3 ∷ [];
       tree-states = 7;
       table-states = 6;
       joins = 1;
+      distinct = 2;
       table-is =
           names-written
           ++ (2 ∷ 0 ∷ 3 ∷ 0 ∷ 2 ∷ 2 ∷ [])
@@ -261,12 +269,14 @@ P6 =
       class-is = class-of context-kind 2 1;
       rows = (b ∷ s ∷ l ∷ []) ∷ (d ∷ s ∷ l ∷ []) ∷ (b ∷ s ∷ b ∷ []) ∷ [];
       tree =
-          [] ∷ (b ∷ []) ∷ (b ∷ s ∷ []) ∷ (b ∷ s ∷ l ∷ []) ∷ (d ∷ []) ∷ (d ∷ s ∷ []) ∷ (d ∷ s ∷ l ∷ []) ∷ (b ∷ s ∷ b ∷ []) ∷ [];
+          [] ∷ (b ∷ []) ∷ (b ∷ s ∷ []) ∷ (b ∷ s ∷ l ∷ []) ∷
+          (d ∷ []) ∷ (d ∷ s ∷ []) ∷ (d ∷ s ∷ l ∷ []) ∷ (b ∷ s ∷ b ∷ []) ∷ [];
       groups = 0 ∷ 1 ∷ 2 ∷ 3 ∷ 4 ∷ 2 ∷ 3 ∷ 7 ∷ [];
       joining = step 6 3 ∷ step 5 2 ∷ [];
       tree-states = 8;
       table-states = 6;
       joins = 2;
+      distinct = 3;
       table-is =
           names-written
           ++ (2 ∷ 0 ∷ 3 ∷ 0 ∷ 2 ∷ 1 ∷ [])
@@ -296,12 +306,14 @@ P7 =
       class-is = class-of context-kind 2 2;
       rows = (b ∷ s ∷ l ∷ []) ∷ (d ∷ s ∷ l ∷ []) ∷ (b ∷ s ∷ b ∷ []) ∷ [];
       tree =
-          [] ∷ (b ∷ []) ∷ (b ∷ s ∷ []) ∷ (b ∷ s ∷ l ∷ []) ∷ (d ∷ []) ∷ (d ∷ s ∷ []) ∷ (d ∷ s ∷ l ∷ []) ∷ (b ∷ s ∷ b ∷ []) ∷ [];
+          [] ∷ (b ∷ []) ∷ (b ∷ s ∷ []) ∷ (b ∷ s ∷ l ∷ []) ∷
+          (d ∷ []) ∷ (d ∷ s ∷ []) ∷ (d ∷ s ∷ l ∷ []) ∷ (b ∷ s ∷ b ∷ []) ∷ [];
       groups = 0 ∷ 1 ∷ 2 ∷ 3 ∷ 4 ∷ 5 ∷ 3 ∷ 7 ∷ [];
       joining = step 6 3 ∷ [];
       tree-states = 8;
       table-states = 7;
       joins = 1;
+      distinct = 3;
       table-is =
           names-written
           ++ (2 ∷ 0 ∷ 3 ∷ 0 ∷ 2 ∷ 2 ∷ [])
@@ -336,6 +348,7 @@ P8 =
       tree-states = 3;
       table-states = 2;
       joins = 1;
+      distinct = 2;
       table-is =
           names-written
           ++ (2 ∷ 0 ∷ 3 ∷ 1 ∷ 0 ∷ 0 ∷ [])
@@ -365,6 +378,7 @@ P9 =
       tree-states = 3;
       table-states = 1;
       joins = 2;
+      distinct = 2;
       table-is =
           names-written
           ++ (2 ∷ 0 ∷ 3 ∷ 2 ∷ 0 ∷ 0 ∷ [])
@@ -393,6 +407,7 @@ P10 =
       tree-states = 3;
       table-states = 2;
       joins = 1;
+      distinct = 2;
       table-is =
           names-written
           ++ (2 ∷ 0 ∷ 3 ∷ 2 ∷ 1 ∷ 0 ∷ [])
@@ -422,6 +437,7 @@ P11 =
       tree-states = 5;
       table-states = 4;
       joins = 1;
+      distinct = 2;
       table-is =
           names-written
           ++ (2 ∷ 0 ∷ 3 ∷ 1 ∷ 0 ∷ 0 ∷ [])
@@ -438,7 +454,7 @@ P11 =
           remark (b ∷ s ∷ b ∷ []) stops 2 (b ∷ s ∷ []) 0b0000 0 ∷ [];
     }
 
--- P12: context (2,1), ss twice: a repeat of P3
+-- P12: context (2,1), ss twice: a repeat of P3, and one different row as there
 abbrev pub P12 : Day
 P12 =
     record {
@@ -455,6 +471,7 @@ P12 =
       tree-states = 3;
       table-states = 3;
       joins = 0;
+      distinct = 1;
       table-is =
           names-written
           ++ (2 ∷ 0 ∷ 3 ∷ 0 ∷ 2 ∷ 1 ∷ [])
@@ -493,6 +510,7 @@ Q1 =
       tree-states = 6;
       table-states = 5;
       joins = 1;
+      distinct = 2;
       table-is =
           names-written
           ++ (2 ∷ 0 ∷ 3 ∷ 1 ∷ 0 ∷ 0 ∷ [])
@@ -522,12 +540,14 @@ Q2 =
       class-is = class-of seen-set-kind 0 0;
       rows = (s ∷ []) ∷ (s ∷ s ∷ []) ∷ (s ∷ b ∷ d ∷ []) ∷ (s ∷ s ∷ b ∷ l ∷ []) ∷ [];
       tree =
-          [] ∷ (s ∷ []) ∷ (s ∷ s ∷ []) ∷ (s ∷ b ∷ []) ∷ (s ∷ b ∷ d ∷ []) ∷ (s ∷ s ∷ b ∷ []) ∷ (s ∷ s ∷ b ∷ l ∷ []) ∷ [];
+          [] ∷ (s ∷ []) ∷ (s ∷ s ∷ []) ∷ (s ∷ b ∷ []) ∷
+          (s ∷ b ∷ d ∷ []) ∷ (s ∷ s ∷ b ∷ []) ∷ (s ∷ s ∷ b ∷ l ∷ []) ∷ [];
       groups = 0 ∷ 1 ∷ 1 ∷ 3 ∷ 4 ∷ 3 ∷ 6 ∷ [];
       joining = step 2 1 ∷ step 5 3 ∷ [];
       tree-states = 7;
       table-states = 5;
       joins = 2;
+      distinct = 4;
       table-is =
           names-written
           ++ (2 ∷ 0 ∷ 3 ∷ 1 ∷ 0 ∷ 0 ∷ [])
@@ -538,8 +558,8 @@ Q2 =
           ++ (4 ∷ 0 ∷ 1 ∷ 1 ∷ []);
       accepting = 1 ∷ 3 ∷ 4 ∷ [];
       admitted-rows =
-          (s ∷ []) ∷ (s ∷ s ∷ []) ∷ (s ∷ b ∷ d ∷ []) ∷ (s ∷ b ∷ l ∷ []) ∷ (s ∷ s ∷ s ∷ []) ∷ (s ∷ s ∷ b ∷ d ∷ []) ∷
-          (s ∷ s ∷ b ∷ l ∷ []) ∷ (s ∷ s ∷ s ∷ s ∷ []) ∷ [];
+          (s ∷ []) ∷ (s ∷ s ∷ []) ∷ (s ∷ b ∷ d ∷ []) ∷ (s ∷ b ∷ l ∷ []) ∷ (s ∷ s ∷ s ∷ []) ∷
+          (s ∷ s ∷ b ∷ d ∷ []) ∷ (s ∷ s ∷ b ∷ l ∷ []) ∷ (s ∷ s ∷ s ∷ s ∷ []) ∷ [];
       remarks =
           remark (s ∷ b ∷ []) on-the-way 2 (s ∷ b ∷ []) 0b0110 2 ∷
           remark (s ∷ b ∷ l ∷ []) admitted 3 (s ∷ b ∷ l ∷ []) 0b0000 0 ∷ [];
@@ -561,6 +581,7 @@ Q3 =
       tree-states = 6;
       table-states = 4;
       joins = 2;
+      distinct = 2;
       table-is =
           names-written
           ++ (2 ∷ 0 ∷ 3 ∷ 0 ∷ 2 ∷ 1 ∷ [])
@@ -569,7 +590,8 @@ Q3 =
           ++ (4 ∷ 0 ∷ 4 ∷ 1 ∷ 3 ∷ 0 ∷ 2 ∷ [])
           ++ (4 ∷ 0 ∷ 1 ∷ 1 ∷ []);
       accepting = 2 ∷ 3 ∷ [];
-      admitted-rows = (s ∷ []) ∷ (b ∷ s ∷ []) ∷ (s ∷ s ∷ []) ∷ (s ∷ s ∷ s ∷ []) ∷ (s ∷ s ∷ s ∷ s ∷ []) ∷ [];
+      admitted-rows =
+          (s ∷ []) ∷ (b ∷ s ∷ []) ∷ (s ∷ s ∷ []) ∷ (s ∷ s ∷ s ∷ []) ∷ (s ∷ s ∷ s ∷ s ∷ []) ∷ [];
       remarks =
           remark (s ∷ []) admitted 1 (s ∷ []) 0b1000 1 ∷
           remark (b ∷ s ∷ s ∷ []) stops 2 (b ∷ s ∷ []) 0b0000 0 ∷ [];
@@ -594,12 +616,24 @@ example-table =
     ++ (0x04 ∷ 0x00 ∷ 0x04 ∷ 0x00 ∷ 0x00 ∷ 0x00 ∷ 0x01 ∷ [])
     ++ (0x04 ∷ 0x00 ∷ 0x04 ∷ 0x01 ∷ 0x00 ∷ 0x00 ∷ 0x01 ∷ [])
 
--- `states 2 joins 1`, `0 - snack>1`, `1 + snack>1`, each with its newline
+-- `states 2 joins 1 distinct 1`, `0 - snack>1`, `1 + snack>1`, each with its newline
 abbrev pub example-listing : List ℕ
 example-listing =
-    (0x73 ∷ 0x74 ∷ 0x61 ∷ 0x74 ∷ 0x65 ∷ 0x73 ∷ 0x20 ∷ 0x32 ∷ 0x20 ∷ 0x6A ∷ 0x6F ∷ 0x69 ∷ 0x6E ∷ 0x73 ∷ 0x20 ∷ 0x31 ∷ 0x0A ∷ [])
+    (0x73 ∷ 0x74 ∷ 0x61 ∷ 0x74 ∷ 0x65 ∷ 0x73 ∷ 0x20 ∷ 0x32 ∷ [])
+    ++ (0x20 ∷ 0x6A ∷ 0x6F ∷ 0x69 ∷ 0x6E ∷ 0x73 ∷ 0x20 ∷ 0x31 ∷ [])
+    ++ (0x20 ∷ 0x64 ∷ 0x69 ∷ 0x73 ∷ 0x74 ∷ 0x69 ∷ 0x6E ∷ 0x63 ∷ 0x74 ∷ 0x20 ∷ 0x31 ∷ 0x0A ∷ [])
     ++ (0x30 ∷ 0x20 ∷ 0x2D ∷ 0x20 ∷ 0x73 ∷ 0x6E ∷ 0x61 ∷ 0x63 ∷ 0x6B ∷ 0x3E ∷ 0x31 ∷ 0x0A ∷ [])
     ++ (0x31 ∷ 0x20 ∷ 0x2B ∷ 0x20 ∷ 0x73 ∷ 0x6E ∷ 0x61 ∷ 0x63 ∷ 0x6B ∷ 0x3E ∷ 0x31 ∷ 0x0A ∷ [])
+
+-- the listing of P12, whose three numbers are different: `states 3 joins 0 distinct 1`, `0 - snack>1`, `1 - snack>2`, `2 +`
+abbrev pub repeat-listing : List ℕ
+repeat-listing =
+    (0x73 ∷ 0x74 ∷ 0x61 ∷ 0x74 ∷ 0x65 ∷ 0x73 ∷ 0x20 ∷ 0x33 ∷ [])
+    ++ (0x20 ∷ 0x6A ∷ 0x6F ∷ 0x69 ∷ 0x6E ∷ 0x73 ∷ 0x20 ∷ 0x30 ∷ [])
+    ++ (0x20 ∷ 0x64 ∷ 0x69 ∷ 0x73 ∷ 0x74 ∷ 0x69 ∷ 0x6E ∷ 0x63 ∷ 0x74 ∷ 0x20 ∷ 0x31 ∷ 0x0A ∷ [])
+    ++ (0x30 ∷ 0x20 ∷ 0x2D ∷ 0x20 ∷ 0x73 ∷ 0x6E ∷ 0x61 ∷ 0x63 ∷ 0x6B ∷ 0x3E ∷ 0x31 ∷ 0x0A ∷ [])
+    ++ (0x31 ∷ 0x20 ∷ 0x2D ∷ 0x20 ∷ 0x73 ∷ 0x6E ∷ 0x61 ∷ 0x63 ∷ 0x6B ∷ 0x3E ∷ 0x32 ∷ 0x0A ∷ [])
+    ++ (0x32 ∷ 0x20 ∷ 0x2B ∷ 0x0A ∷ [])
 
 -- `refused 4` and a newline
 abbrev pub empty-listing : List ℕ
@@ -638,12 +672,16 @@ remarkHolds states r =
     && eqb (nextNames states (r .row)) (r .next-names)
     && eqb (nextCount states (r .row)) (r .next-count)
 
+-- the three numbers of a class
+abbrev pub classNumbers : Class → List ℕ
+classNumbers class = class .kind ∷ class .first ∷ class .second ∷ []
+
 -- the file is all read, and its names, its class and its items are these
 unfoldable pub isFile : File → List (List ℕ) → Class → List (List ℕ) → Bool
 isFile f names class items =
     eqb (f .stage) items-met
     && sameRows (f .names) names
-    && same (f .class-is .kind ∷ f .class-is .first ∷ f .class-is .second ∷ []) (class .kind ∷ class .first ∷ class .second ∷ [])
+    && same (classNumbers (f .class-is)) (classNumbers class)
     && sameRows (f .items) items
 
 -- the day's book is accepted and read as written down, and everything else written down of the day is what the definitions
@@ -660,6 +698,7 @@ dayHolds day =
     && eqb (length (treeOf (f .items))) (day .tree-states)
     && eqb (length states) (day .table-states)
     && eqb (joinsOf f) (day .joins)
+    && eqb (distinctOf f) (day .distinct)
     && same written (day .table-is)
     && eqb (readTable written .number) 0
     && isFirstMet states
@@ -678,13 +717,15 @@ exampleHolds =
     && same (listingOf standard example-book) example-listing
     && same (listingOf standard []) empty-listing
 
--- the example holds, and the days, the further ones before the twelve; and the repeat of P3 has the table of P3
+-- the example holds, and the days, the further ones before the twelve; and the repeat of P3 has the table of P3, and the listing
+-- written down above
 unfoldable pub daysHold : Bool
 daysHold =
     exampleHolds
     && all dayHolds furtherDays
     && all dayHolds workedDays
     && same (bookTable (bookOf standard (P12 .book-bytes))) (bookTable (bookOf standard (P3 .book-bytes)))
+    && same (listingOf standard (P12 .book-bytes)) repeat-listing
 
 -- ---- what is claimed
 

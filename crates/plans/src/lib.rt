@@ -10,6 +10,7 @@ use fields::STANDARD;
 use plan_calls::reading;
 use results::Built;
 use results::PlanRows;
+use results::Rewritten;
 use results::Walked;
 use results::Written;
 use table_calls::rewriting;
@@ -29,12 +30,12 @@ pub fn build_table(book: &[u8], work: &mut [u8], out: &mut [u8]) -> Built
 }
 
 // Reads a table and writes it again, to the same bytes.
-pub fn rewrite_table(table: &[u8], work: &mut [u8], out: &mut [u8]) -> Built
+pub fn rewrite_table(table: &[u8], work: &mut [u8], out: &mut [u8]) -> Rewritten
     ensures { λ r. ⌜ RewriteSays (now (table .entry)) (now (work .entry)) (now (work .exit)) (now (out .entry)) (now (out .exit)) r ⌝ }
 {
-    let built = rewriting::rewrite(table, work, out);
+    let rewritten = rewriting::rewrite(table, work, out);
     clear(work);
-    built
+    rewritten
 }
 
 // Walks a row over a table, and clears the working area.
@@ -69,7 +70,7 @@ pub fn walk_row<'a>(
     &row[..walked]
 }
 
-// Writes the listing of a book: a line with the states and joins, then one for each state.
+// Writes the listing of a book: a line with the states, the joins and the different rows, then one for each state.
 pub fn list_book(book: &[u8], work: &mut [u8], text: &mut [u8]) -> Written
     ensures { λ r. ⌜ ListSays standard (now (book .entry)) (now (work .entry)) (now (work .exit))
         (now (text .entry)) (now (text .exit)) r ⌝ }
@@ -107,7 +108,7 @@ pub extern "C" fn plans_build(book: &[u8], work: &mut [u8], out: &mut [u8]) -> B
 
 // rewrite_table for C.
 #[no_mangle]
-pub extern "C" fn plans_rewrite(table: &[u8], work: &mut [u8], out: &mut [u8]) -> Built
+pub extern "C" fn plans_rewrite(table: &[u8], work: &mut [u8], out: &mut [u8]) -> Rewritten
     ensures { λ r. ⌜ RewriteSays (now (table .entry)) (now (work .entry)) (now (work .exit)) (now (out .entry)) (now (out .exit)) r ⌝ }
 {
     rewrite_table(table, work, out)

@@ -1,5 +1,5 @@
 -- The tree so far, one turn at a time: a child found is the state of the longer word; where there is none that word is new; the
--- arrays with one state more; a row marked; the tree of no rows; and what the whole comes to. Assumes nothing.
+-- arrays with one state more; a row that was there; a row marked; the tree of no rows; and what the whole comes to. Assumes nothing.
 use mathlib.Core.Path.{_≡_, refl, sym, ap, _∙_}
 use mathlib.Core.Logic.{⊎-elim, _↔_}
 use mathlib.Core.List.{List, [], _∷_, _++_, List·Memᴰ as In, List·Memᴰ·head as here, List·Memᴰ·not-nil}
@@ -10,7 +10,8 @@ use lib.ListN.{length, getD, set}
 use lib.Seq.{getD-set-same, getD-set-other, getD-take, length-take-le}
 use Rattle.base.specs.Limits.{name-limit, state-limit}
 use Rattle.model.specs.Classes.{Word}
-use Rattle.model.specs.Joinings.{treeOf}
+use Rattle.model.specs.Joinings.{beginnings, withStates, treeOf}
+use Rattle.model.specs.Calls.{differentRows}
 use Rattle.base.proofs.Tests.{eq-dec}
 use Rattle.base.specs.Cells.{cellAt, withCell}
 use Rattle.base.proofs.CellLaws.{cell-same, cell-other}
@@ -19,6 +20,7 @@ use Rattle.base.proofs.Places.{nth-in, place-of}
 use Rattle.indexed.proofs.Words.{snoc-word}
 use Rattle.prefix_tree.proofs.WordLaws.{snoc-not-nil, below-or-last, snoc-old, snoc-new}
 use Rattle.prefix_tree.proofs.WordLaws.{snoc-length}
+use Rattle.prefix_tree.proofs.TreeLaws.{row-there}
 
 -- ---- a child looked up
 
@@ -135,7 +137,8 @@ module _ {nodes rows : List Word} {count : ℕ} {s : Store} (g : Grown nodes row
       (below-or-last v count h)
 
   appended-cell : (v : ℕ) → 0 < v → v < count + 1
-      → cellAt (withCell (s .work) state name count) (getD (set (s .parents) count state) v 0) (getD (set (s .names) count name) v 0) ≡ v
+      → cellAt (withCell (s .work) state name count) (getD (set (s .parents) count state) v 0) (getD (set (s .names) count name) v 0)
+      ≡ v
   appended-cell v pos h =
       ⊎-elim
       (λ (l : v < count).
@@ -154,7 +157,8 @@ module _ {nodes rows : List Word} {count : ℕ} {s : Store} (g : Grown nodes row
       (λ (l : v < count).
       ⊎-elim (λ (m : w < count). g .single v w l m (sym (old-word v l) ∙ e ∙ old-word w m))
       (λ (q : w ≡ count).
-      absurd (not-yet v l (sym (old-word v l) ∙ e ∙ ap (λ (i : ℕ). getD (nodes ++ (longer nodes state name ∷ [])) i []) q ∙ new-word-at)))
+      absurd (not-yet v l
+      (sym (old-word v l) ∙ e ∙ ap (λ (i : ℕ). getD (nodes ++ (longer nodes state name ∷ [])) i []) q ∙ new-word-at)))
       (below-or-last w count k))
       (λ (p : v ≡ count).
       ⊎-elim
@@ -189,6 +193,30 @@ module _ {nodes rows : List Word} {count : ℕ} {s : Store} (g : Grown nodes row
         rows-met = λ r m. Memᴰ·append-left (longer nodes state name ∷ []) (g .rows-met r m);
         accepting = appended-accepting;
       }
+
+-- ---- a row that was there
+
+module _ {nodes rows : List Word} {count : ℕ} {s : Store} (g : Grown nodes rows count s) where
+  -- the parent of a state is a state
+  parent-met : (w : Word) (a : ℕ) → In (w ++ (a ∷ [])) nodes → In w nodes
+  parent-met w a m =
+      let r = place-of [] nodes (w ++ (a ∷ [])) m in
+      let size : length nodes ≡ count = g .size in
+      let low : r .0 < length nodes = r .1 in
+      ⊎-elim (λ e. absurd (snoc-not-nil w a (sym (r .2) ∙ ap (λ (k : ℕ). getD nodes k []) e ∙ g .root)))
+      (λ d. at-state (r .0) (omega (arith, d)) (omega arith) (r .2))
+      (eq-dec (r .0) 0)
+    where
+      at-state : (v : ℕ) → 0 < v → v < count → getD nodes v [] ≡ w ++ (a ∷ []) → In w nodes
+      at-state v pos h e =
+          let parent : getD nodes (getD (s .parents) v 0) [] ≡ w =
+          snoc-word (getD nodes (getD (s .parents) v 0) []) w (getD (s .names) v 0) a (sym (g .word v pos h) ∙ e) .0 in
+          Memᴰ·cast (sym parent)
+          (nth-in [] nodes (getD (s .parents) v 0) (omega (arith, g .size, g .parent-before v pos h)))
+
+  -- so its beginnings are there too
+  pub row-met : (row : Word) → In row rows → withStates nodes (beginnings row) ≡ nodes
+  row-met row m = row-there nodes parent-met row (g .rows-met row m)
 
 -- ---- a row marked
 
@@ -254,12 +282,14 @@ begun-grown parents names accepts work sizes =
           (λ z. absurd (let f : ⊥ = omega (arith, z) in f), λ m. absurd (List·Memᴰ·not-nil m));
     }
 
-pub grown-built : (rows : List Word) (n : ℕ) (s : Store) → Grown (treeOf rows) rows n s → 0 < n → n ≤ state-limit
+pub grown-built : (rows : List Word) (n distinct : ℕ) (s : Store) → Grown (treeOf rows) rows n s → 0 < n → n ≤ state-limit
+    → distinct ≡ length (differentRows rows)
     → Sized (s .parents) (s .names) (s .accepts) (s .work)
-    → TreeBuilt rows s n
-grown-built rows n s g some few sizes =
+    → TreeBuilt rows s n distinct
+grown-built rows n distinct s g some few different sizes =
     record {
       size = sym (g .size);
+      different = different;
       few = few;
       arrays =
           record {

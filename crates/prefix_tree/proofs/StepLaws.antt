@@ -1,8 +1,8 @@
 -- Turns of the loops. One step of the code is one state of the definition: where the child is there, where it is appended, where
--- there is no room. The walk along a row: begun, gone on, out of room, ended. The rows of a book: begun, gone on, out of room.
--- Assumes nothing.
+-- there is no room. The walk along a row: begun, gone on, out of room, ended with a new row or with one that was there. The rows of a
+-- book: begun, gone on with a new row or with one that was there, out of room, ended. Assumes nothing.
 use mathlib.Core.Path.{_≡_, refl, sym, ap, _∙_, subst}
-use mathlib.Core.Bool.{Bool}
+use mathlib.Core.Bool.{Bool, true, false}
 use mathlib.Core.List.{List, [], _∷_, _++_, Memᴰ·cast}
 use Prim.Native.Nat.{ℕ, suc, _+_, _<_, _≤_}
 use native.Mathlib.Numerals.{add-one}
@@ -11,20 +11,26 @@ use borrow.Author.Tests.{lt-ltb, le-ltb}
 use lib.ListN.{length, getD, take, set, length-set}
 use lib.Seq.{take-suc, take-all}
 use Rattle.base.specs.Limits.{name-limit, state-limit, tree-too-large, when}
+use Rattle.base.specs.Lists.{hasRow}
 use Rattle.model.specs.Classes.{Word}
 use Rattle.model.specs.Joinings.{beginnings, withStates, withRows, treeOf}
-use Rattle.model.specs.Calls.{treeFault}
+use Rattle.model.specs.Calls.{treeFault, differentRows}
 use Rattle.judging.specs.Offsets.{bodyAt, nextAt, offsetAt, fieldsAt}
 use Rattle.judging.proofs.OffsetLaws.{fields-more, offset-suc, field-within, field-at, length-fields}
 use Rattle.prefix_tree.specs.Growth.{Store, store, Sized, Grown, IsChild, NoChild, appended, longer, withState}
-use Rattle.prefix_tree.specs.Growth.{Stepped, StepTooMany, RowAdded, RowTooMany, RowBelow, RowsBelow}
-use Rattle.prefix_tree.specs.Growth.{numberOf, countOf, TreeBuilt, TreeOf}
+use Rattle.prefix_tree.specs.Growth.{Stepped, StepTooMany, Marked, wasThere, RowAdded, RowTooMany, RowOf, RowBelow, RowsBelow}
+use Rattle.prefix_tree.specs.Growth.{numberOf, countOf, differentIn, TreeBuilt, TreeOf}
+use Rattle.prefix_tree.specs.declared.Added.{Added}
 use Rattle.prefix_tree.specs.declared.Tree.{Tree}
+use Rattle.prefix_tree.specs.declared.Added.the-variants as added
+use Rattle.base.proofs.Tests.{not-told, told-false, same-tests, tells-eqb, tells-hasRow}
 use Rattle.base.proofs.Places.{nth-in}
+use Rattle.model.proofs.DifferentRows.{different-few, different-again, different-new}
 use Rattle.prefix_tree.proofs.WordLaws.{snoc-new, snoc-length}
 use Rattle.prefix_tree.proofs.TreeLaws.{withState-there, withState-new, walked, walked-none, walked-more, walked-longer}
 use Rattle.prefix_tree.proofs.TreeLaws.{treeOf-more, treeOf-longer}
-use Rattle.prefix_tree.proofs.GrowthLaws.{child-word, child-met, child-new, appended-grown, marked-grown, begun-grown, grown-built}
+use Rattle.prefix_tree.proofs.GrowthLaws.{child-word, child-met, child-new, appended-grown, row-met, marked-grown, begun-grown}
+use Rattle.prefix_tree.proofs.GrowthLaws.{grown-built}
 
 -- arrays that kept their lengths have the room that they had
 pub sized-kept : (s s′ : Store) → Sized (s .parents) (s .names) (s .accepts) (s .work)
@@ -111,7 +117,8 @@ walking-begins row count s some few sizes =
           rw (walked-none nodes row (Memᴰ·cast (sym (g .root)) (nth-in [] nodes 0 (omega (arith, g .size))))) (g, g .root);
     }
 
-module _ (row : Word) (count : ℕ) (s₀ s : Store) (n state i : ℕ) (w : Walking row count s₀ s n state i) (more : i < length row) where
+module _ {row : Word} {count : ℕ} {s₀ s : Store} {n state i : ℕ}
+    (w : Walking row count s₀ s n state i) (more : i < length row) where
   -- the word of the next state is the next beginning
   next-word : (nodes rows : List Word) → Grown nodes rows count s₀
       → longer (walked nodes row i) state (getD row i 0) ≡ take i row ++ (getD row i 0 ∷ [])
@@ -121,11 +128,11 @@ module _ (row : Word) (count : ℕ) (s₀ s : Store) (n state i : ℕ) (w : Walk
       → withState (walked nodes row i) (longer (walked nodes row i) state (getD row i 0)) ≡ walked nodes row (suc i)
   next-walked nodes rows g = ap (withState (walked nodes row i)) (next-word nodes rows g) ∙ sym (walked-more nodes row i more)
 
-  walking-next : (s′ : Store) (v m : ℕ) → Stepped n state (getD row i 0) s s′ v m
+  walking-next : {s′ : Store} {v m : ℕ} → Stepped n state (getD row i 0) s s′ v m
       → Sized (s′ .parents) (s′ .names) (s′ .accepts) (s′ .work)
       → length (s′ .work) ≡ length (s .work)
       → Walking row count s₀ s′ m v (suc i)
-  walking-next s′ v m is sizes kept =
+  walking-next {s′} {v} {m} is sizes kept =
       record {
         within = more;
         low = is .below;
@@ -143,12 +150,12 @@ module _ (row : Word) (count : ℕ) (s₀ s : Store) (n state i : ℕ) (w : Walk
             );
       }
 
-  pub walking-goes : (s′ : Store) (v m : ℕ) → Stepped n state (getD row i 0) s s′ v m
+  pub walking-goes : {s′ : Store} {v m : ℕ} → Stepped n state (getD row i 0) s s′ v m
       → Sized (s′ .parents) (s′ .names) (s′ .accepts) (s′ .work)
       → length (s′ .work) ≡ length (s .work)
       → Walking row count s₀ s′ m v (i + 1)
-  walking-goes s′ v m is sizes kept =
-      subst (λ (k : ℕ). Walking row count s₀ s′ m v k) (sym (add-one i)) (walking-next s′ v m is sizes kept)
+  walking-goes {s′} {v} {m} is sizes kept =
+      subst (λ (k : ℕ). Walking row count s₀ s′ m v k) (sym (add-one i)) (walking-next is sizes kept)
 
   pub walking-full : StepTooMany n state (getD row i 0) s → RowTooMany row count s₀
   walking-full full =
@@ -159,29 +166,87 @@ module _ (row : Word) (count : ℕ) (s₀ s : Store) (n state i : ℕ) (w : Walk
             omega (arith, over, ap length (next-walked nodes rows g), walked-longer nodes row (suc i));
       }
 
-pub walking-ends : (row : Word) (count : ℕ) (s₀ s : Store) (n state i : ℕ) → Walking row count s₀ s n state i → length row ≤ i
-    → RowAdded row count s₀ (store (s .parents) (s .names) (set (s .accepts) state 1) (s .work)) n
-unfolding walked
-walking-ends row count s₀ s n state i w done =
-    let whole : take i row ≡ row = take-all i row done in
+-- a row that was there adds no state, so one for which there is no room was not there
+pub row-full :
+    {row : Word} {count : ℕ} {s s′ : Store} → count ≤ state-limit → RowTooMany row count s → RowOf row count s s′ added.Full
+row-full {row} {count} {s} {s′} few full =
     record {
-      some = omega (arith, w .low);
-      few = w .few;
-      grown =
+      told =
           λ nodes rows g.
-          let walk = w .grown nodes rows g in
-          subst
-          (λ (u : Word).
-          Grown (withStates nodes (beginnings u)) (rows ++ (row ∷ [])) n
-          (store (s .parents) (s .names) (set (s .accepts) state 1) (s .work)))
-          whole
-          (marked-grown (walk .0) state row (w .low) (walk .1 ∙ whole) (omega (arith, w .low, w .few, w .sizes .accepts-size)));
+          told-false (tells-hasRow row rows)
+          (λ m. omega (arith, few, full .over nodes rows g, ap length (row-met g row m), g .size));
+      tree = full;
     }
+
+-- the whole row is walked, and its state marked
+module _ {row : Word} {count : ℕ} {s₀ s : Store} {n state i : ℕ} {accepts′ : List ℕ} {before : Bool}
+    (w : Walking row count s₀ s n state i) (done : length row ≤ i) (mark : Marked (s .accepts) accepts′ state before) where
+  -- the arrays hold the tree with the row's beginnings, and the state is the row
+  whole-walked : (nodes rows : List Word) → Grown nodes rows count s₀
+      → Grown (withStates nodes (beginnings row)) rows n s × (getD (withStates nodes (beginnings row)) state [] ≡ row)
+  unfolding walked
+  whole-walked nodes rows g =
+      subst (λ (u : Word). Grown (withStates nodes (beginnings u)) rows n s × (getD (withStates nodes (beginnings u)) state [] ≡ u))
+      (take-all i row done) (w .grown nodes rows g)
+
+  -- the row was there exactly if its state accepted
+  walked-told : (nodes rows : List Word) → Grown nodes rows count s₀ → hasRow row rows ≡ before
+  walked-told nodes rows g =
+      let walk = whole-walked nodes rows g in
+      let accepting = walk .0 .accepting state (w .low) in
+      same-tests (tells-hasRow row rows) (tells-eqb (getD (s .accepts) state 0) 1)
+      (λ m. accepting .1 (Memᴰ·cast (walk .1) m))
+      (λ e. Memᴰ·cast (sym (walk .1)) (accepting .0 e))
+      ∙ sym (mark .was)
+
+  walked-marked : (nodes rows : List Word) → Grown nodes rows count s₀
+      → Grown (withStates nodes (beginnings row)) (rows ++ (row ∷ [])) n (store (s .parents) (s .names) accepts′ (s .work))
+  walked-marked nodes rows g =
+      let walk = whole-walked nodes rows g in
+      subst
+      (λ (a : List ℕ).
+      Grown (withStates nodes (beginnings row)) (rows ++ (row ∷ [])) n (store (s .parents) (s .names) a (s .work)))
+      (sym (mark .set-is))
+      (marked-grown (walk .0) state row (w .low) (walk .1) (omega (arith, w .low, w .few, w .sizes .accepts-size)))
+
+  pub walking-new : before ≡ false → RowOf row count s₀ (store (s .parents) (s .names) accepts′ (s .work)) (added.New n)
+  walking-new not-before =
+      record {
+        told = λ nodes rows g. walked-told nodes rows g ∙ not-before;
+        tree = record { some = omega (arith, w .low); few = w .few; grown = walked-marked };
+      }
+
+  -- where the row was there, there are as many states as before
+  again-size : before ≡ true → (nodes rows : List Word) → Grown nodes rows count s₀ → n ≡ count
+  again-size was nodes rows g =
+      sym (whole-walked nodes rows g .0 .size)
+      ∙ ap length (row-met g row (tells-hasRow row rows .fact (walked-told nodes rows g ∙ was)))
+      ∙ g .size
+
+  pub walking-again : 0 < count → count ≤ state-limit → before ≡ true
+      → RowOf row count s₀ (store (s .parents) (s .names) accepts′ (s .work)) added.Again
+  walking-again some few was =
+      record {
+        told = λ nodes rows g. walked-told nodes rows g ∙ was;
+        tree =
+            record {
+              some = some;
+              few = few;
+              grown =
+                  λ nodes rows g.
+                  subst
+                  (λ (k : ℕ).
+                  Grown (withStates nodes (beginnings row)) (rows ++ (row ∷ [])) k
+                  (store (s .parents) (s .names) accepts′ (s .work)))
+                  (again-size was nodes rows g)
+                  (walked-marked nodes rows g);
+            };
+      }
 
 -- ---- the rows of a book
 
--- the arrays hold the tree of the first i rows
-pub record Adding (book : List ℕ) (start items : ℕ) (work₀ : List ℕ) (s : Store) (n at i : ℕ) : Type 0 where
+-- the arrays hold the tree of the first i rows, of which so many are different
+pub record Adding (book : List ℕ) (start items : ℕ) (work₀ : List ℕ) (s : Store) (n distinct at i : ℕ) : Type 0 where
   pub within : i ≤ items
   pub at-is : at ≡ offsetAt book start i
   pub some : 0 < n
@@ -189,10 +254,11 @@ pub record Adding (book : List ℕ) (start items : ℕ) (work₀ : List ℕ) (s 
   pub sizes : Sized (s .parents) (s .names) (s .accepts) (s .work)
   pub work-kept : length (s .work) ≡ length work₀
   pub grown : Grown (treeOf (fieldsAt book start i)) (fieldsAt book start i) n s
+  pub different : distinct ≡ length (differentRows (fieldsAt book start i))
 
 pub adding-begins : (book : List ℕ) (start items : ℕ) (parents names accepts work : List ℕ) → Sized parents names accepts work
-    → Adding book start items work (store (set parents 0 0) (set names 0 64) (set accepts 0 0) work) 1 start 0
-unfolding treeOf withRows fieldsAt offsetAt
+    → Adding book start items work (store (set parents 0 0) (set names 0 64) (set accepts 0 0) work) 1 0 start 0
+unfolding treeOf withRows fieldsAt offsetAt differentRows
 adding-begins book start items parents names accepts work sizes =
     record {
       within = omega arith;
@@ -204,10 +270,18 @@ adding-begins book start items parents names accepts work sizes =
           (length-set parents 0 0) (length-set names 0 64) (length-set accepts 0 0) refl;
       work-kept = refl;
       grown = begun-grown parents names accepts work sizes;
+      different = refl;
     }
 
-module _ (book : List ℕ) (start items : ℕ) (work₀ : List ℕ) (s : Store) (n at i : ℕ) (a : Adding book start items work₀ s n at i)
-    (more : i < items) where
+-- no more rows are different than were added
+pub adding-few :
+    {book : List ℕ} {start items : ℕ} {work₀ : List ℕ} {s : Store} {n distinct at i : ℕ} →
+    Adding book start items work₀ s n distinct at i → distinct ≤ i
+adding-few {book} {start} {items} {work₀} {s} {n} {distinct} {at} {i} a =
+    omega (arith, a .different, different-few (fieldsAt book start i), length-fields book start i)
+
+module _ {book : List ℕ} {start items : ℕ} {work₀ : List ℕ} {s : Store} {n distinct at i : ℕ}
+    (a : Adding book start items work₀ s n distinct at i) (more : i < items) where
   -- the next row lies within the book
   pub adding-fits : offsetAt book start items ≤ length book → nextAt book at ≤ length book
   adding-fits fits = rw (a .at-is) (omega (arith, fits, field-within book start items i more))
@@ -216,7 +290,8 @@ module _ (book : List ℕ) (start items : ℕ) (work₀ : List ℕ) (s : Store) 
   pub adding-below : RowsBelow (fieldsAt book start items) → RowBelow (bodyAt book at)
   adding-below below =
       rw (a .at-is, ← field-at book start items i more)
-      (below (getD (fieldsAt book start items) i []) (nth-in [] (fieldsAt book start items) i (omega (arith, length-fields book start items))))
+      (below (getD (fieldsAt book start items) i [])
+      (nth-in [] (fieldsAt book start items) i (omega (arith, length-fields book start items))))
 
   tree-next : treeOf (fieldsAt book start (suc i)) ≡ withStates (treeOf (fieldsAt book start i)) (beginnings (bodyAt book at))
   tree-next =
@@ -226,27 +301,53 @@ module _ (book : List ℕ) (start items : ℕ) (work₀ : List ℕ) (s : Store) 
   rows-next : fieldsAt book start (suc i) ≡ fieldsAt book start i ++ (bodyAt book at ∷ [])
   rows-next = fields-more book start i ∙ ap (λ (k : ℕ). fieldsAt book start i ++ (bodyAt book k ∷ [])) (sym (a .at-is))
 
-  adding-next : (s′ : Store) (m : ℕ) → RowAdded (bodyAt book at) n s s′ m
+  adding-next : {s′ : Store} {n′ distinct′ next : ℕ} → RowAdded (bodyAt book at) n s s′ n′
+      → distinct′ ≡ length (differentRows (fieldsAt book start i ++ (bodyAt book at ∷ [])))
       → Sized (s′ .parents) (s′ .names) (s′ .accepts) (s′ .work)
       → length (s′ .work) ≡ length (s .work)
-      → Adding book start items work₀ s′ m (nextAt book at) (suc i)
-  adding-next s′ m is sizes kept =
-      record {
+      → next ≡ nextAt book at
+      → Adding book start items work₀ s′ n′ distinct′ next (i + 1)
+  adding-next {s′} {n′} {distinct′} {next} is different sizes kept e =
+      subst (λ (k : ℕ). Adding book start items work₀ s′ n′ distinct′ next k) (sym (add-one i))
+      (record {
         within = more;
-        at-is = ap (λ (k : ℕ). nextAt book k) (a .at-is) ∙ sym (offset-suc book start i);
+        at-is = e ∙ ap (λ (k : ℕ). nextAt book k) (a .at-is) ∙ sym (offset-suc book start i);
         some = is .some;
         few = is .few;
         sizes = sizes;
         work-kept = kept ∙ a .work-kept;
         grown = rw (tree-next, rows-next) (is .grown (treeOf (fieldsAt book start i)) (fieldsAt book start i) (a .grown));
-      }
+        different = rw rows-next different;
+      })
 
-  pub adding-goes : (s′ : Store) (m : ℕ) → RowAdded (bodyAt book at) n s s′ m
+  -- the answer tells whether the row is among the first i
+  row-told : {s′ : Store} {answer : Added} → RowOf (bodyAt book at) n s s′ answer
+      → hasRow (bodyAt book at) (fieldsAt book start i) ≡ wasThere answer
+  row-told is = is .told (treeOf (fieldsAt book start i)) (fieldsAt book start i) (a .grown)
+
+  pub adding-new : {s′ : Store} {m n′ distinct′ next : ℕ} → RowOf (bodyAt book at) n s s′ (added.New m)
+      → n′ ≡ m
+      → distinct′ ≡ distinct + 1
       → Sized (s′ .parents) (s′ .names) (s′ .accepts) (s′ .work)
       → length (s′ .work) ≡ length (s .work)
-      → (next : ℕ) → next ≡ nextAt book at
-      → Adding book start items work₀ s′ m next (i + 1)
-  adding-goes s′ m is sizes kept next e = rw (e, add-one i) (adding-next s′ m is sizes kept)
+      → next ≡ nextAt book at
+      → Adding book start items work₀ s′ n′ distinct′ next (i + 1)
+  adding-new is states-are distinct-is sizes kept e =
+      let out = not-told (tells-hasRow (bodyAt book at) (fieldsAt book start i)) (row-told is) in
+      let one-more = different-new (fieldsAt book start i) (bodyAt book at) out in
+      adding-next (rw states-are (is .tree)) (omega (arith, one-more, distinct-is, a .different)) sizes kept e
+
+  pub adding-again : {s′ : Store} {n′ distinct′ next : ℕ} → RowOf (bodyAt book at) n s s′ added.Again
+      → n′ ≡ n
+      → distinct′ ≡ distinct
+      → Sized (s′ .parents) (s′ .names) (s′ .accepts) (s′ .work)
+      → length (s′ .work) ≡ length (s .work)
+      → next ≡ nextAt book at
+      → Adding book start items work₀ s′ n′ distinct′ next (i + 1)
+  adding-again is states-are distinct-is sizes kept e =
+      let met = tells-hasRow (bodyAt book at) (fieldsAt book start i) .fact (row-told is) in
+      let no-more = different-again (fieldsAt book start i) (bodyAt book at) met in
+      adding-next (rw states-are (is .tree)) (distinct-is ∙ a .different ∙ sym no-more) sizes kept e
 
   pub adding-full : RowTooMany (bodyAt book at) n s → tree-too-large ≡ treeFault (fieldsAt book start items)
   adding-full full =
@@ -255,16 +356,16 @@ module _ (book : List ℕ) (start items : ℕ) (work₀ : List ℕ) (s : Store) 
       omega (arith, over, ap length tree-next, treeOf-longer book start (suc i) items more) in
       sym (ap (λ (b : Bool). when b tree-too-large) (lt-ltb _ (length (treeOf (fieldsAt book start items))) (omega arith)))
 
-pub adding-ends : (book : List ℕ) (start items : ℕ) (work₀ : List ℕ) (s : Store) (n at i : ℕ) → Adding book start items work₀ s n at i
-    → items ≤ i
-    → TreeBuilt (fieldsAt book start items) s n
-adding-ends book start items work₀ s n at i a done =
+pub adding-ends :
+    {book : List ℕ} {start items : ℕ} {work₀ : List ℕ} {s : Store} {n distinct at i : ℕ} →
+    Adding book start items work₀ s n distinct at i → items ≤ i → TreeBuilt (fieldsAt book start items) s n distinct
+adding-ends {book} {start} {items} {work₀} {s} {n} {distinct} {at} {i} a done =
     let all : i ≡ items = omega (arith, a .within) in
-    subst (λ (k : ℕ). TreeBuilt (fieldsAt book start k) s n) all
-    (grown-built (fieldsAt book start i) n s (a .grown) (a .some) (a .few) (a .sizes))
+    subst (λ (k : ℕ). TreeBuilt (fieldsAt book start k) s n distinct) all
+    (grown-built (fieldsAt book start i) n distinct s (a .grown) (a .some) (a .few) (a .different) (a .sizes))
 
 pub tree-answer : (rows : List Word) (s s′ : Store) (answer : Tree) → numberOf answer ≡ treeFault rows
-    → (numberOf answer ≡ 0 → TreeBuilt rows s′ (countOf answer))
+    → (numberOf answer ≡ 0 → TreeBuilt rows s′ (countOf answer) (differentIn answer))
     → Sized (s .parents) (s .names) (s .accepts) (s .work)
     → Sized (s′ .parents) (s′ .names) (s′ .accepts) (s′ .work)
     → length (s′ .work) ≡ length (s .work)
@@ -280,6 +381,6 @@ tree-answer rows s s′ answer number built sizes sizes′ kept =
     }
 
 -- a tree that is built is not too large
-pub built-number : (rows : List Word) (s : Store) (n : ℕ) → TreeBuilt rows s n → 0 ≡ treeFault rows
-built-number rows s n built =
+pub built-number : {rows : List Word} {s : Store} {n distinct : ℕ} → TreeBuilt rows s n distinct → 0 ≡ treeFault rows
+built-number {rows} built =
     sym (ap (λ (b : Bool). when b tree-too-large) (le-ltb _ (length (treeOf rows)) (omega (arith, built .size, built .few))))

@@ -1,9 +1,10 @@
 -- Laws of the definition of a prefix tree, one turn at a time: a state more, the beginnings of a row one after the other, a row
--- more; and it never shrinks. Assumes nothing.
+-- more; it never shrinks; and a row that is a state changes nothing. Assumes nothing.
 use mathlib.Core.Path.{_≡_, refl, sym, ap, _∙_}
 use mathlib.Core.Logic.{⊎-elim}
 use mathlib.Core.Bool.{Bool, true, false, cond}
-use mathlib.Core.List.{List, [], _∷_, _++_, map, map-append, List·Memᴰ as In}
+use mathlib.Core.List.{List, [], _∷_, _++_, map, map-append, append-assoc, append-nil, Memᴰ·cast}
+use mathlib.Core.List.{List·Memᴰ as In, List·Memᴰ·head as here, List·Memᴰ·tail as there}
 use Prim.Native.Nat.{ℕ, zero, suc, _<_, _≤_}
 use native.Mathlib.Omega.{arith}
 use lib.ListN.{length, getD, take, drop, take-append-drop}
@@ -12,6 +13,7 @@ use Rattle.base.specs.Lists.{hasRow}
 use Rattle.model.specs.Classes.{Word}
 use Rattle.model.specs.Joinings.{beginnings, withStates, withRows, treeOf}
 use Rattle.base.proofs.Tests.{tells-hasRow, told-false, eq-dec}
+use Rattle.model.proofs.Trees.{beginnings-in}
 use Rattle.judging.specs.Offsets.{bodyAt, offsetAt, fieldsAt}
 use Rattle.judging.proofs.OffsetLaws.{fields-more}
 use Rattle.prefix_tree.specs.Growth.{withState}
@@ -52,7 +54,31 @@ pub withStates-more : (nodes xs : List Word) (w : Word) → withStates nodes (xs
 unfolding withStates withState
 withStates-more nodes xs w = withStates-append nodes xs (w ∷ [])
 
+-- states that are all there change nothing
+withStates-there : (nodes ws : List Word) → ((w : Word) → In w ws → In w nodes) → withStates nodes ws ≡ nodes
+unfolding withStates withState
+withStates-there nodes [] old = refl
+withStates-there nodes (w ∷ ws) old =
+    ap (λ (l : List Word). withStates l ws) (withState-there nodes w (old w (here refl)))
+    ∙ withStates-there nodes ws (λ u m. old u (there m))
+
 -- ---- beginnings
+
+-- where the parent of every state is a state, what begins a state is one
+beginning-there :
+    (nodes : List Word) → ((w : Word) (a : ℕ) → In (w ++ (a ∷ [])) nodes → In w nodes) →
+    (w v : Word) → In (w ++ v) nodes → In w nodes
+beginning-there nodes parent w [] m = Memᴰ·cast (sym (append-nil w)) m
+beginning-there nodes parent w (a ∷ v) m =
+    parent w a (beginning-there nodes parent (w ++ (a ∷ [])) v (Memᴰ·cast (append-assoc w (a ∷ []) v) m))
+
+-- so the beginnings of a row that is a state change nothing
+pub row-there :
+    (nodes : List Word) → ((w : Word) (a : ℕ) → In (w ++ (a ∷ [])) nodes → In w nodes) →
+    (row : Word) → In row nodes → withStates nodes (beginnings row) ≡ nodes
+row-there nodes parent row m =
+    withStates-there nodes (beginnings row)
+    (λ w b. let r = beginnings-in row w b in beginning-there nodes parent w (r .0) (Memᴰ·cast (r .1) m))
 
 -- the beginnings of a word with another after it are its own, and then others
 pub beginnings-append : (u v : Word) → (rest : List Word) × (beginnings (u ++ v) ≡ beginnings u ++ rest)
@@ -89,7 +115,8 @@ walked-more nodes row i h =
     ∙ ap (withStates nodes) (beginnings-more (take i row) (getD row i 0))
     ∙ withStates-more nodes (beginnings (take i row)) (take i row ++ (getD row i 0 ∷ []))
 
-pub walked-longer : (nodes : List Word) (row : Word) (i : ℕ) → length (walked nodes row i) ≤ length (withStates nodes (beginnings row))
+pub walked-longer : (nodes : List Word) (row : Word) (i : ℕ)
+    → length (walked nodes row i) ≤ length (withStates nodes (beginnings row))
 unfolding walked
 walked-longer nodes row i =
     let r = beginnings-append (take i row) (drop i row) in

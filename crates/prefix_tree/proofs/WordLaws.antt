@@ -18,7 +18,8 @@ snoc-not-nil w a e = append-ne-nil-of-right-ne-nil w cons≢nil e
 pub below-or-last : (v n : ℕ) → v < n + 1 → (v < n) ⊎ (v ≡ n)
 below-or-last v n h = ⊎-elim (λ e. inr e) (λ d. inl (omega (arith, d))) (eq-dec v n)
 
-pub snoc-old : (nodes : List Word) (w : Word) (v n : ℕ) → length nodes ≡ n → v < n → getD (nodes ++ (w ∷ [])) v [] ≡ getD nodes v []
+pub snoc-old : (nodes : List Word) (w : Word) (v n : ℕ) → length nodes ≡ n → v < n
+    → getD (nodes ++ (w ∷ [])) v [] ≡ getD nodes v []
 snoc-old nodes w v n e h = List·getD-append nodes (w ∷ []) [] v (omega arith)
 
 pub snoc-new : (nodes : List Word) (w : Word) (n : ℕ) → length nodes ≡ n → getD (nodes ++ (w ∷ [])) n [] ≡ w

@@ -1,17 +1,18 @@
 -- The prefix tree as it grows in lent arrays. In order: the arrays, the tree that they hold so far, and what each function
--- promises: a child looked up, a state appended, one step, one row, and all rows, with the refusal's number for the answer. Assumes
--- nothing.
+-- promises: a child looked up, a state appended, one step, a state marked, one row, with whether it was there, and all rows, with the
+-- refusal's number for the answer. Assumes nothing.
 use mathlib.Core.Path.{_≡_}
 use mathlib.Core.Logic.{_↔_}
-use mathlib.Core.Bool.{cond}
+use mathlib.Core.Bool.{Bool, true, false, cond}
 use mathlib.Core.List.{List, [], _∷_, _++_, List·Memᴰ as In}
 use Prim.Native.Nat.{ℕ, _<_, _≤_}
+use lib.Dec.{eqb}
 use lib.ListN.{length, getD, take, set}
 use Rattle.base.specs.Lists.{hasRow}
 use Rattle.base.specs.Limits.{name-limit, state-limit, work-bytes, tree-too-large}
 use Rattle.model.specs.Classes.{Word}
 use Rattle.model.specs.Joinings.{beginnings, withStates, treeOf}
-use Rattle.model.specs.Calls.{treeFault}
+use Rattle.model.specs.Calls.{treeFault, differentRows}
 use Rattle.base.specs.Cells.{cellAt, withCell}
 use Rattle.indexed.specs.Trees.{TreeArrays, AcceptsArray}
 use Rattle.prefix_tree.specs.declared.Found.{Found}
@@ -120,7 +121,19 @@ abbrev pub StepOf : ℕ → ℕ → ℕ → Store → Store → Went → Type 0
 StepOf count state name s s′ (went.To v n) = Stepped count state name s s′ v n
 StepOf count state name s s′ went.Full = StepTooMany count state name s
 
+-- ---- a state marked: it accepts, and it is told whether it did before
+
+pub record Marked (accepts accepts′ : List ℕ) (state : ℕ) (before : Bool) : Type 0 where
+  pub was : before ≡ eqb (getD accepts state 0) 1
+  pub set-is : accepts′ ≡ set accepts state 1
+
 -- ---- one row
+
+-- whether an answer says that the row was there already; what needs a state more was not
+abbrev pub wasThere : Added → Bool
+wasThere (added.New n) = false
+wasThere added.Again = true
+wasThere added.Full = false
 
 -- the arrays hold the tree with the row's beginnings, and the row accepts
 pub record RowAdded (row : Word) (count : ℕ) (s s′ : Store) (n : ℕ) : Type 0 where
@@ -135,9 +148,16 @@ pub record RowTooMany (row : Word) (count : ℕ) (s : Store) : Type 0 where
   pub over :
       (nodes rows : List Word) → Grown nodes rows count s → state-limit < length (withStates nodes (beginnings row))
 
-abbrev pub RowOf : Word → ℕ → Store → Store → Added → Type 0
-RowOf row count s s′ (added.With n) = RowAdded row count s s′ n
-RowOf row count s s′ added.Full = RowTooMany row count s
+-- the tree with the row: of n states where the row is new, of as many as before where it was there; or it would have too many
+abbrev pub TreeWith : Word → ℕ → Store → Store → Added → Type 0
+TreeWith row count s s′ (added.New n) = RowAdded row count s s′ n
+TreeWith row count s s′ added.Again = RowAdded row count s s′ count
+TreeWith row count s s′ added.Full = RowTooMany row count s
+
+-- the whole: the answer tells whether the row is among those before, and what becomes of the tree
+pub record RowOf (row : Word) (count : ℕ) (s s′ : Store) (answer : Added) : Type 0 where
+  pub told : (nodes rows : List Word) → Grown nodes rows count s → hasRow row rows ≡ wasThere answer
+  pub tree : TreeWith row count s s′ answer
 
 -- every entry is the number of a name
 pub record RowBelow (row : Word) : Type 0 where
@@ -150,26 +170,32 @@ RowsBelow rows = (row : Word) → In row rows → RowBelow row
 
 -- the refusal's number for an answer, 0 for none
 abbrev pub numberOf : Tree → ℕ
-numberOf (tree.Built n) = 0
+numberOf (tree.Built n distinct) = 0
 numberOf tree.TooLarge = tree-too-large
 
 -- how many states an answer says that the tree has, 0 with a refusal
 abbrev pub countOf : Tree → ℕ
-countOf (tree.Built n) = n
+countOf (tree.Built n distinct) = n
 countOf tree.TooLarge = 0
 
--- the first n places of the arrays are the prefix tree of the rows
-pub record TreeBuilt (rows : List Word) (s : Store) (n : ℕ) : Type 0 where
+-- how many different rows an answer says that there are, 0 with a refusal
+abbrev pub differentIn : Tree → ℕ
+differentIn (tree.Built n distinct) = distinct
+differentIn tree.TooLarge = 0
+
+-- the first n places of the arrays are the prefix tree of the rows, of which so many are different
+pub record TreeBuilt (rows : List Word) (s : Store) (n distinct : ℕ) : Type 0 where
   pub size : n ≡ length (treeOf rows)
+  pub different : distinct ≡ length (differentRows rows)
   pub few : n ≤ state-limit
   pub arrays : TreeArrays rows (take n (s .parents)) (take n (s .names))
   pub accepts : AcceptsArray rows (take n (s .accepts))
 
--- the whole: the answer's number is the refusal of the rows' tree; where that is none, the arrays hold the tree, of as many states as
--- the answer says; and every array is as long as it was
+-- the whole: the answer's number is the refusal of the rows' tree; where that is none, the arrays hold the tree, of as many states and
+-- different rows as the answer says; and every array is as long as it was
 pub record TreeOf (rows : List Word) (s s′ : Store) (answer : Tree) : Type 0 where
   pub number : numberOf answer ≡ treeFault rows
-  pub built : numberOf answer ≡ 0 → TreeBuilt rows s′ (countOf answer)
+  pub built : numberOf answer ≡ 0 → TreeBuilt rows s′ (countOf answer) (differentIn answer)
   pub parents-kept : length (s′ .parents) ≡ length (s .parents)
   pub names-kept : length (s′ .names) ≡ length (s .names)
   pub accepts-kept : length (s′ .accepts) ≡ length (s .accepts)

@@ -12,10 +12,11 @@ use judging::offsets::body;
 use judging::offsets::next_field;
 ghost use mathlib.Core.Path.{_≡_};
 ghost use Prim.Native.Nat.{_+_, _<_, _≤_};
-ghost use lib.ListN.{length, set};
+ghost use lib.ListN.{length};
 ghost use Rattle.base.specs.Limits.{name-limit, state-limit};
 ghost use Rattle.judging.specs.Offsets.{offsetAt, fieldsAt};
-ghost use Rattle.prefix_tree.specs.Growth.{Roomy, store, Sized, ChildOf, appended, StepOf, RowBelow, RowOf, RowsBelow, TreeOf};
+ghost use Rattle.prefix_tree.specs.Growth.{Roomy, store, Sized, ChildOf, appended, StepOf, Marked, RowBelow, RowOf, RowsBelow};
+ghost use Rattle.prefix_tree.specs.Growth.{TreeOf};
 
 // The state that a state goes on to by a name, if there is one.
 pub enum Found {
@@ -29,15 +30,17 @@ pub enum Went {
     Full,
 }
 
-// How many states there are with the row; or a 513th would be needed.
+// The row is new, and how many states there are with it; or it was there already, and the tree is as it was; or a 513th state would be
+// needed.
 pub enum Added {
-    With(usize),
+    New(usize),
+    Again,
     Full,
 }
 
-// How many states the tree has; or a 513th would be needed.
+// How many states the tree has, and how many different rows; or a 513th state would be needed.
 pub enum Tree {
-    Built(usize),
+    Built(usize, usize),
     TooLarge,
 }
 
@@ -117,15 +120,18 @@ fn step(
     }
 }
 
-// Marks a state as accepting, the root too: an empty row is a row.
-fn mark(accepts: &mut [u8], state: usize)
+// Marks a state as accepting, the root too: an empty row is a row. Tells whether it accepted before.
+fn mark(accepts: &mut [u8], state: usize) -> bool
     requires { ⌜ state < length (now accepts) ⌝ }
-    ensures { λ _. ⌜ now (accepts .exit) ≡ set (now (accepts .entry)) state 1 ⌝ }
+    ensures { λ r. ⌜ Marked (now (accepts .entry)) (now (accepts .exit)) state r ⌝ }
 {
+    let before = accepts[state];
     accepts[state] = 1;
+    before == 1
 }
 
-// Adds a row: walks it from the root, appends what is missing, and marks the last state.
+// Adds a row: walks it from the root, appends what is missing, and marks the last state. A row whose last state accepted already was
+// there before.
 pub fn add_row(
     row: &[u8],
     parents: &mut [u16],
@@ -150,18 +156,18 @@ pub fn add_row(
                 state = v;
                 n = m;
             }
-            Went::Full => {
-                return Added::Full;
-            }
+            Went::Full => return Added::Full,
         }
         i += 1;
     }
-    mark(accepts, state);
-    Added::With(n)
+    if mark(accepts, state) {
+        return Added::Again;
+    }
+    Added::New(n)
 }
 
 // The prefix tree of the rows of a book, `items` fields from offset `start` on: the first places of the arrays, in the order in
-// which states are met, or refusal 10.
+// which states are met, and how many rows are different; or refusal 10.
 pub fn add_rows(
     book: &[u8],
     start: usize,
@@ -182,21 +188,22 @@ pub fn add_rows(
     names[0] = NAME_LIMIT;
     accepts[0] = 0;
     let mut n = 1;
+    let mut distinct = 0;
     let mut at = start;
     let mut i = 0;
     while i < items {
         let row = body(book, at);
         let added = add_row(row, parents, names, accepts, work, n);
         match added {
-            Added::With(m) => {
+            Added::New(m) => {
                 n = m;
+                distinct += 1;
             }
-            Added::Full => {
-                return Tree::TooLarge;
-            }
+            Added::Again => {}
+            Added::Full => return Tree::TooLarge,
         }
         at = next_field(book, at);
         i += 1;
     }
-    Tree::Built(n)
+    Tree::Built(n, distinct)
 }

@@ -10,43 +10,35 @@ use Rattle.model.specs.Fields.{Settings}
 use Rattle.model.specs.Tables.{State, rowFields, outcome, longestBeginning, nextNames, nextCount}
 use Rattle.model.specs.Quotients.{bookStates, bookTable}
 use Rattle.model.specs.Calls.{Call, Says, over, unless}
-use Rattle.model.specs.Calls.{bookOf, buildFault, joinsOf, tableFault, rewritten, walkFault, tableStates}
+use Rattle.model.specs.Calls.{bookOf, buildFault, joinsOf, distinctOf, tableFault, rewritten, walkFault, tableStates}
 use Rattle.model.specs.Listing.{bookListing, listingOf}
 use Rattle.written_plans.specs.Calls.{planReading, planRows, planFault}
 use Rattle.results.specs.declared.Built.{Built}
+use Rattle.results.specs.declared.Rewritten.{Rewritten}
 use Rattle.results.specs.declared.Walked.{Walked}
 use Rattle.results.specs.declared.Written.{Written}
 use Rattle.results.specs.declared.PlanRows.{PlanRows}
 
--- ---- calls that write a table
+-- ---- a table built
 
 -- a result by its parts
-abbrev pub built : ℕ → ℕ → ℕ → ℕ → Built
-built refusal length states joins = record { refusal = refusal; length = length; states = states; joins = joins }
+abbrev pub built : ℕ → ℕ → ℕ → ℕ → ℕ → Built
+built refusal length states joins distinct =
+    record { refusal = refusal; length = length; states = states; joins = joins; distinct = distinct }
 
--- a refused call gives its number, and no table
+-- a refused build gives its number, and no table
 abbrev pub not-built : ℕ → Built
-not-built refusal = built refusal 0 0 0
+not-built refusal = built refusal 0 0 0 0
 
--- the table of a book built with these settings: its length, its states, and the joins
+-- the table of a book built with these settings: its length, its states, the joins, and how many different rows the book has
 unfoldable pub building : Settings → List ℕ → List ℕ → Call Built
 building settings book work =
     let f = bookOf settings book in
     record {
       refusal = buildFault settings book work;
       none = not-built;
-      answer = built 0 (length (bookTable f)) (length (bookStates f)) (joinsOf f);
+      answer = built 0 (length (bookTable f)) (length (bookStates f)) (joinsOf f) (distinctOf f);
       writes = bookTable f ∷ [];
-    }
-
--- a table read and written again: no joins
-unfoldable pub rewriting : List ℕ → List ℕ → Call Built
-rewriting table work =
-    record {
-      refusal = tableFault table work;
-      none = not-built;
-      answer = built 0 (length (rewritten table)) (length (tableStates table)) 0;
-      writes = rewritten table ∷ [];
     }
 
 -- what an entry that builds with these settings promises, build_table with the standard ones: the lent slices before and after, and
@@ -54,8 +46,28 @@ rewriting table work =
 abbrev pub BuildSays : Settings → List ℕ → List ℕ → List ℕ → List ℕ → List ℕ → Built → Type 0
 BuildSays settings book work work′ out out′ r = Says (building settings book work) work work′ (out ∷ []) (out′ ∷ []) r
 
+-- ---- a table rewritten
+
+-- a result by its parts
+abbrev pub rewritten-as : ℕ → ℕ → ℕ → Rewritten
+rewritten-as refusal length states = record { refusal = refusal; length = length; states = states }
+
+-- a refused rewriting gives its number, and no table
+abbrev pub not-rewritten : ℕ → Rewritten
+not-rewritten refusal = rewritten-as refusal 0 0
+
+-- a table read and written again: its length and its states
+unfoldable pub rewriting : List ℕ → List ℕ → Call Rewritten
+rewriting table work =
+    record {
+      refusal = tableFault table work;
+      none = not-rewritten;
+      answer = rewritten-as 0 (length (rewritten table)) (length (tableStates table));
+      writes = rewritten table ∷ [];
+    }
+
 -- what rewrite_table promises
-abbrev pub RewriteSays : List ℕ → List ℕ → List ℕ → List ℕ → List ℕ → Built → Type 0
+abbrev pub RewriteSays : List ℕ → List ℕ → List ℕ → List ℕ → List ℕ → Rewritten → Type 0
 RewriteSays table work work′ out out′ r = Says (rewriting table work) work work′ (out ∷ []) (out′ ∷ []) r
 
 -- ---- a row walked

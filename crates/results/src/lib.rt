@@ -1,15 +1,24 @@
 // What the public entries give back, in Rattle and C alike.
 ghost use mathlib.Core.Path.{_≡_};
-ghost use Rattle.results.specs.Says.{not-built, not-walked, not-written, plan-rows};
+ghost use Rattle.results.specs.Says.{not-built, not-rewritten, not-walked, not-written, plan-rows};
 
-// What a call that writes a table gives back: its refusal or 0, then the table's length in bytes, its states, and the joins: tree
-// states less table states.
+// What a build gives back: its refusal or 0, then the table's length in bytes, its states, the joins, tree states less table states,
+// and how many different rows the book has.
 #[repr(C)]
 pub struct Built {
     pub refusal: u8,
     pub length: u32,
     pub states: u32,
     pub joins: u32,
+    pub distinct: u32,
+}
+
+// What a rewriting gives back: its refusal or 0, then the table's length in bytes and its states.
+#[repr(C)]
+pub struct Rewritten {
+    pub refusal: u8,
+    pub length: u32,
+    pub states: u32,
 }
 
 // What a walk gives back: its refusal or 0; 1 admitted, 2 on the way, 3 stops; how many names may come next; how many names of the row
@@ -40,7 +49,7 @@ pub struct PlanRows {
     pub at: u32,
 }
 
-// A refused call that writes a table: no table, no states, no joins.
+// A refused build: no table, no states, no joins, no rows.
 pub fn not_built(refusal: u8) -> Built
     ensures { λ r. ⌜ r ≡ not-built refusal ⌝ }
 {
@@ -49,6 +58,18 @@ pub fn not_built(refusal: u8) -> Built
         length: 0,
         states: 0,
         joins: 0,
+        distinct: 0,
+    }
+}
+
+// A refused rewriting: no table, no states.
+pub fn not_rewritten(refusal: u8) -> Rewritten
+    ensures { λ r. ⌜ r ≡ not-rewritten refusal ⌝ }
+{
+    Rewritten {
+        refusal: refusal,
+        length: 0,
+        states: 0,
     }
 }
 

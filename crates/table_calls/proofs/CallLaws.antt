@@ -22,31 +22,34 @@ use Rattle.writing.specs.Writing.{Written}
 use Rattle.writing.proofs.WritingLaws.{written-from-zero}
 use Rattle.tables.specs.Accepting.{TableRead}
 use Rattle.results.specs.declared.Walked.{Walked}
-use Rattle.results.specs.Says.{built, not-built, rewriting, not-walked, walked-over, walking}
+use Rattle.results.specs.Says.{rewritten-as, not-rewritten, rewriting, not-walked, walked-over, walking}
 
 -- ---- a table rewritten
 
 pub rewrite-refused :
-    (table work out : List ℕ) (k : ℕ) → Refuses (tableFault table work) k → Gives (rewriting table work) (out ∷ []) (out ∷ []) (not-built k)
+    (table work out : List ℕ) (k : ℕ) → Refuses (tableFault table work) k →
+    Gives (rewriting table work) (out ∷ []) (out ∷ []) (not-rewritten k)
 unfolding rewriting
 rewrite-refused table work out k r = call-refused (rewriting table work) (out ∷ []) r
 
 module _ (table work out : List ℕ) (bytes : AllBytes table) (none : tableFault table work ≡ 0) where
-  pub rewrite-short : length out < length table → Gives (rewriting table work) (out ∷ []) (out ∷ []) (not-built output-too-short)
+  pub rewrite-short :
+      length out < length table → Gives (rewriting table work) (out ∷ []) (out ∷ []) (not-rewritten output-too-short)
   unfolding rewriting
   rewrite-short short =
       call-one-short (rewriting table work) table out (ap (λ (l : List ℕ). l ∷ []) (rewrites-same table work bytes none)) none short
 
   -- an accepted table copied
   pub rewrite-copied :
-      (out′ : List ℕ) (states : ℕ) → length table ≤ length out → Written out out′ 0 table → states ≡ length (tableStates table) →
-      Gives (rewriting table work) (out ∷ []) (out′ ∷ []) (built 0 (length table) states 0)
+      (out′ : List ℕ) (states : ℕ) → length table ≤ length out → Written out out′ 0 table →
+      states ≡ length (tableStates table) →
+      Gives (rewriting table work) (out ∷ []) (out′ ∷ []) (rewritten-as 0 (length table) states)
   unfolding rewriting
   rewrite-copied out′ states room written counted =
       let same = rewrites-same table work bytes none in
       call-one-wrote (rewriting table work) table out (ap (λ (l : List ℕ). l ∷ []) same) out′ _ none room
       (written-from-zero written)
-      (λ i. built 0 (length (sym same i)) (counted i) 0)
+      (λ i. rewritten-as 0 (length (sym same i)) (counted i))
 
 -- ---- a row walked
 

@@ -13,7 +13,7 @@ ghost use Rattle.io.specs.Counts.{Counts};
 // A row of one snack.
 const ROW: [u8; 4] = *b"\x03\x00\x01\x00";
 
-// The example book of docs/SCOPE.md, section 8, whose table has 28 bytes and whose listing 41.
+// The example book of docs/SCOPE.md, section 8, whose table has 28 bytes and whose listing 52.
 const EXAMPLE: [u8; 19] = *b"\x01\x00\x05snack\x02\x00\x03\x00\x01\x01\x03\x00\x02\x00\x00";
 
 // Where the first line of a text ends.
@@ -145,14 +145,14 @@ pub fn listings() {
         &mut short,
         &mut text,
     );
-    let mut just = [0u8; 41];
+    let mut just = [0u8; 52];
     list(
         b"a listing with a text just as long",
         &EXAMPLE,
         &mut work,
         &mut just,
     );
-    let mut few = [0u8; 40];
+    let mut few = [0u8; 51];
     list(
         b"a listing with a text one byte shorter",
         &EXAMPLE,

@@ -8,9 +8,9 @@
 plans_built real_plans_build(const uint8_t *book, size_t book_len,
                              uint8_t *work, size_t work_len,
                              uint8_t *out, size_t out_len);
-plans_built real_plans_rewrite(const uint8_t *table, size_t table_len,
-                               uint8_t *work, size_t work_len,
-                               uint8_t *out, size_t out_len);
+plans_rewritten real_plans_rewrite(const uint8_t *table, size_t table_len,
+                                   uint8_t *work, size_t work_len,
+                                   uint8_t *out, size_t out_len);
 plans_walked real_plans_walk(const uint8_t *table, size_t table_len,
                              const uint8_t *row, size_t row_len,
                              uint8_t *work, size_t work_len);
@@ -31,6 +31,24 @@ static int is(const char *fault)
     return asked != NULL && strcmp(asked, fault) == 0;
 }
 
+/* How many rows an accepted book has; without those that are copies of the row before, where they are to be left out. */
+static uint32_t rows_of(const uint8_t *book, size_t book_len, int without_copies)
+{
+    const uint8_t *before = NULL;
+    uint32_t rows = 0;
+
+    for (size_t at = 0; at < book_len; at += 3 + (size_t)book[at + 2]) {
+        const uint8_t *row = book + at;
+
+        if (row[0] != PLANS_ROW_MARK)
+            continue;
+        if (!without_copies || before == NULL || memcmp(before, row, 3 + (size_t)row[2]) != 0)
+            rows++;
+        before = row;
+    }
+    return rows;
+}
+
 plans_built plans_build(const uint8_t *book, size_t book_len,
                         uint8_t *work, size_t work_len,
                         uint8_t *out, size_t out_len)
@@ -47,18 +65,26 @@ plans_built plans_build(const uint8_t *book, size_t book_len,
         work[work_len - 1] = 1;
     if (is("REFUSAL") && built.refusal == PLANS_NAME_ORDER)
         built.refusal = PLANS_BAD_NAME;
+    if (is("DISTINCT") && built.refusal == PLANS_OK)
+        built.distinct = rows_of(book, book_len, 0);
+    if (is("DISTINCT_APART") && built.refusal == PLANS_OK)
+        built.distinct = rows_of(book, book_len, 1);
+    if (is("DISTINCT_REFUSED") && built.refusal == PLANS_OUTPUT_TOO_SHORT)
+        built.distinct = rows_of(book, book_len, 1);
     return built;
 }
 
-plans_built plans_rewrite(const uint8_t *table, size_t table_len,
-                          uint8_t *work, size_t work_len,
-                          uint8_t *out, size_t out_len)
+plans_rewritten plans_rewrite(const uint8_t *table, size_t table_len,
+                              uint8_t *work, size_t work_len,
+                              uint8_t *out, size_t out_len)
 {
-    plans_built built = real_plans_rewrite(table, table_len, work, work_len, out, out_len);
+    plans_rewritten rewritten = real_plans_rewrite(table, table_len, work, work_len, out, out_len);
 
-    if (is("REWRITTEN_BYTE") && built.refusal == PLANS_OK)
-        out[built.length - 1] ^= 1;
-    return built;
+    if (is("REWRITTEN_BYTE") && rewritten.refusal == PLANS_OK)
+        out[rewritten.length - 1] ^= 1;
+    if (is("REWRITTEN_STATES") && rewritten.states > 100)
+        rewritten.states--;
+    return rewritten;
 }
 
 plans_walked plans_walk(const uint8_t *table, size_t table_len,
@@ -80,6 +106,9 @@ plans_written plans_list(const uint8_t *book, size_t book_len,
 
     if (is("LISTING_BYTE") && written.refusal == PLANS_OK)
         text[written.length - 1] ^= 1;
+    /* the last digit of the first line, to another digit */
+    if (is("LISTING_DISTINCT") && written.refusal == PLANS_OK)
+        ((uint8_t *)memchr(text, '\n', written.length))[-1] ^= 1;
     if (is("TEXT_TOUCHED") && written.refusal == PLANS_OUTPUT_TOO_SHORT && text_len > 0)
         text[0] ^= 1;
     return written;

@@ -3,7 +3,7 @@
 use crate::buffers::{Buffer, Noise};
 use crate::counts::Counts;
 use crate::library::{
-    plans_build, plans_list, plans_read_rows, plans_rewrite, plans_walk, Built, Call, RowsGiven, Walked, Written,
+    plans_build, plans_list, plans_read_rows, plans_rewrite, plans_walk, Built, Call, Rewritten, RowsGiven, Walked, Written,
 };
 use reference::listing::list;
 use reference::plan_rows::{read_rows, Asked, PlanRows, Refused};
@@ -38,20 +38,16 @@ impl Display for Mismatch {
     }
 }
 
-/// Whether the library is given a book to build or a table to rewrite.
-#[derive(Clone, Copy, Debug, PartialEq, Eq)]
-pub enum Task {
-    Build,
-    Rewrite,
-}
+/// What the reference gives for an accepted call on an input, a working area and an output.
+trait Accepted: Sized {
+    /// What the library's call returns.
+    type Given: PartialEq + Debug;
 
-impl Task {
-    fn call(self) -> (&'static str, Call<Built>) {
-        match self {
-            Task::Build => ("plans_build", plans_build),
-            Task::Rewrite => ("plans_rewrite", plans_rewrite),
-        }
-    }
+    /// The bytes that are to be at the output's front.
+    fn written(&self) -> &[u8];
+
+    /// What the library is to return for what the reference gives.
+    fn given(expected: &Result<Self, Refusal>) -> Self::Given;
 }
 
 /// Where the buffers of a call stand, and their lengths.
@@ -88,22 +84,28 @@ impl Run {
         }
     }
 
-    /// A build or rewriting with buffers that are long enough. Gives back the table that both gave, none where both refused.
-    pub fn compare(&mut self, task: Task, input: &[u8]) -> Result<Option<reference::Built>, Mismatch> {
-        self.compare_lent(task, input, Lent { work: WORK_BYTES, output: INPUT_LIMIT })
+    /// A build with buffers that are long enough. Gives back what both gave, none where both refused.
+    pub fn compare_build(&mut self, book: &[u8]) -> Result<Option<reference::Built>, Mismatch> {
+        self.compare_build_lent(book, Lent { work: WORK_BYTES, output: INPUT_LIMIT })
     }
 
     /// The same with buffers of the given lengths.
-    pub fn compare_lent(&mut self, task: Task, input: &[u8], lent: Lent) -> Result<Option<reference::Built>, Mismatch> {
-        let expected = match task {
-            Task::Build => reference::build(input, lent, &mut self.random),
-            Task::Rewrite => reference::rewrite(input, lent),
-        };
-        let (name, call) = task.call();
-        let bytes = expected.as_ref().map_or(&[][..], |built| &built.bytes);
-        let wrong = self.call_lent(on_three(call), &built_of(&expected), bytes, (input, &[]), lent);
-        self.counts.count_built(&expected);
-        wrong.map_or(Ok(expected.ok()), |wrong| Err(Mismatch::new(name, wrong, &[("input", input)])))
+    pub fn compare_build_lent(&mut self, book: &[u8], lent: Lent) -> Result<Option<reference::Built>, Mismatch> {
+        let expected = reference::build(book, lent, &mut self.random);
+        self.counts.count_built(book, &expected);
+        self.compare_on_three(("plans_build", plans_build), expected, book, lent)
+    }
+
+    /// A rewriting with buffers that are long enough. Gives back what both gave, none where both refused.
+    pub fn compare_rewrite(&mut self, table: &[u8]) -> Result<Option<reference::Rewritten>, Mismatch> {
+        self.compare_rewrite_lent(table, Lent { work: WORK_BYTES, output: INPUT_LIMIT })
+    }
+
+    /// The same with buffers of the given lengths.
+    pub fn compare_rewrite_lent(&mut self, table: &[u8], lent: Lent) -> Result<Option<reference::Rewritten>, Mismatch> {
+        let expected = reference::rewrite(table, lent);
+        self.counts.count_written(&expected);
+        self.compare_on_three(("plans_rewrite", plans_rewrite), expected, table, lent)
     }
 
     /// A listing with buffers that are long enough. Gives back the text that both gave, none where both refused.
@@ -114,10 +116,24 @@ impl Run {
     /// The same with buffers of the given lengths.
     pub fn compare_list_lent(&mut self, book: &[u8], lent: Lent) -> Result<Option<Vec<u8>>, Mismatch> {
         let expected = list(book, lent, &mut self.random);
-        let text = expected.as_deref().unwrap_or(&[]);
-        let wrong = self.call_lent(on_three(plans_list), &written_of(&expected), text, (book, &[]), lent);
-        self.counts.count_listed(&expected);
-        wrong.map_or(Ok(expected.ok()), |wrong| Err(Mismatch::new("plans_list", wrong, &[("input", book)])))
+        self.counts.count_written(&expected);
+        self.compare_on_three(("plans_list", plans_list), expected, book, lent)
+    }
+
+    /// A call on an input, a working area and an output with buffers of the given lengths. Gives back what both gave, none where
+    /// both refused.
+    fn compare_on_three<A: Accepted>(
+        &mut self,
+        (name, call): (&'static str, Call<A::Given>),
+        expected: Result<A, Refusal>,
+        input: &[u8],
+        lent: Lent,
+    ) -> Result<Option<A>, Mismatch> {
+        let written = expected.as_ref().map_or(&[][..], A::written);
+        // SAFETY: the buffers do not overlap, and each has its length
+        let call = |at: &Places| unsafe { call(at.input.0, at.input.1, at.work.0, at.work.1, at.output.0, at.output.1) };
+        let wrong = self.call_lent(call, &A::given(&expected), written, (input, &[]), lent);
+        wrong.map_or(Ok(expected.ok()), |wrong| Err(Mismatch::new(name, wrong, &[("input", input)])))
     }
 
     /// Rows read from a plan with buffers that are long enough. Gives back the rows that both gave, none where both refused.
@@ -129,7 +145,7 @@ impl Run {
     pub fn compare_rows_lent(&mut self, asked: Asked, lent: Lent) -> Result<Option<PlanRows>, Mismatch> {
         let expected = read_rows(asked, lent);
         let bytes = expected.as_ref().map_or(&[][..], |read| &read.bytes);
-        // SAFETY: as for calls on three buffers
+        // SAFETY: the buffers do not overlap, and each has its length
         let call = |at: &Places| unsafe {
             let ((plan, plan_len), (names, names_len), (work, work_len), (out, out_len)) =
                 (at.input, at.second, at.work, at.output);
@@ -213,12 +229,6 @@ impl Run {
     }
 }
 
-/// A call on an input, a working area and an output.
-fn on_three<R>(call: Call<R>) -> impl Fn(&Places) -> R {
-    // SAFETY: the buffers do not overlap, and each has its length
-    move |at| unsafe { call(at.input.0, at.input.1, at.work.0, at.work.1, at.output.0, at.output.1) }
-}
-
 fn says(wrong: bool, what: &str) -> Option<String> {
     wrong.then(|| what.to_string())
 }
@@ -227,23 +237,59 @@ fn difference<T: PartialEq + Debug>(expected: &T, given: &T) -> Option<String> {
     (expected != given).then(|| format!("expected {expected:?}, given {given:?}"))
 }
 
-/// What the library is to return for what the reference gives.
-fn built_of(expected: &Result<reference::Built, Refusal>) -> Built {
-    match expected {
-        Ok(built) => {
-            Built { refusal: 0, length: built.bytes.len() as u32, states: built.states as u32, joins: built.joins as u32 }
+impl Accepted for reference::Built {
+    type Given = Built;
+
+    fn written(&self) -> &[u8] {
+        &self.bytes
+    }
+
+    fn given(expected: &Result<Self, Refusal>) -> Built {
+        match expected {
+            Ok(built) => Built {
+                refusal: 0,
+                length: built.bytes.len() as u32,
+                states: built.states as u32,
+                joins: built.joins as u32,
+                distinct: built.distinct as u32,
+            },
+            Err(refusal) => Built { refusal: refusal.number(), length: 0, states: 0, joins: 0, distinct: 0 },
         }
-        Err(refusal) => Built { refusal: refusal.number(), length: 0, states: 0, joins: 0 },
     }
 }
 
-fn written_of(expected: &Result<Vec<u8>, Refusal>) -> Written {
-    match expected {
-        Ok(text) => Written { refusal: 0, length: text.len() as u32 },
-        Err(refusal) => Written { refusal: refusal.number(), length: 0 },
+impl Accepted for reference::Rewritten {
+    type Given = Rewritten;
+
+    fn written(&self) -> &[u8] {
+        &self.bytes
+    }
+
+    fn given(expected: &Result<Self, Refusal>) -> Rewritten {
+        match expected {
+            Ok(rewritten) => Rewritten { refusal: 0, length: rewritten.bytes.len() as u32, states: rewritten.states as u32 },
+            Err(refusal) => Rewritten { refusal: refusal.number(), length: 0, states: 0 },
+        }
     }
 }
 
+/// A listing.
+impl Accepted for Vec<u8> {
+    type Given = Written;
+
+    fn written(&self) -> &[u8] {
+        self
+    }
+
+    fn given(expected: &Result<Self, Refusal>) -> Written {
+        match expected {
+            Ok(text) => Written { refusal: 0, length: text.len() as u32 },
+            Err(refusal) => Written { refusal: refusal.number(), length: 0 },
+        }
+    }
+}
+
+/// What the library is to return for what the reference gives.
 fn walked_of(expected: &Result<reference::walk::Walked, Refusal>) -> Walked {
     match expected {
         Ok(walked) => Walked {

@@ -1,6 +1,6 @@
 //! What the calls of a run have come to.
 
-use reference::fields::read_table;
+use reference::fields::{read_book, read_table};
 use reference::plan_rows::{PlanRows, Refused};
 use reference::refusal::Refusal;
 use reference::walk::Walked;
@@ -20,27 +20,31 @@ pub struct Counts {
     pub joined: BTreeMap<[u8; 3], usize>,
     /// The most states that the prefix tree of such a build had.
     pub largest_tree: usize,
+    /// How many accepted builds had a row that is a copy of another.
+    pub copies: usize,
+    /// How many of them had more copies than different rows.
+    pub most_copies: usize,
 }
 
 impl Counts {
-    pub fn count_built(&mut self, built: &Result<Built, Refusal>) {
-        self.inputs += 1;
-        match built {
-            Ok(built) => {
-                self.refused[0] += 1;
-                if built.joins > 0 {
-                    let class = read_table(&built.bytes).expect("a built table can be read").class;
-                    *self.joined.entry(class.bytes()).or_default() += 1;
-                    self.largest_tree = self.largest_tree.max(built.states + built.joins);
-                }
+    pub fn count_built(&mut self, book: &[u8], built: &Result<Built, Refusal>) {
+        self.count_written(built);
+        if let Ok(built) = built {
+            if built.joins > 0 {
+                let class = read_table(&built.bytes).expect("a built table can be read").class;
+                *self.joined.entry(class.bytes()).or_default() += 1;
+                self.largest_tree = self.largest_tree.max(built.states + built.joins);
             }
-            Err(refusal) => self.refused[usize::from(refusal.number())] += 1,
+            let copies = read_book(book).expect("an accepted book can be read").rows.len() - built.distinct;
+            self.copies += usize::from(copies > 0);
+            self.most_copies += usize::from(copies > built.distinct);
         }
     }
 
-    pub fn count_listed(&mut self, listed: &Result<Vec<u8>, Refusal>) {
+    /// A build, a rewriting or a listing.
+    pub fn count_written<T>(&mut self, written: &Result<T, Refusal>) {
         self.inputs += 1;
-        self.refused[listed.as_ref().map_or_else(|refusal| usize::from(refusal.number()), |_| 0)] += 1;
+        self.refused[written.as_ref().map_or_else(|refusal| usize::from(refusal.number()), |_| 0)] += 1;
     }
 
     pub fn count_walked(&mut self, walked: &Result<Walked, Refusal>) {
@@ -65,6 +69,8 @@ impl Counts {
         self.plans_refused.iter_mut().zip(more.plans_refused).for_each(|(sum, count)| *sum += count);
         self.outcomes.iter_mut().zip(more.outcomes).for_each(|(sum, count)| *sum += count);
         self.largest_tree = self.largest_tree.max(more.largest_tree);
+        self.copies += more.copies;
+        self.most_copies += more.most_copies;
         for (class, count) in &more.joined {
             *self.joined.entry(*class).or_default() += count;
         }

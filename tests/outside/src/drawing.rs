@@ -118,6 +118,29 @@ fn draw_row(random: &mut Random, letters: &[u8], earlier: &[Vec<u8>], length: us
     row
 }
 
+/// Adds so many copies of the rows, and shuffles all.
+pub fn add_copies(random: &mut Random, rows: &mut Vec<Vec<u8>>, count: usize) {
+    for _ in 0..count {
+        rows.push(rows[random.below(rows.len())].clone());
+    }
+    random.shuffle(rows);
+}
+
+/// Adds so many rows that are others with their last entry altered, left out or followed by one more.
+pub fn add_near_copies(random: &mut Random, names: usize, rows: &mut Vec<Vec<u8>>, count: usize) {
+    for _ in 0..count {
+        let mut row = rows[random.below(rows.len())].clone();
+        let (shorter, longer) = [(true, false), (false, true), (true, true)][random.below(3)];
+        if shorter {
+            row.pop();
+        }
+        if longer && row.len() < ROW_LIMIT {
+            row.push(random.below(names) as u8);
+        }
+        rows.push(row);
+    }
+}
+
 /// A table that need not come from any book, of at most so many states, numbered first-met.
 pub fn draw_table(random: &mut Random, states: usize) -> Table {
     let count = random.between(1, 6);

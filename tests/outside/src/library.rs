@@ -7,6 +7,15 @@ pub struct Built {
     pub length: u32,
     pub states: u32,
     pub joins: u32,
+    pub distinct: u32,
+}
+
+#[repr(C)]
+#[derive(Clone, Copy, Debug, PartialEq, Eq)]
+pub struct Rewritten {
+    pub refusal: u8,
+    pub length: u32,
+    pub states: u32,
 }
 
 #[repr(C)]
@@ -49,7 +58,7 @@ extern "C" {
         work_len: usize,
         out: *mut u8,
         out_len: usize,
-    ) -> Built;
+    ) -> Rewritten;
 
     pub fn plans_walk(
         table: *const u8,

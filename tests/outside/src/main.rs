@@ -139,6 +139,7 @@ fn coverage(options: &Options, all: &Counts) -> Vec<(&'static str, Option<String
     println!("walks admitted, on the way, stopped: {:?}", &all.outcomes[1..]);
     println!("classes with builds that joined states: {}, in each {least_joined} or more such builds", all.joined.len());
     println!("largest prefix tree of such a build: {} states", all.largest_tree);
+    println!("builds of books with copies of rows: {}; of more copies than different rows: {}", all.copies, all.most_copies);
     let says = |wrong: bool, what: &str| wrong.then(|| what.to_string());
     vec![
         ("all inputs", says(all.inputs < options.count, "fewer than promised")),
@@ -149,5 +150,7 @@ fn coverage(options: &Options, all: &Counts) -> Vec<(&'static str, Option<String
         ),
         ("every outcome is given", says(all.outcomes[1..].contains(&0), "one is not")),
         ("every class has builds that joined states", says(all.joined.len() < CLASSES, "one has none")),
+        ("books with copies of rows are built", says(all.copies == 0, "none is")),
+        ("books of more copies than different rows are built", says(all.most_copies == 0, "none is")),
     ]
 }

@@ -18,6 +18,7 @@ pub mod walk;
 use prefix_tree::PrefixTree;
 use random::Random;
 use refusal::Refusal;
+use std::collections::BTreeSet;
 use table::Table;
 
 /// The longest book, table, plan or list of names, in bytes.
@@ -26,12 +27,21 @@ pub const INPUT_LIMIT: usize = 65_535;
 /// The least length of a lent working area, in bytes.
 pub const WORK_BYTES: usize = 65_536;
 
-/// What an accepted build or rewriting gives back.
+/// What an accepted build gives back.
 #[derive(Clone, Debug, PartialEq, Eq)]
 pub struct Built {
     pub bytes: Vec<u8>,
     pub states: usize,
     pub joins: usize,
+    /// How many different rows the book has.
+    pub distinct: usize,
+}
+
+/// What an accepted rewriting gives back.
+#[derive(Clone, Debug, PartialEq, Eq)]
+pub struct Rewritten {
+    pub bytes: Vec<u8>,
+    pub states: usize,
 }
 
 /// The lengths of the buffers that a caller lends, in bytes.
@@ -49,13 +59,21 @@ pub fn build(book: &[u8], lent: Lent, random: &mut Random) -> Result<Built, Refu
     let groups = joining::full_joining(&tree, book.class, random);
     let states = table::number_groups(&groups);
     let joins = tree.states() - states.len();
-    fit(&Table { names: book.names, class: book.class, states }, joins, lent.output)
+    let distinct = different_rows(&book.rows);
+    let table = Table { names: book.names, class: book.class, states };
+    Ok(Built { bytes: fit(&table, lent.output)?, states: table.states.len(), joins, distinct })
+}
+
+/// The size of the set of rows.
+fn different_rows(rows: &[Vec<u8>]) -> usize {
+    rows.iter().collect::<BTreeSet<_>>().len()
 }
 
 /// The table read and written again.
-pub fn rewrite(table: &[u8], lent: Lent) -> Result<Built, Refusal> {
+pub fn rewrite(table: &[u8], lent: Lent) -> Result<Rewritten, Refusal> {
     check_sizes(table, lent.work)?;
-    fit(&fields::read_table(table)?, 0, lent.output)
+    let table = fields::read_table(table)?;
+    Ok(Rewritten { bytes: fit(&table, lent.output)?, states: table.states.len() })
 }
 
 /// Refusal 1: an input too long or a working area too short.
@@ -66,13 +84,13 @@ pub fn check_sizes(input: &[u8], work: usize) -> Result<(), Refusal> {
     Ok(())
 }
 
-/// Refusal 13: an output shorter than the table.
-fn fit(table: &Table, joins: usize, output: usize) -> Result<Built, Refusal> {
+/// The table's bytes; refusal 13 where the output is shorter.
+fn fit(table: &Table, output: usize) -> Result<Vec<u8>, Refusal> {
     let bytes = table.bytes();
     if bytes.len() > output {
         return Err(Refusal::OutputTooShort);
     }
-    Ok(Built { bytes, states: table.states.len(), joins })
+    Ok(bytes)
 }
 
 #[cfg(test)]

@@ -24,7 +24,7 @@ pub fn list(book: &[u8], lent: Lent, random: &mut Random) -> Result<Vec<u8>, Ref
 
 fn listing_of_built(built: &Built) -> Vec<u8> {
     let table = read_table(&built.bytes).expect("a built table can be read");
-    let mut text = format!("states {} joins {}\n", built.states, built.joins).into_bytes();
+    let mut text = format!("states {} joins {} distinct {}\n", built.states, built.joins, built.distinct).into_bytes();
     for (number, state) in table.states.iter().enumerate() {
         let sign = if state.accepting { '+' } else { '-' };
         text.extend(format!("{number} {sign}").into_bytes());

@@ -8,24 +8,27 @@ use lib.Seq.{length-take-le}
 use borrow.Author.Needs.{needs}
 use Rattle.base.specs.Limits.{state-limit, work-bytes}
 use Rattle.model.specs.Classes.{Word}
-use Rattle.model.specs.Calls.{treeFault}
+use Rattle.model.specs.Calls.{treeFault, distinctOf}
 use Rattle.fields.specs.Places.{fileOf}
-use Rattle.prefix_tree.specs.Growth.{Store, store, numberOf, countOf, TreeBuilt}
+use Rattle.prefix_tree.specs.Growth.{Store, store, numberOf, countOf, differentIn, TreeBuilt}
 use Rattle.prefix_tree.specs.declared.Tree.{Tree}
 use Rattle.inference.specs.Books.{rowsAt}
 use Rattle.inference.specs.Results.{Infers}
 use Rattle.inference.specs.declared.Inferred.{Inferred}
 use Rattle.inference.proofs.BookLaws.{rows-within, rows-entries}
-use Rattle.inference.proofs.ResultLaws.{gives-too-large}
+use Rattle.inference.proofs.ResultLaws.{gives-too-large, told-few, gives-result}
 use Rattle.inference.proofs.infer.Statement.{statement}
 use Rattle.inference.proofs.infer.Tie as tie
 
--- places on the way: the entry, and the tree as it is built
+-- places on the way: the entry, the tree as it is built, and the tree before it is joined and written
 abbrev grown : tie.After-tree → tie.After-add-rows
 grown c = c .before .before .before .before .before .before .before
 
 abbrev start : tie.After-add-rows → tie.Start
 start c = c .before .before .before .before .before .before .before .before
+
+abbrev joining : tie.After-join-and-write → tie.After-tree
+joining c = c .before .before .before .before .before .before .before
 
 -- the arrays as the tree left them, and the tree
 abbrev left : tie.After-tree → Store
@@ -36,9 +39,9 @@ left c =
 abbrev rows : tie.Start → List Word
 rows c = rowsAt (c .args .book .now) (c .args .place)
 
-built : (c : tie.After-tree) → TreeBuilt (rows (start (grown c))) (left c) (c .tree .given .0 .0)
+built : (c : tie.After-tree) → TreeBuilt (rows (start (grown c))) (left c) (c .tree .given .0 .0) (c .tree .given .0 .1 .0)
 built c =
-    subst (λ (r : Tree). numberOf r ≡ 0 → TreeBuilt (rows (start (grown c))) (left c) (countOf r)) (c .tree .given .1)
+    subst (λ (r : Tree). numberOf r ≡ 0 → TreeBuilt (rows (start (grown c))) (left c) (countOf r) (differentIn r)) (c .tree .given .1)
     (grown c .add-rows .ensures .built) refl
 
 parents-room : (c : tie.After-tree) → c .tree .given .0 .0 ≤ length (left c .parents)
@@ -115,6 +118,13 @@ join-and-write-requires c κs =
     let room : work-bytes ≤ length (left grown-to .work) = omega (arith, kept, at .pre .2) in
     ((at .pre .0, at .pre .1, room), record { few = omega arith; tree = tree .arrays; accepting = tree .accepts })
 
+result-of-requires : tie.Need-result-of-requires
+result-of-requires c κs =
+    let written = c .before .before .before .before in
+    let at = start (grown (joining written)) in
+    told-few (fileOf (at .args .book .now) (at .args .place)) (at .args .out .now) _ (written .join-and-write .result) _
+    (built (joining written) .size) (written .join-and-write .ensures)
+
 same-length : tie.Need-same-length
 same-length c = search needs
 
@@ -135,7 +145,19 @@ same-length-3 : tie.Need-same-length-3
 same-length-3 c = search needs
 
 returns-2 : tie.Need-returns-2
-returns-2 c = c .before .before .before .before .join-and-write .ensures
+unfolding distinctOf
+returns-2 c =
+    let written = c .before .before .before .before .before in
+    let at = start (grown (joining written)) in
+    let tree = built (joining written) in
+    let book = fileOf (at .args .book .now) (at .args .place) in
+    let few = tree .few in
+    let size = tree .size in
+    let out = at .args .out .now in
+    let after = written .join-and-write .last .1 .1 .1 .1 .1 .1 .0 in
+    subst (λ (r : Inferred). Infers book out after r) (sym (c .result-of .ensures))
+    (gives-result book out after (written .join-and-write .result) _ _ (omega arith) size (tree .different)
+    (written .join-and-write .ensures))
 
 pub infer-spec : {M : Type 1} → statement M
 infer-spec =
@@ -155,6 +177,7 @@ infer-spec =
     array-share-prefix-accepts
     slice-aggregate-join-and-write-3
     join-and-write-requires
+    result-of-requires
     same-length
     returns
     same-length-2

@@ -1,5 +1,5 @@
 -- `write_joined` meets its contract. Assumes nothing.
-use mathlib.Core.Path.{_≡_, sym, _∙_, subst}
+use mathlib.Core.Path.{_≡_, sym, _∙_}
 use mathlib.Core.Bool.{true, false, not}
 use mathlib.Core.List.{List}
 use Prim.Native.Nat.{ℕ, _+_, _<_, _≤_}
@@ -9,18 +9,14 @@ use lib.Dec.{leb}
 use lib.ListN.{length, getD}
 use borrow.Author.Needs.{needs}
 use Rattle.base.specs.Limits.{state-limit, input-limit, class-bytes}
-use Rattle.model.specs.Fields.{File}
 use Rattle.model.specs.Classes.{Word}
-use Rattle.fields.specs.Places.{fileOf}
 use Rattle.quotient.specs.Gathered.{Joined}
 use Rattle.quotient.specs.Ready.{Prepared}
 use Rattle.inference.specs.Books.{rowsAt, classAt, namesEnd}
-use Rattle.inference.specs.Results.{Infers}
-use Rattle.inference.specs.declared.Inferred.{Inferred}
 use Rattle.writing.specs.Writing.{frontOf}
 use Rattle.writing.proofs.Pieces.{front-length}
 use Rattle.inference.proofs.BookLaws.{names-fit}
-use Rattle.inference.proofs.TableLaws.{joined-tree, states-few, table-too-short, table-written}
+use Rattle.inference.proofs.TableLaws.{joined-tree, table-too-long, table-written}
 use Rattle.inference.proofs.write_joined.Statement.{statement}
 use Rattle.inference.proofs.write_joined.Tie as tie
 
@@ -34,12 +30,9 @@ known c = c .before .before .before .before .before .before .before .before .bef
 abbrev made : tie.After-fits2 → tie.After-prepare
 made c = c .before .before .before .before .before .before .before .before
 
--- the rows and the file of the book
+-- the rows of the book
 abbrev rows : tie.Start → List Word
 rows c = rowsAt (c .args .book .now) (c .args .place)
-
-abbrev table : tie.Start → File
-table c = fileOf (c .args .book .now) (c .args .place)
 
 joined : (c : tie.Start) → Joined (rows c) (c .args .parents .now) (c .args .names .now) (c .args .groups .now)
 joined c =
@@ -111,21 +104,17 @@ add-fits c = omega (arith, names-low (start (c .before .before .before .before .
 fits-requires : tie.Need-fits-requires
 fits-requires c κs = tt
 
-refused-requires : tie.Need-refused-requires
-refused-requires c κs = tt
-
 same-length : tie.Need-same-length
-same-length c = made (c .before .before) .prepare .kept .1 .1 .1 .1 .0
+same-length c = made (c .before) .prepare .kept .1 .1 .1 .1 .0
 
 returns : tie.Need-returns
 returns c =
-    let ready = made (c .before .before) in
+    let ready = made (c .before) in
     let at = start ready in
     let args = at .args in
-    subst (λ (r : Inferred). Infers (table at) (args .out .now) (args .out .now) r) (sym (c .refused .ensures))
-    (table-too-short (args .book .now) (args .place) (args .parents .now) (args .names .now) (args .accepts .now) (args .groups .now)
+    table-too-long (args .book .now) (args .place) (args .parents .now) (args .names .now) (args .accepts .now) (args .groups .now)
     (at .pre .0 .0) (bytes (known ready)) (at .pre .1 .0) (at .pre .1 .1) (args .out .now) (ready .prepare .result .bytes)
-    (prepared ready .sized) (too-long (c .before .before) (c .before .if1 .taken)))
+    (prepared ready .sized) (too-long (c .before) (c .if1 .taken))
 
 put-front-requires : tie.Need-put-front-requires
 put-front-requires c κs =
@@ -163,17 +152,6 @@ write-states-requires c κs =
     let total = ready .sized in
     (rows at, at .args .groups .now, ready .ready, omega (arith, enough, kept, next, total, front-size at))
 
-sub-joins : tie.Need-sub-joins
-sub-joins c =
-    let tested = c .before .before .before .before .before .before .before .before .before .before .before .before .before .before in
-    let at = start (made tested) in
-    omega (
-      arith,
-      prepared (made tested) .counted,
-      states-few (rows at) (at .args .parents .now) (at .args .names .now) (classAt (at .args .place)) (at .args .groups .now)
-          (at .pre .1 .1),
-    )
-
 same-length-2 : tie.Need-same-length-2
 same-length-2 c =
     let tested = c .before .before .before .before .before .before .before .before .before .before .before .before .before .before in
@@ -209,7 +187,6 @@ write-joined-spec =
     add-named
     add-fits
     fits-requires
-    refused-requires
     same-length
     returns
     put-front-requires
@@ -218,7 +195,6 @@ write-joined-spec =
     slice-aggregate-write-states-3
     slice-aggregate-write-states-4
     write-states-requires
-    sub-joins
     same-length-2
     same-length-3
     returns-2)

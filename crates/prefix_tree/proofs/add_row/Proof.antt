@@ -1,13 +1,13 @@
 -- `add_row` meets its contract. The loop's invariant: the first i entries are walked; what is left of the row falls. Assumes nothing.
 use mathlib.Core.Path.{_≡_, sym, _∙_, subst}
-use mathlib.Core.List.{List}
 use Prim.Native.Nat.{ℕ, _-_}
 use native.Mathlib.Omega.{arith}
 use borrow.Author.Needs.{needs}
 use lib.ListN.{length, getD}
-use Rattle.prefix_tree.specs.Growth.{Store, store, Sized, StepOf, RowAdded}
+use Rattle.prefix_tree.specs.Growth.{Store, store, Sized, StepOf}
 use Rattle.prefix_tree.specs.declared.Went.{Went}
-use Rattle.prefix_tree.proofs.StepLaws.{Walking, sized-kept, walking-begins, walking-goes, walking-full, walking-ends}
+use Rattle.prefix_tree.proofs.StepLaws.{Walking, sized-kept, walking-begins, walking-goes, walking-full, row-full}
+use Rattle.prefix_tree.proofs.StepLaws.{walking-new, walking-again}
 use Rattle.prefix_tree.proofs.add_row.Statement.{statement}
 use Rattle.prefix_tree.proofs.add_row.Tie as tie
 
@@ -46,6 +46,18 @@ held c = store (c .loop .parents) (c .loop .names) (c .loop .accepts) (c .loop .
 
 abbrev left : tie.After-step Inv-loop μ-loop → Store
 left c = store (c .step .last .0) (c .step .last .1 .0) (c .step .last .1 .1 .0) (c .step .last .1 .1 .1 .0)
+
+-- at the loop's end the arrays are as long as they came, and marking a state keeps that
+parents-kept : (c : tie.At-loop Inv-loop μ-loop) → length (held c .parents) ≡ length (lent c .parents)
+parents-kept c = c .loop .inv .sizes .parents-size ∙ sym (start c .pre .1 .parents-size)
+
+names-kept : (c : tie.At-loop Inv-loop μ-loop) → length (held c .names) ≡ length (lent c .names)
+names-kept c = c .loop .inv .sizes .names-size ∙ sym (start c .pre .1 .names-size)
+
+accepts-kept : (c : tie.After-slice-known9 Inv-loop μ-loop)
+    → length (c .before .before .mark .last .0) ≡ length (lent (ended c) .accepts)
+accepts-kept c =
+    c .before .before .mark .kept .0 ∙ ended c .loop .inv .sizes .accepts-size ∙ sym (start (ended c) .pre .1 .accepts-size)
 
 left-sized : (c : tie.After-step Inv-loop μ-loop) → Sized (left c .parents) (left c .names) (left c .accepts) (left c .work)
 left-sized c =
@@ -106,10 +118,7 @@ returns : tie.Need-returns Inv-loop μ-loop
 returns c =
     let after = stopped c in
     let at = turn after in
-    walking-full (start at .args .row .now) (start at .args .count) (lent at) (held at) (at .loop .n) (at .loop .state) (at .loop .i)
-    (at .loop .inv)
-    (omega arith)
-    (stepped after _ (c .enum-told .given .1))
+    row-full (start at .pre .0 .1) (walking-full (at .loop .inv) (omega arith) (stepped after _ (c .enum-told .given .1)))
 
 add-i : tie.Need-add-i Inv-loop μ-loop
 add-i c = omega arith
@@ -122,15 +131,7 @@ loop-again c =
     let after = moved c in
     let at = turn after in
     let next = c .before .went .given in
-    walking-goes (start at .args .row .now) (start at .args .count) (lent at) (held at) (at .loop .n) (at .loop .state) (at .loop .i)
-    (at .loop .inv)
-    (omega arith)
-    (left after)
-    (next .0 .0)
-    (next .0 .1 .0)
-    (stepped after _ (next .1))
-    (left-sized after)
-    (after .step .kept .1 .1 .1 .0)
+    walking-goes (at .loop .inv) (omega arith) (stepped after _ (next .1)) (left-sized after) (after .step .kept .1 .1 .1 .0)
 
 mark-requires : tie.Need-mark-requires Inv-loop μ-loop
 mark-requires c κs =
@@ -138,26 +139,38 @@ mark-requires c κs =
     omega (arith, inv .low, inv .few, inv .sizes .accepts-size)
 
 same-length-5 : tie.Need-same-length-5 Inv-loop μ-loop
-same-length-5 c = ended c .loop .inv .sizes .parents-size ∙ sym (start (ended c) .pre .1 .parents-size)
+same-length-5 c = parents-kept (ended (c .before))
 
 same-length-6 : tie.Need-same-length-6 Inv-loop μ-loop
-same-length-6 c = ended c .loop .inv .sizes .names-size ∙ sym (start (ended c) .pre .1 .names-size)
+same-length-6 c = names-kept (ended (c .before))
 
 same-length-7 : tie.Need-same-length-7 Inv-loop μ-loop
-same-length-7 c =
-    c .before .before .mark .kept .0 ∙ ended c .loop .inv .sizes .accepts-size ∙ sym (start (ended c) .pre .1 .accepts-size)
+same-length-7 c = accepts-kept (c .before)
 
 same-length-8 : tie.Need-same-length-8 Inv-loop μ-loop
-same-length-8 c = ended c .loop .inv .work-kept
+same-length-8 c = ended (c .before) .loop .inv .work-kept
 
 returns-2 : tie.Need-returns-2 Inv-loop μ-loop
 returns-2 c =
-    let at = ended c in
-    let row = start at .args .row .now in
-    let count = start at .args .count in
-    subst (λ (a : List ℕ). RowAdded row count (lent at) (store (held at .parents) (held at .names) a (held at .work)) (at .loop .n))
-    (sym (c .before .before .mark .ensures))
-    (walking-ends row count (lent at) (held at) (at .loop .n) (at .loop .state) (at .loop .i) (at .loop .inv) (omega arith))
+    let at = ended (c .before) in
+    walking-again (at .loop .inv) (omega arith) (c .before .before .before .mark .ensures) (start at .pre .0 .0) (start at .pre .0 .1)
+    (c .if1 .taken)
+
+same-length-9 : tie.Need-same-length-9 Inv-loop μ-loop
+same-length-9 c = parents-kept (ended (c .before))
+
+same-length-10 : tie.Need-same-length-10 Inv-loop μ-loop
+same-length-10 c = names-kept (ended (c .before))
+
+same-length-11 : tie.Need-same-length-11 Inv-loop μ-loop
+same-length-11 c = accepts-kept (c .before)
+
+same-length-12 : tie.Need-same-length-12 Inv-loop μ-loop
+same-length-12 c = ended (c .before) .loop .inv .work-kept
+
+returns-3 : tie.Need-returns-3 Inv-loop μ-loop
+returns-3 c =
+    walking-new (ended (c .before) .loop .inv) (omega arith) (c .before .before .before .mark .ensures) (c .if1 .left)
 
 pub add-row-spec : {M : Type 1} → statement M
 add-row-spec =
@@ -183,4 +196,9 @@ add-row-spec =
     same-length-6
     same-length-7
     same-length-8
-    returns-2)
+    returns-2
+    same-length-9
+    same-length-10
+    same-length-11
+    same-length-12
+    returns-3)

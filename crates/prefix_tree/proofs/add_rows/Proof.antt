@@ -1,6 +1,7 @@
--- `add_rows` meets its contract. The loop's invariant: the arrays hold the tree of the first i rows; what is left of the rows falls.
--- Assumes nothing.
+-- `add_rows` meets its contract. The loop's invariant: the arrays hold the tree of the first i rows, and so many of them are
+-- different; what is left of the rows falls. Assumes nothing.
 use mathlib.Core.Path.{_≡_, sym, _∙_, subst}
+use mathlib.Core.Logic.{⊎-elim}
 use mathlib.Core.List.{List}
 use Prim.Native.Nat.{ℕ, _-_, _<_, _≤_}
 use native.Mathlib.Omega.{arith}
@@ -9,31 +10,38 @@ use lib.ListN.{length}
 use Rattle.judging.specs.Offsets.{bodyAt, nextAt, fieldsAt}
 use Rattle.prefix_tree.specs.Growth.{Store, store, Sized, RowBelow, RowOf}
 use Rattle.prefix_tree.specs.declared.Added.{Added}
-use Rattle.prefix_tree.proofs.StepLaws.{Adding, sized-kept, adding-begins, adding-fits, adding-below, adding-goes, adding-full}
-use Rattle.prefix_tree.proofs.StepLaws.{adding-ends, built-number, tree-answer}
+use Rattle.prefix_tree.proofs.StepLaws.{Adding, sized-kept, adding-begins, adding-fits, adding-below, adding-few}
+use Rattle.prefix_tree.proofs.StepLaws.{adding-new, adding-again, adding-full, adding-ends, built-number, tree-answer}
 use Rattle.prefix_tree.proofs.add_rows.Statement.{statement}
 use Rattle.prefix_tree.proofs.add_rows.Tie as tie
 
 abbrev Inv-loop : tie.InvT-loop
-Inv-loop book start items parents₀ names₀ accepts₀ work₀ n₀ at₀ i₀ parents names accepts work n at i =
-    Adding book start items work₀ (store parents names accepts work) n at i
+Inv-loop book start items parents₀ names₀ accepts₀ work₀ n₀ distinct₀ at₀ i₀ parents names accepts work n distinct at i =
+    Adding book start items work₀ (store parents names accepts work) n distinct at i
 
 abbrev μ-loop : tie.MeasureT-loop
-μ-loop book start items parents₀ names₀ accepts₀ work₀ n₀ at₀ i₀ parents names accepts work n at i =
+μ-loop book start items parents₀ names₀ accepts₀ work₀ n₀ distinct₀ at₀ i₀ parents names accepts work n distinct at i =
     items - i
 
--- places on the way: the entry, the loop's turn, and the two ends of the call that adds a row
+-- places on the way: the entry, the loop's turn, and the call that adds a row; that call from where there is no room, where a row is
+-- counted, and where the answers meet
 abbrev start : tie.At-loop Inv-loop μ-loop → tie.Start Inv-loop μ-loop
 start c = c .before .before .before .before .before .before
 
 abbrev turn : tie.After-add-row Inv-loop μ-loop → tie.At-loop Inv-loop μ-loop
 turn c = c .before .before .before .before .before .before .before
 
-abbrev stopped : tie.After-enum-told Inv-loop μ-loop → tie.After-add-row Inv-loop μ-loop
-stopped c = c .before .before .before .before .before .before .before .before .before .before
+abbrev called : tie.After-slice-known8 Inv-loop μ-loop → tie.After-add-row Inv-loop μ-loop
+called c = c .before .before .before .before .before .before .before .before
 
-abbrev grown : tie.After-known-told Inv-loop μ-loop → tie.After-add-row Inv-loop μ-loop
-grown c = c .before .before .before .before .before .before .before .before .before .before .before
+abbrev stopped : tie.After-enum-told2 Inv-loop μ-loop → tie.After-add-row Inv-loop μ-loop
+stopped c = called (c .before .before)
+
+abbrev counting : tie.After-known-told Inv-loop μ-loop → tie.After-add-row Inv-loop μ-loop
+counting c = called (c .before .before .before)
+
+abbrev grown : tie.At-match-came Inv-loop μ-loop → tie.After-add-row Inv-loop μ-loop
+grown c = called (c .before)
 
 -- the arrays as they came, at a turn, and as the row left them
 abbrev lent : tie.At-loop Inv-loop μ-loop → Store
@@ -76,12 +84,7 @@ rowed c r e =
 -- the next row lies within the book
 fits : (c : tie.At-loop Inv-loop μ-loop) → c .loop .i < start c .args .items
     → nextAt (start c .args .book .now) (c .loop .at) ≤ length (start c .args .book .now)
-fits c more =
-    let args = start c .args in
-    adding-fits (args .book .now) (args .start) (args .items) (args .work .now) (held c) (c .loop .n) (c .loop .at) (c .loop .i)
-    (c .loop .inv)
-    more
-    (start c .pre .0)
+fits c more = adding-fits (c .loop .inv) more (start c .pre .0)
 
 slice-write-parents : tie.Need-slice-write-parents Inv-loop μ-loop
 slice-write-parents c = omega (arith, c .before .before .before .before .before .pre .1 .1 .parents-size)
@@ -106,12 +109,7 @@ body-requires c κs = fits (c .before) (omega arith)
 add-row-requires : tie.Need-add-row-requires Inv-loop μ-loop
 add-row-requires c κs =
     let at = c .before .before .before .before .before .before in
-    let args = start at .args in
-    let below : RowBelow (row at) =
-    adding-below (args .book .now) (args .start) (args .items) (args .work .now) (held at) (at .loop .n) (at .loop .at) (at .loop .i)
-    (at .loop .inv)
-    (omega arith)
-    (start at .pre .1 .0) in (
+    let below : RowBelow (row at) = adding-below (at .loop .inv) (omega arith) (start at .pre .1 .0) in (
       (
         at .loop .inv .some,
         at .loop .inv .few,
@@ -123,8 +121,16 @@ add-row-requires c κs =
 enum-known-added : tie.Need-enum-known-added Inv-loop μ-loop
 enum-known-added c = search needs
 
+-- no more rows are different than were added
+add-distinct : tie.Need-add-distinct Inv-loop μ-loop
+add-distinct c =
+    omega (arith, adding-few (turn (counting c) .loop .inv))
+
 enum-told : tie.Need-enum-told Inv-loop μ-loop
 enum-told c = search needs
+
+enum-told-2 : tie.Need-enum-told-2 Inv-loop μ-loop
+enum-told-2 c = search needs
 
 same-length : tie.Need-same-length Inv-loop μ-loop
 same-length c = left-sized (stopped c) .parents-size ∙ sym (start (turn (stopped c)) .pre .1 .1 .parents-size)
@@ -142,12 +148,8 @@ returns : tie.Need-returns Inv-loop μ-loop
 returns c =
     let after = stopped c in
     let at = turn after in
-    let args = start at .args in
     tree-answer (rows at) (lent at) (left after) _
-    (adding-full (args .book .now) (args .start) (args .items) (args .work .now) (held at) (at .loop .n) (at .loop .at) (at .loop .i)
-    (at .loop .inv)
-    (omega arith)
-    (rowed after _ (c .enum-told .given .1)))
+    (adding-full (at .loop .inv) (omega arith) (rowed after _ (c .enum-told2 .given .1) .tree))
     (λ none. absurd (omega (arith, none)))
     (start at .pre .1 .1)
     (left-sized after)
@@ -165,19 +167,15 @@ loop-less c = omega arith
 loop-again : tie.Need-loop-again Inv-loop μ-loop
 loop-again c =
     let after = grown (c .before) in
-    let at = turn after in
-    let args = start at .args in
-    let next = c .before .before .added .given in
-    adding-goes (args .book .now) (args .start) (args .items) (args .work .now) (held at) (at .loop .n) (at .loop .at) (at .loop .i)
-    (at .loop .inv)
-    (omega arith)
-    (left after)
-    (next .0 .0)
-    (rowed after _ (next .1))
-    (left-sized after)
-    (after .add-row .kept .1 .1 .1 .1 .0)
-    (c .next-field .result)
-    (c .next-field .ensures)
+    let inv = turn after .loop .inv in
+    let kept = after .add-row .kept .1 .1 .1 .1 .0 in
+    ⊎-elim
+    (λ new.
+    adding-new inv (omega arith) (rowed after _ (new .1 .given .1)) (new .3) (new .4) (left-sized after) kept (c .next-field .ensures))
+    (λ again.
+    adding-again inv (omega arith) (rowed after _ (again .1 .given .1)) (again .2) (again .3) (left-sized after) kept
+    (c .next-field .ensures))
+    (c .before .match .came)
 
 same-length-5 : tie.Need-same-length-5 Inv-loop μ-loop
 same-length-5 c = c .before .loop .inv .sizes .parents-size ∙ sym (start (c .before) .pre .1 .1 .parents-size)
@@ -194,12 +192,8 @@ same-length-8 c = c .before .loop .inv .work-kept
 returns-2 : tie.Need-returns-2 Inv-loop μ-loop
 returns-2 c =
     let at = c .before in
-    let args = start at .args in
-    let built =
-    adding-ends (args .book .now) (args .start) (args .items) (args .work .now) (held at) (at .loop .n) (at .loop .at) (at .loop .i)
-    (at .loop .inv)
-    (omega arith) in
-    tree-answer (rows at) (lent at) (held at) _ (built-number (rows at) (held at) (at .loop .n) built) (λ none. built)
+    let built = adding-ends (at .loop .inv) (omega arith) in
+    tree-answer (rows at) (lent at) (held at) _ (built-number built) (λ none. built)
     (start at .pre .1 .1)
     (at .loop .inv .sizes)
     (at .loop .inv .work-kept)
@@ -217,7 +211,9 @@ add-rows-spec =
     body-requires
     add-row-requires
     enum-known-added
+    add-distinct
     enum-told
+    enum-told-2
     same-length
     same-length-2
     same-length-3

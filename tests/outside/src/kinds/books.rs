@@ -1,9 +1,12 @@
 //! Books built.
 
-use crate::comparing::{Mismatch, Run, Task};
+use crate::comparing::{Mismatch, Run};
 use crate::damage::{damaged_everywhere, moved_fields};
-use crate::drawing::{all_classes, draw_book, draw_class, draw_names, draw_small_book, SMALL};
-use reference::fields::ROW_LIMIT;
+use crate::drawing::{
+    add_copies, add_near_copies, all_classes, draw_book, draw_class, draw_names, draw_small_book, Draft, SMALL,
+};
+use reference::fields::{NAMES_LIMIT, ROWS_LIMIT, ROW_LIMIT};
+use reference::random::Random;
 use reference::{Lent, WORK_BYTES};
 
 /// The same names and rows with every class.
@@ -12,7 +15,7 @@ pub fn every_class(run: &mut Run) -> Result<(), Mismatch> {
     let mut book = draw_book(&mut run.random, None, entries);
     for class in all_classes() {
         book.class = class;
-        run.compare(Task::Build, &book.bytes())?;
+        run.compare_build(&book.bytes())?;
     }
     Ok(())
 }
@@ -23,16 +26,37 @@ pub fn large(run: &mut Run) -> Result<(), Mismatch> {
     let entries = if run.random.once_in(20) { run.random.between(400, 520) } else { run.random.between(60, 220) };
     let class = draw_class(&mut run.random);
     let book = draw_book(&mut run.random, class, entries).bytes();
-    let Some(built) = run.compare(Task::Build, &book)? else {
+    let Some(built) = run.compare_build(&book)? else {
         return Ok(());
     };
     let boundaries = [built.bytes.len() - 1, built.bytes.len(), built.bytes.len() + 1];
     let output = boundaries[run.random.below(boundaries.len())];
-    run.compare_lent(Task::Build, &book, Lent { work: WORK_BYTES, output })?;
+    run.compare_build_lent(&book, Lent { work: WORK_BYTES, output })?;
     for output in boundaries {
-        run.compare_lent(Task::Rewrite, &built.bytes, Lent { work: WORK_BYTES, output })?;
+        run.compare_rewrite_lent(&built.bytes, Lent { work: WORK_BYTES, output })?;
     }
     Ok(())
+}
+
+/// A book with many copies of rows, and rows that differ from others in their last entry only; built, and listed.
+pub fn copies(run: &mut Run) -> Result<(), Mismatch> {
+    let mut book = if run.random.once_in(20) { draw_many_rows(&mut run.random) } else { draw_small_book(&mut run.random) };
+    let near = run.random.between(0, 4);
+    add_near_copies(&mut run.random, book.names.len(), &mut book.rows, near);
+    let copies = run.random.between(0, ROWS_LIMIT.saturating_sub(book.rows.len()));
+    add_copies(&mut run.random, &mut book.rows, copies);
+    let bytes = book.bytes();
+    run.compare_build(&bytes)?;
+    run.compare_list(&bytes)?;
+    Ok(())
+}
+
+/// A book of up to 240 rows of one or two of 64 names, many of them different.
+fn draw_many_rows(random: &mut Random) -> Draft {
+    let count = random.between(1, 240);
+    let draw_row = |_| (0..random.between(1, 2)).map(|_| random.below(NAMES_LIMIT) as u8).collect();
+    let rows = (0..count).map(draw_row).collect();
+    Draft { names: draw_names(random, NAMES_LIMIT), class: draw_class(random), rows }
 }
 
 /// A row of each length, the last too long by one, beside rows of a small book.
@@ -44,7 +68,7 @@ pub fn row_lengths(run: &mut Run) -> Result<(), Mismatch> {
     for length in 0..=ROW_LIMIT + 1 {
         let row = (0..length).map(|_| run.random.below(names) as u8).collect();
         book.rows.push(row);
-        run.compare(Task::Build, &book.bytes())?;
+        run.compare_build(&book.bytes())?;
         book.rows.pop();
     }
     Ok(())
@@ -53,7 +77,7 @@ pub fn row_lengths(run: &mut Run) -> Result<(), Mismatch> {
 pub fn damaged(run: &mut Run) -> Result<(), Mismatch> {
     let book = draw_small_book(&mut run.random).bytes();
     for input in damaged_everywhere(&book, &mut run.random) {
-        run.compare(Task::Build, &input)?;
+        run.compare_build(&input)?;
     }
     Ok(())
 }
@@ -61,7 +85,7 @@ pub fn damaged(run: &mut Run) -> Result<(), Mismatch> {
 pub fn cut(run: &mut Run) -> Result<(), Mismatch> {
     let book = draw_small_book(&mut run.random).bytes();
     for length in 0..book.len() {
-        run.compare(Task::Build, &book[..length])?;
+        run.compare_build(&book[..length])?;
     }
     Ok(())
 }
@@ -69,7 +93,7 @@ pub fn cut(run: &mut Run) -> Result<(), Mismatch> {
 pub fn moved(run: &mut Run) -> Result<(), Mismatch> {
     let book = draw_small_book(&mut run.random).bytes();
     for input in moved_fields(&book, &mut run.random) {
-        run.compare(Task::Build, &input)?;
+        run.compare_build(&input)?;
     }
     Ok(())
 }

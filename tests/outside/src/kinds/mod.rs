@@ -27,6 +27,7 @@ const fn kind(what: &'static str, share: usize, case: fn(&mut Run) -> Result<(),
 pub const KINDS: &[Kind] = &[
     kind("books of all 46 classes and with no class field, built", 130, books::every_class),
     kind("large books built, their tables rewritten", 30, books::large),
+    kind("books with copies of rows, and rows that differ in one entry, built and listed", 20, books::copies),
     kind("books with a row of each length from 0 to 65, built", 15, books::row_lengths),
     kind("books damaged at every byte, built", 180, books::damaged),
     kind("books cut at every length, built", 40, books::cut),
@@ -68,7 +69,7 @@ pub const KINDS: &[Kind] = &[
     kind("plans that expat accepts too: the same rows", 30, parsers::accepted),
     #[cfg(expat)]
     kind("damaged plans that expat judges as the library does", 80, parsers::judged),
-    kind("books with the same names, class and set of rows: the same bytes", 30, languages::same_rows),
+    kind("books with the same names, class and set of rows: the same bytes and numbers", 30, languages::same_rows),
     kind("pairs of books: rows admitted, equal tables admit the same", 150, languages::pairs),
     kind("books with rows added that their table admits: the same rows admitted", 150, languages::grown),
 ];

@@ -1,6 +1,6 @@
 //! Rows read from plans: valid, damaged, cut, and with faults planted.
 
-use crate::comparing::{Mismatch, Run, Task};
+use crate::comparing::{Mismatch, Run};
 use crate::damage::{damaged_at, damaged_everywhere, moved_fields};
 use crate::planning::{draw_plan, draw_small_plan, empty, near_names, nested, places_inside, Plan, Text};
 use reference::fields::read_book;
@@ -29,7 +29,7 @@ pub fn valid(run: &mut Run) -> Result<(), Mismatch> {
 fn make_a_book(run: &mut Run, list: &[u8], rows: &[u8], count: usize) -> Result<(), Mismatch> {
     let book = [list, rows].concat();
     if run.random.once_in(20) {
-        run.compare(Task::Build, &book)?;
+        run.compare_build(&book)?;
     }
     if read_book(&book).map(|book| book.rows.len()) != Ok(count) {
         return Err(Mismatch::new("plans_read_rows", "list and rows are no book of these rows".into(), &[("book", &book)]));

@@ -1,7 +1,7 @@
 //! Lengths of outputs, working areas and inputs, and the limits.
 
 use super::tables::draw_small_table;
-use crate::comparing::{Mismatch, Run, Task};
+use crate::comparing::{Mismatch, Run};
 use crate::damage::any_bytes;
 use crate::drawing::{draw_class, draw_names, draw_rows, draw_small_book, draw_walk, Draft};
 use reference::fields::{Class, NAMES_LIMIT, NAME_LENGTH_LIMIT, ROW, ROWS_LIMIT, ROW_LIMIT, STATES_LIMIT};
@@ -11,26 +11,26 @@ use reference::{Lent, INPUT_LIMIT, WORK_BYTES};
 
 pub fn any_input(run: &mut Run) -> Result<(), Mismatch> {
     let (input, row) = (any_bytes(&mut run.random), any_bytes(&mut run.random));
-    run.compare(Task::Build, &input)?;
-    run.compare(Task::Rewrite, &input)?;
+    run.compare_build(&input)?;
+    run.compare_rewrite(&input)?;
     run.compare_walk(&input, &row)?;
     Ok(())
 }
 
 pub fn build_outputs(run: &mut Run) -> Result<(), Mismatch> {
     let book = draw_small_book(&mut run.random).bytes();
-    every_output(run, Task::Build, &book)
+    let built = run.compare_build(&book)?.expect("a valid book");
+    for output in 0..=built.bytes.len() + 1 {
+        run.compare_build_lent(&book, Lent { work: WORK_BYTES, output })?;
+    }
+    Ok(())
 }
 
 pub fn rewrite_outputs(run: &mut Run) -> Result<(), Mismatch> {
     let table = draw_small_table(&mut run.random).bytes();
-    every_output(run, Task::Rewrite, &table)
-}
-
-fn every_output(run: &mut Run, task: Task, input: &[u8]) -> Result<(), Mismatch> {
-    let expected = run.compare(task, input)?.expect("a valid input");
-    for output in 0..=expected.bytes.len() + 1 {
-        run.compare_lent(task, input, Lent { work: WORK_BYTES, output })?;
+    let rewritten = run.compare_rewrite(&table)?.expect("a valid table");
+    for output in 0..=rewritten.bytes.len() + 1 {
+        run.compare_rewrite_lent(&table, Lent { work: WORK_BYTES, output })?;
     }
     Ok(())
 }
@@ -44,8 +44,8 @@ pub fn working_areas(run: &mut Run) -> Result<(), Mismatch> {
     for work in [0, 1, 1000, WORK_BYTES - 1, WORK_BYTES, WORK_BYTES + 1, 100_000] {
         for output in [0, INPUT_LIMIT] {
             for input in [&book, &table.bytes(), &other] {
-                run.compare_lent(Task::Build, input, Lent { work, output })?;
-                run.compare_lent(Task::Rewrite, input, Lent { work, output })?;
+                run.compare_build_lent(input, Lent { work, output })?;
+                run.compare_rewrite_lent(input, Lent { work, output })?;
                 run.compare_walk_lent(input, &row, work)?;
             }
         }
@@ -59,7 +59,7 @@ pub fn longest_inputs(run: &mut Run) -> Result<(), Mismatch> {
     let beyond = draw_longest_table(&mut run.random, 1).bytes();
     assert_eq!((at_limit.len(), beyond.len()), (INPUT_LIMIT, INPUT_LIMIT + 1));
     for length in [INPUT_LIMIT - 1, INPUT_LIMIT, INPUT_LIMIT + 1] {
-        run.compare_lent(Task::Rewrite, &at_limit, Lent { work: WORK_BYTES, output: length })?;
+        run.compare_rewrite_lent(&at_limit, Lent { work: WORK_BYTES, output: length })?;
         run.compare_walk(&at_limit, &vec![0; length])?;
     }
     let mut inputs = vec![at_limit, beyond];
@@ -68,9 +68,9 @@ pub fn longest_inputs(run: &mut Run) -> Result<(), Mismatch> {
         inputs.push((0..length).map(|_| run.random.byte()).collect());
     }
     for input in inputs {
-        run.compare(Task::Build, &input)?;
+        run.compare_build(&input)?;
         run.compare_list(&input)?;
-        run.compare(Task::Rewrite, &input)?;
+        run.compare_rewrite(&input)?;
         run.compare_walk(&input, &[0, 1, 2])?;
     }
     Ok(())
@@ -113,16 +113,16 @@ pub fn limits(run: &mut Run) -> Result<(), Mismatch> {
     for count in [NAMES_LIMIT, NAMES_LIMIT + 1] {
         let names = draw_names(&mut run.random, count);
         let book = Draft { names, class: draw_class(&mut run.random), rows: draw_rows(&mut run.random, NAMES_LIMIT, 20) };
-        run.compare(Task::Build, &book.bytes())?;
+        run.compare_build(&book.bytes())?;
     }
     for over in [0, 1] {
         let mut book = draw_small_book(&mut run.random);
         book.rows = vec![vec![]; ROWS_LIMIT + over];
-        run.compare(Task::Build, &book.bytes())?;
+        run.compare_build(&book.bytes())?;
         book.names = vec![vec![b'n'; NAME_LENGTH_LIMIT + over]];
-        run.compare(Task::Build, &book.bytes())?;
+        run.compare_build(&book.bytes())?;
         let chain = chain_of_states(STATES_LIMIT + over);
-        run.compare(Task::Rewrite, &chain)?;
+        run.compare_rewrite(&chain)?;
         run.compare_walk(&chain, &[0; ROW_LIMIT])?;
     }
     tree_limit(run)
@@ -149,7 +149,7 @@ fn tree_limit(run: &mut Run) -> Result<(), Mismatch> {
         }
         let names = draw_names(&mut run.random, NAMES_LIMIT);
         let class = draw_class(&mut run.random);
-        run.compare(Task::Build, &Draft { names, class, rows }.bytes())?;
+        run.compare_build(&Draft { names, class, rows }.bytes())?;
     }
     Ok(())
 }

@@ -1,6 +1,6 @@
 //! Tables rewritten.
 
-use crate::comparing::{Mismatch, Run, Task};
+use crate::comparing::{Mismatch, Run};
 use crate::damage::{damaged_everywhere, moved_fields};
 use crate::drawing::{all_classes, draw_small_book, draw_table};
 use reference::fields::{read_table, STATES_LIMIT};
@@ -34,8 +34,8 @@ pub fn rewritten(run: &mut Run) -> Result<(), Mismatch> {
 
 /// An accepted table is rewritten to the same bytes.
 fn same_bytes(run: &mut Run, table: &[u8]) -> Result<(), Mismatch> {
-    let rewritten = run.compare(Task::Rewrite, table)?;
-    if rewritten.is_none_or(|built| built.bytes != table) {
+    let rewritten = run.compare_rewrite(table)?;
+    if rewritten.is_none_or(|rewritten| rewritten.bytes != table) {
         let what = "an accepted table is not rewritten to the same bytes".into();
         return Err(Mismatch::new("plans_rewrite", what, &[("table", table)]));
     }
@@ -45,7 +45,7 @@ fn same_bytes(run: &mut Run, table: &[u8]) -> Result<(), Mismatch> {
 pub fn damaged(run: &mut Run) -> Result<(), Mismatch> {
     let table = draw_small_table(&mut run.random).bytes();
     for input in damaged_everywhere(&table, &mut run.random) {
-        run.compare(Task::Rewrite, &input)?;
+        run.compare_rewrite(&input)?;
     }
     Ok(())
 }
@@ -53,7 +53,7 @@ pub fn damaged(run: &mut Run) -> Result<(), Mismatch> {
 pub fn cut(run: &mut Run) -> Result<(), Mismatch> {
     let table = draw_small_table(&mut run.random).bytes();
     for length in 0..table.len() {
-        run.compare(Task::Rewrite, &table[..length])?;
+        run.compare_rewrite(&table[..length])?;
     }
     Ok(())
 }
@@ -61,7 +61,7 @@ pub fn cut(run: &mut Run) -> Result<(), Mismatch> {
 pub fn moved(run: &mut Run) -> Result<(), Mismatch> {
     let table = draw_small_table(&mut run.random).bytes();
     for input in moved_fields(&table, &mut run.random) {
-        run.compare(Task::Rewrite, &input)?;
+        run.compare_rewrite(&input)?;
     }
     Ok(())
 }

@@ -1,5 +1,6 @@
-//! The worked days of docs/SCOPE.md, its example, its edges, the refusals it numbers, and its readings of plans.
+//! The worked days of docs/SCOPE.md, its example, its edges, how many rows differ, the refusals it numbers, and its readings of plans.
 
+mod different_rows;
 mod edges;
 mod examples;
 mod impossible;

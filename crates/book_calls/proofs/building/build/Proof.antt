@@ -104,17 +104,22 @@ infer-requires c κs =
 cast-t18 : tie.Need-cast-t18
 cast-t18 c =
     let s = small (c .before .before .before .before .before) in
-    omega (arith, s .length-small, s .states-small, s .joins-small)
+    omega (arith, s .length-small, s .states-small, s .joins-small, s .distinct-small)
 
 cast-t19 : tie.Need-cast-t19
 cast-t19 c =
     let s = small (c .before .before .before .before .before .before) in
-    omega (arith, s .length-small, s .states-small, s .joins-small)
+    omega (arith, s .length-small, s .states-small, s .joins-small, s .distinct-small)
 
 cast-t20 : tie.Need-cast-t20
 cast-t20 c =
     let s = small (c .before .before .before .before .before .before .before) in
-    omega (arith, s .length-small, s .states-small, s .joins-small)
+    omega (arith, s .length-small, s .states-small, s .joins-small, s .distinct-small)
+
+cast-t21 : tie.Need-cast-t21
+cast-t21 c =
+    let s = small (c .before .before .before .before .before .before .before .before) in
+    omega (arith, s .length-small, s .states-small, s .joins-small, s .distinct-small)
 
 enum-known-read-2 : tie.Need-enum-known-read-2
 enum-known-read-2 c = search needs
@@ -130,7 +135,7 @@ same-length-2 c = search needs
 
 returns-2 : tie.Need-returns-2
 returns-2 c =
-    let inferring = c .before .before .before .before .before .before .before in
+    let inferring = c .before .before .before .before .before .before .before .before in
     build-inferred (settings (at inferring)) (book (at inferring)) (work (at inferring)) (out (at inferring))
     (inferring .infer .last .1 .1 .1 .0) (inferring .infer .result) (fit (at inferring))
     (read (answered inferring) .no-refusal) (inferred inferring)
@@ -160,6 +165,7 @@ build-spec =
     cast-t18
     cast-t19
     cast-t20
+    cast-t21
     enum-known-read-2
     not-built-requires-2
     same-length

@@ -36,7 +36,7 @@ abbrev built : tie.Else1 → tie.After-build
 built c = c .before .before .before .before .before
 
 abbrev tested : tie.After-list-accepted → tie.Else1
-tested c = c .before .before .before .before .before
+tested c = c .before .before .before .before .before .before
 
 -- the output lent to `build`, which takes every table; and the table in it afterwards
 abbrev zeros : List ℕ
@@ -59,6 +59,7 @@ front c =
 
 listed-by : (c : tie.Else1)
     → ListedBy (settings (built c)) (book (built c)) (work (built c)) (table (built c)) (built c .build .result .joins)
+    (built c .build .result .distinct)
 listed-by c =
     let at = built c in
     built-listed (settings at) (start at .pre) (book at) (work at) zeros (output at) (at .build .result) (at .build .ensures)
@@ -66,7 +67,7 @@ listed-by c =
 
 -- the working area after the listing, which stands at its front
 abbrev area : tie.After-list-accepted → List ℕ
-area c = c .list-accepted .last .1 .1 .0
+area c = c .list-accepted .last .1 .1 .1 .0
 
 listed : (c : tie.After-list-accepted)
     → FrontOf (bookListing (bookOf (settings (built (tested c))) (book (built (tested c))))) (area c) (c .list-accepted .result)
@@ -106,10 +107,13 @@ slice-aggregate-list-accepted c =
 cast-list-accepted : tie.Need-cast-list-accepted
 cast-list-accepted c = search needs
 
+cast-list-accepted-2 : tie.Need-cast-list-accepted-2
+cast-list-accepted-2 c = search needs
+
 list-accepted-requires : tie.Need-list-accepted-requires
 list-accepted-requires c κs =
-    let by = listed-by (c .before .before .before .before) in
-    (by .no-refusal, (by .few-joins, omega (arith, ap length (by .is), by .short, by .work-fits)))
+    let by = listed-by (c .before .before .before .before .before) in
+    (by .no-refusal, ((by .few-joins, by .few-distinct), omega (arith, ap length (by .is), by .short, by .work-fits)))
 
 slice-reshare-prefix-copy-out : tie.Need-slice-reshare-prefix-copy-out
 slice-reshare-prefix-copy-out c = listed (c .before .before) .within
@@ -152,6 +156,7 @@ list-spec =
     array-share-prefix-table
     slice-aggregate-list-accepted
     cast-list-accepted
+    cast-list-accepted-2
     list-accepted-requires
     slice-reshare-prefix-copy-out
     slice-aggregate-copy-out

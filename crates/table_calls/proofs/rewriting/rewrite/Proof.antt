@@ -42,8 +42,8 @@ open-table-requires c κs = search needs
 enum-known-opened : tie.Need-enum-known-opened
 enum-known-opened c = search needs
 
-not-built-requires : tie.Need-not-built-requires
-not-built-requires c κs = search needs
+not-rewritten-requires : tie.Need-not-rewritten-requires
+not-rewritten-requires c κs = search needs
 
 same-length : tie.Need-same-length
 same-length c = search needs
@@ -51,7 +51,7 @@ same-length c = search needs
 returns : tie.Need-returns
 returns c =
     let at = c .before .before .before in
-    gives-as _ _ (c .not-built .ensures)
+    gives-as _ _ (c .not-rewritten .ensures)
     (rewrite-short (table at) (work at) (out at) (bytes at) (opened at .not-refused) (omega arith))
 
 copy-in-requires : tie.Need-copy-in-requires
@@ -70,8 +70,8 @@ cast-t16 c =
 enum-known-opened-2 : tie.Need-enum-known-opened-2
 enum-known-opened-2 c = search needs
 
-not-built-requires-2 : tie.Need-not-built-requires-2
-not-built-requires-2 c κs = search needs
+not-rewritten-requires-2 : tie.Need-not-rewritten-requires-2
+not-rewritten-requires-2 c κs = search needs
 
 same-length-2 : tie.Need-same-length-2
 same-length-2 c = search needs
@@ -83,8 +83,8 @@ returns-2 : tie.Need-returns-2
 returns-2 c =
     let at = c .before .before .before .before .before .before .before in
     let copied = c .before .before .before .copy-in in
-    rewrite-copied (table at) (work at) (out at) (bytes at) (opened at .not-refused) (copied .last .0) _ (omega arith) (copied .ensures .written)
-    (opened at .kept .items-are)
+    rewrite-copied (table at) (work at) (out at) (bytes at) (opened at .not-refused) (copied .last .0) _ (omega arith)
+    (copied .ensures .written) (opened at .kept .items-are)
 
 same-length-4 : tie.Need-same-length-4
 same-length-4 c = search needs
@@ -94,7 +94,7 @@ returns-3 c =
     let answered = c .before .before in
     let opening = answered .before .before .before .before in
     let at = start opening .args in
-    gives-as _ _ (c .not-built2 .ensures)
+    gives-as _ _ (c .not-rewritten2 .ensures)
     (rewrite-refused (at .table .now) (at .work .now) (at .out .now) _
     (opened-refused (opening .open-table .ensures) (answered .opened2 .given .1)))
 
@@ -104,14 +104,14 @@ rewrite-spec =
     (tie.spec
     open-table-requires
     enum-known-opened
-    not-built-requires
+    not-rewritten-requires
     same-length
     returns
     copy-in-requires
     cast-t15
     cast-t16
     enum-known-opened-2
-    not-built-requires-2
+    not-rewritten-requires-2
     same-length-2
     same-length-3
     returns-2
