@@ -141,12 +141,12 @@ fn chosen_first(bytes: Vec<u8>, names: Vec<String>) -> Plan {
     Plan { bytes, names: names.into_iter().map(String::into_bytes).collect(), chosen: 0 }
 }
 
-/// As many chosen elements as a plan may have or has room for, each with 40 empty children of all names.
+/// As many chosen elements as a plan may have or has room for, each with as many empty children as a row may have, of all names.
 pub fn tag_dense(names: Names) -> Plan {
     let names = names.drawn();
     let (chosen, outermost) = (&names[0], &names[1]);
     let mut random = Random::new(2);
-    let elements = std::iter::repeat_with(|| format!("<{chosen}>{}</{chosen}>", empty_children(&mut random, &names, 40)));
+    let elements = std::iter::repeat_with(|| format!("<{chosen}>{}</{chosen}>", empty_children(&mut random, &names, ROW_LENGTH)));
     let bytes = filled(&format!("<{outermost}>"), &format!("</{outermost}>"), elements.take(ROW_LIMIT));
     chosen_first(bytes, names)
 }

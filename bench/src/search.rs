@@ -30,12 +30,14 @@ pub fn run(seconds: u32) -> Result<(), String> {
     let mut search = Search { sides: Sides::new(), random: Random::new(seed()) };
     for class in CLASSES {
         let end = Instant::now() + Duration::from_secs(1) * seconds / CLASSES.len() as u32;
-        let kept = cases::worst_found()?;
+        let mut kept = cases::worst_found()?;
         let before = match kept.iter().find(|book| book.class == class) {
             Some(book) => search.sides.time_library(&book.bytes(), CONFIRM),
             None => 0.0,
         };
         let mut worst = before;
+        // books kept under a longer limit are still a place to begin at
+        kept.iter_mut().flat_map(|book| &mut book.rows).for_each(|row| row.truncate(ROW_LENGTH));
         let mut start = search.costliest(class, &kept);
         while Instant::now() < end {
             let found = search.climb(start, end)?;

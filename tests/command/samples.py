@@ -21,7 +21,7 @@ def a_class(draw: random.Random):
     return draw.choice([None, (0, 2, 1), (0, k, draw.randint(1, k)), (1, 0, 0), (2, draw.randint(0, 8), 0)])
 
 
-def a_sample(draw: random.Random, names=(1, 2, 5, 30, 64), rows=(1, 2, 10, 40, 256), lengths=(0, 1, 3, 8, 64)) -> Sample:
+def a_sample(draw: random.Random, names=(1, 2, 5, 30, 64), rows=(1, 2, 10, 40, 256), lengths=(0, 1, 3, 8, 40)) -> Sample:
     """A book that is accepted. Some names stay unused, some rows are empty and some are repeated."""
     chosen = tuple(sorted({a_name(draw) for _ in range(draw.choice(names))}))
     days, beginnings = [], {()}

@@ -245,8 +245,8 @@ class Bad(InFolder):
         """By a file for each number that a file can have, as check and as walk tell it."""
         names = field(1, b"lunch") + field(1, b"tea")
         front = names + field(2, b"\1\0\0")
-        many = b"".join(field(1, b"n%02d" % i) for i in range(8))
-        tree = b"".join(field(3, bytes([i] + 63 * [0])) for i in range(8))
+        many = b"".join(field(1, b"n%02d" % i) for i in range(13))
+        tree = b"".join(field(3, bytes([i] + 39 * [0])) for i in range(13))
         cases = {1: front + bytes(65536), 2: front + b"\4\0", 3: front + field(9, b""), 4: front, 5: field(1, b"9"),
                  6: names + field(1, b"lunch"), 7: names + 257 * field(3, b"\0"), 8: names + field(2, b"\0\2\3") + field(4, b"\1"),
                  9: names + field(3, b"\2"), 10: many + tree, 11: front + field(4, b"\2"), 12: front + field(4, b"\1\0\0\1")}
@@ -278,7 +278,7 @@ class Bad(InFolder):
                    "walk", "days.table", "lunch tea")
         for word, parting in [("lunch,tea", ","), ("lunch;tea,cake", ";")]:
             self.fails(f"plans: '{word}' holds '{parting}', and no name may: give each name by itself", "walk", "days.table", word)
-        self.fails("plans: a day of 65 names: at most 64 are allowed", "walk", "days.table", *65 * ["lunch"])
+        self.fails("plans: a day of 41 names: at most 40 are allowed", "walk", "days.table", *41 * ["lunch"])
         self.answers(1, "not allowed: a day may not begin with 'a\\x1b[1m' (the model has no such name)\nnext: lunch\n",
                      "walk", "days.table", "a\x1b[1m")
         done = self.plans("walk", "days.table", 10000 * "x")

@@ -99,18 +99,18 @@ class Books(Judged):
             self.refused_both(NAMES + field(CLASS, body), 8, len(NAMES))
 
     def test_9_bad_row(self):
-        read_book(NAMES + field(ROW, bytes(64)))
-        self.refused(NAMES + field(ROW, bytes(65)), 9, len(NAMES))
+        read_book(NAMES + field(ROW, bytes(40)))
+        self.refused(NAMES + field(ROW, bytes(41)), 9, len(NAMES))
         self.refused(NAMES + ROWS + field(ROW, b"\x00\x02"), 9, len(NAMES + ROWS))
         with self.assertRaises(Refused) as caught:
-            plans.walk(FRONT + END, 65 * ["lunch"])
+            plans.walk(FRONT + END, 41 * ["lunch"])
         self.assertEqual(caught.exception.number, 9)
 
     def test_10_prefix_tree_too_large(self):
-        read_book(names_of(8) + rows_of(7 * [64] + [63]))
-        data = names_of(8) + rows_of(8 * [64])
-        self.refused(data, 10, len(data) - 67)
-        self.refused(data + field(ROW, b"\x00"), 10, len(data) - 67)
+        read_book(names_of(13) + rows_of(12 * [40] + [31]))
+        data = names_of(13) + rows_of(12 * [40] + [32])
+        self.refused(data, 10, len(data) - 35)
+        self.refused(data + field(ROW, b"\x00"), 10, len(data) - 35)
 
     def test_11_bad_state(self):
         for body in [b"", b"\x02", b"\x00\x00", b"\x00\x00\x00", b"\x01\x02\x00\x00", b"\x01\x01\x00\x00\x00\x00\x00",

@@ -13,6 +13,7 @@ from pathlib import Path
 
 import plans
 from plans import library
+from plans.fields import ENTRY_LIMIT, INPUT_LIMIT, NAME_BYTES, NAME_LIMIT, ROW_LIMIT, SETTING_LIMIT, STATE_LIMIT
 from plans.plan_files import DEPTH_LIMIT
 from reference import book_bytes, joined, listing, states_of, table_bytes, walked
 from samples import a_sample, a_small_sample, book_of, damaged
@@ -181,9 +182,12 @@ class Layouts(unittest.TestCase):
         self.assertEqual(fields, {name: [part for part, _ in layout._fields_] for name, layout in LAYOUTS.items()})
         calls = {name: result for result, name in re.findall(r"^(plans_\w+) (plans_\w+)\(", header, re.M)}
         self.assertEqual({name: LAYOUTS[result] for name, result in calls.items()}, library.RESULTS)
-        for name, size in [("WORK_BYTES", library.WORK_BYTES), ("LISTING_BYTES", library.LISTING_BYTES),
-                           ("ROWS_BYTES", library.ROWS_BYTES), ("PLAN_DEPTH", DEPTH_LIMIT), ("INPUT_LIMIT", 65535)]:
+        for name, size in [("WORK_BYTES", library.WORK_BYTES), ("LISTING_BYTES", library.LISTING_BYTES), ("INPUT_LIMIT", INPUT_LIMIT),
+                           ("NAME_LIMIT", NAME_LIMIT), ("NAME_BYTES", NAME_BYTES), ("BOOK_ROWS", ROW_LIMIT), ("ROW_LIMIT", ENTRY_LIMIT),
+                           ("STATE_LIMIT", STATE_LIMIT), ("SETTING_LIMIT", SETTING_LIMIT), ("PLAN_DEPTH", DEPTH_LIMIT)]:
             self.assertIn(f"#define PLANS_{name} {size}\n", header)
+        self.assertIn("#define PLANS_ROWS_BYTES (PLANS_BOOK_ROWS * (3 + PLANS_ROW_LIMIT))\n", header)
+        self.assertEqual(library.ROWS_BYTES, 256 * (3 + 40))
         for outcome in plans.Outcome:
             self.assertRegex(header, rf"PLANS_{outcome.name} = {outcome.value}\b")
 
@@ -218,8 +222,8 @@ class Finding(unittest.TestCase):
             environment.pop("PLANS_LIBRARY", None)
             done = subprocess.run([sys.executable, "-B", "-c", code], env=environment, capture_output=True, text=True, check=False)
             self.assertEqual(done.stdout, "9.9.9\n")
-            self.assertIn(f"libplans.so.2 is not in {module} and {folder}/lib: 'make lib' builds it", done.stderr)
+            self.assertIn(f"libplans.so.3 is not in {module} and {folder}/lib: 'make lib' builds it", done.stderr)
             (Path(folder) / "lib").mkdir()
-            (Path(folder) / "lib" / "libplans.so.2").write_bytes((ROOT / "target" / "lib" / "libplans.so").read_bytes())
+            (Path(folder) / "lib" / "libplans.so.3").write_bytes((ROOT / "target" / "lib" / "libplans.so").read_bytes())
             done = subprocess.run([sys.executable, "-B", "-c", code], env=environment, capture_output=True, text=True, check=False)
             self.assertIn("refusal 4: the input ends while a field is still due", done.stderr)

@@ -1,7 +1,7 @@
 -- Which refusal comes first; what every call gives back, from its refusal: refused, refused for an output that is too short, or
 -- answered; the same with the answer seen as another; what follows for callers; and the sizes of what is lent. Assumes nothing.
 use mathlib.Core.Path.{_≡_, refl, sym, ap, _∙_, subst}
-use mathlib.Core.Bool.{Bool, true, false, cond, _||_, or-false}
+use mathlib.Core.Bool.{Bool, true, false, cond, _||_, not, or-false}
 use mathlib.Core.List.{List, [], _∷_}
 use Prim.Native.Nat.{ℕ, zero, suc, _≤_, _<_}
 use native.Mathlib.Omega.{arith}
@@ -9,9 +9,12 @@ use borrow.Author.Tests.{eq-eqb, ne-eqb, eqb-true, ltb-false, lt-ltb, le-ltb}
 use lib.Dec.{eqb, ltb, eqb·suc-zero}
 use lib.ListN.{length, getD, take, drop, length-append}
 use lib.Seq.{take-append-seam}
-use Rattle.base.specs.Limits.{when, firstOf, input-limit, work-bytes, bad-sizes, output-too-short}
-use Rattle.model.specs.Calls.{Call, tooShort, over, fronts, faultWith, unless, seenAs, Gives, Refuses, sizesFault, tableFault}
-use Rattle.base.proofs.Tests.{false-or}
+use Rattle.base.specs.Limits.{when, firstOf, input-limit, work-bytes, bad-sizes, bad-row, output-too-short}
+use Rattle.model.specs.Fields.{readTable, rowOk}
+use Rattle.model.specs.Tables.{isFirstMet}
+use Rattle.model.specs.Calls.{Call, tooShort, over, fronts, faultWith, unless, seenAs, Gives, Refuses, sizesFault, tableOf}
+use Rattle.model.specs.Calls.{tableStates, tableFault, walkFault}
+use Rattle.base.proofs.Tests.{false-or, or-false as neither}
 use Rattle.model.proofs.FieldLaws.{first-of, when-none}
 
 -- ---- refusals
@@ -145,6 +148,11 @@ module _ (input work : List ℕ) where
   unfolding sizesFault
   sizes-pass fit = ap (λ (b : Bool). when b bad-sizes) fit
 
+  pub sizes-none : SizesFit input work → sizesFault input work ≡ 0
+  sizes-none fit =
+      sizes-pass
+      (neither (le-ltb input-limit (length input) (fit .input-fits)) (le-ltb (length work) work-bytes (fit .work-fits)))
+
   pub sizes-fit : sizesFault input work ≡ 0 → SizesFit input work
   unfolding sizesFault
   sizes-fit e =
@@ -155,10 +163,24 @@ module _ (input work : List ℕ) where
         work-fits = ltb-false (length work) work-bytes (both .1);
       }
 
+-- ---- tables and walks
+
+-- a table of sizes that fit is accepted where it is read without a fault and numbered first-met
+pub table-accepted :
+    (s work : List ℕ) → SizesFit s work → readTable s .number ≡ 0 → isFirstMet (tableStates s) ≡ true → tableFault s work ≡ 0
+unfolding tableFault
+table-accepted s work fit read met = rw (sizes-none s work fit, read, met)
+
 -- an accepted table has sizes that fit
 pub table-sizes : (s work : List ℕ) → tableFault s work ≡ 0 → SizesFit s work
 unfolding tableFault
 table-sizes s work none = sizes-fit s work (first-of (sizesFault s work) _ none .0)
+
+-- over an accepted table only the row is judged
+pub walk-judged :
+    (s row work : List ℕ) → tableFault s work ≡ 0 → walkFault s row work ≡ when (not (rowOk (length (tableOf s .names)) row)) bad-row
+unfolding walkFault
+walk-judged s row work ok = ap (λ (n : ℕ). firstOf n (when (not (rowOk (length (tableOf s .names)) row)) bad-row)) ok
 
 -- ---- a call without outputs
 

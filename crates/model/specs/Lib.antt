@@ -11,3 +11,4 @@ pub mod Claims
 pub mod Sources
 pub mod Listing
 pub mod WorkedDays
+pub mod Edges

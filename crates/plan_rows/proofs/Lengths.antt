@@ -1,4 +1,5 @@
--- How many bytes the fields of rows have: three and its entries each, so at most 67, and 256 of them at most 17,152. Assumes nothing.
+-- How many bytes the fields of rows have: three and its entries each, so that what a book may have takes at most
+-- `rows-bytes`. Assumes nothing.
 use mathlib.Core.Path.{_≡_, refl, sym, _∙_}
 use mathlib.Core.Bool.{true}
 use mathlib.Core.List.{List, [], _∷_, _++_, flatMap}

@@ -57,7 +57,7 @@ module _ (table work out : List ℕ) (bytes : AllBytes table) (none : tableFault
 pub names-count : (s : List ℕ) (p : Place) → TableRead s p → length (tableOf s .names) ≡ p .names
 names-count s p read = ap (λ (f : File). length (f .names)) (sym (read .file-is)) ∙ length-names s p (read .sound)
 
--- an accepted row has at most 64 entries
+-- an accepted row is within its limit
 pub row-short : (n : ℕ) (row : List ℕ) → rowOk n row ≡ true → length row ≤ row-limit
 row-short n row ok = leb-true (length row) row-limit (and-eq-true-iff (leb (length row) row-limit) (allBelow n row) .0 ok .0)
 
