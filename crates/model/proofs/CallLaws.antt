@@ -1,5 +1,6 @@
 -- Which refusal comes first; what every call gives back, from its refusal: refused, refused for an output that is too short, or
--- answered; the same with the answer seen as another; what follows for callers; and the sizes of what is lent. Assumes nothing.
+-- answered; the same with the answer seen as another; what follows for callers; the sizes of what is lent; when a table is accepted, and
+-- by what a walk over it is judged. Assumes nothing.
 use mathlib.Core.Path.{_≡_, refl, sym, ap, _∙_, subst}
 use mathlib.Core.Bool.{Bool, true, false, cond, _||_, not, or-false}
 use mathlib.Core.List.{List, [], _∷_}
