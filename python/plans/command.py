@@ -147,7 +147,7 @@ def day_of(words: Sequence[str]) -> Row:
         if parting:
             raise Failure(f"plans: {shown(word)} holds {shown(parting)}, and no name may: give each name by itself")
     if len(day) > ENTRY_LIMIT:
-        raise Failure(f"plans: a day of {len(day)} names: at most {ENTRY_LIMIT} are allowed")
+        raise Failure(f"plans: a day of {len(day)} names: a walk takes at most {ENTRY_LIMIT}, though the model may allow longer days")
     return day
 
 

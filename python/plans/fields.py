@@ -29,17 +29,18 @@ REFUSALS = _words()
 
 class Refused(Exception):
     """A refusal: its number, its words, and its offset, if that is known: where the field begins that it concerns; of 14, 15 and 16
-    the place in the plan."""
+    the place in the plan. What is wrong there is told too where the words leave it open and the field shows it."""
 
-    def __init__(self, number: int, offset: Optional[int] = None):
+    def __init__(self, number: int, offset: Optional[int] = None, what: str = ""):
         self.number = number
         self.words = REFUSALS[number]
         self.offset = offset
+        self.what = what
         place = "" if offset is None else f"offset {offset}: "
-        super().__init__(f"{place}refusal {number}: {self.words}")
+        super().__init__(f"{place}refusal {number}: {self.words}" + (f": {what}" if what else ""))
 
     def __reduce__(self) -> Tuple:
-        return Refused, (self.number, self.offset)
+        return Refused, (self.number, self.offset, self.what)
 
 
 @dataclass(frozen=True)
@@ -137,6 +138,13 @@ def row_fault(names: int, before: int, body: bytes) -> int:
     return 9 if len(body) > ENTRY_LIMIT or any(entry >= names for entry in body) else 0
 
 
+def bad_row(names: int, before: int, body: bytes) -> str:
+    """Which of the faults of 9 a row has."""
+    if len(body) > ENTRY_LIMIT:
+        return f"row {before + 1} has {len(body)} entries"
+    return f"row {before + 1} has the entry {next(entry for entry in body if entry >= names)}, which is no name's number"
+
+
 def state_fault(names: int, before: int, body: bytes) -> int:
     if before == STATE_LIMIT:
         return 7
@@ -169,7 +177,7 @@ class _Reading:
             fault = judge(len(self.names), len(self.items), body)
             self.items.append((offset, body))
         if fault:
-            raise Refused(fault, offset)
+            raise Refused(fault, offset, bad_row(len(self.names), len(self.items) - 1, body) if fault == 9 else "")
 
     def name(self, number: int) -> str:
         return self.names[number].decode("ascii")

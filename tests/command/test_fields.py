@@ -30,7 +30,8 @@ class Judged(unittest.TestCase):
         with self.assertRaises(Refused) as caught:
             read(data)
         self.assertEqual((caught.exception.number, caught.exception.offset), (number, offset))
-        self.assertEqual(str(caught.exception), f"offset {offset}: refusal {number}: {plans.REFUSALS[number]}")
+        what = f": {caught.exception.what}" if number == 9 else ""
+        self.assertEqual(str(caught.exception), f"offset {offset}: refusal {number}: {plans.REFUSALS[number]}{what}")
         with self.assertRaises(Refused) as called:
             call(data)
         self.assertEqual((called.exception.number, called.exception.words), (number, plans.REFUSALS[number]))
@@ -101,6 +102,10 @@ class Books(Judged):
     def test_9_bad_row(self):
         read_book(NAMES + field(ROW, bytes(40)))
         self.refused(NAMES + field(ROW, bytes(41)), 9, len(NAMES))
+        for row, what in [(bytes(41), "41 entries"), (b"\x00\x02", "the entry 2, which is no name's number")]:
+            with self.assertRaises(Refused) as caught:
+                read_book(NAMES + ROWS + field(ROW, row))
+            self.assertEqual(caught.exception.what, f"row 2 has {what}")
         self.refused(NAMES + ROWS + field(ROW, b"\x00\x02"), 9, len(NAMES + ROWS))
         with self.assertRaises(Refused) as caught:
             plans.walk(FRONT + END, 41 * ["lunch"])

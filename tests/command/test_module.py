@@ -151,7 +151,7 @@ class WrongArguments(unittest.TestCase):
             self.assertEqual(number_of(plans.build, book), number)
 
     def test_refusals_are_pickled(self):
-        for problem in (plans.Refused(9, 4), plans.Refused(1)):
+        for problem in (plans.Refused(9, 4, "row 1 has 41 entries"), plans.Refused(9, 4), plans.Refused(1)):
             again = pickle.loads(pickle.dumps(problem))
             self.assertEqual((again.number, again.offset, again.words, str(again)),
                              (problem.number, problem.offset, problem.words, str(problem)))

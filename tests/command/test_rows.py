@@ -210,7 +210,7 @@ class Refused(InFolder):
                      f"two.xml: with this plan the prefix tree needs over 512 states; give fewer plans, or {smaller}")
 
     def test_all_plans_are_told_of_where_there_are_too_many_names(self):
-        row = "".join("<day>" + "".join(f"<n{i}/>" for i in range(first, first + 30)) + "</day>" for first in (0, 30))
+        row = "".join("<day>" + "".join(f"<n{i}/>" for i in range(half, half + 30)) + "</day>" for half in (0, 30))
         more = row + "<day>" + "".join(f"<m{i}/>" for i in range(10)) + "</day>"
         for name, plan in [("one", row), ("two", more), ("three", more + "\n&"), ("four", more + 15 * "<a>" + "\n<a>"), ("five", "<_0/>"),
                            ("six", row.replace("n", "k") + 254 * "<day/>" + "\n<day/>"), ("seven", f"<_0>{more}</_0>")]:
@@ -218,8 +218,8 @@ class Refused(InFolder):
         self.put("eight", f"<plan>{more}{65536 * ' '}</plan>")
         smaller = "take a smaller element, such as a meal in place of a day"
         said = [
-            "one: 2 rows", "two: 71 names", "three:2:1: refusal 14: an & stands in the text, and a plan's text has none: write it in words, "
-            "such as 'and'", "four:2:3: refusal 15: a stands inside 16 other elements: at most 15 are allowed; nest less deeply",
+            "one: 2 rows", "two: 71 names",
+            "three:2:1: refusal 14: an & stands in the text, and a plan's text has none: write it in words, such as 'and'", "four:2:3: refusal 15: a stands inside 16 other elements: at most 15 are allowed; nest less deeply",
             "five: 0 rows: it has no element day",
             "six:2:1: refusal 7: over 256 elements day in one plan: at most 256 rows are allowed; divide the plan, or take some out",
             "seven: 71 names", "eight: refusal 1: the plan is over 65,535 bytes: give it in parts, each with one outermost element",
@@ -263,7 +263,8 @@ class Refused(InFolder):
                 ("other.xml", "<day/>", f"other.xml: this is a plan, in XML ('plans rows' makes a book of plans); {wanted}"),
                 ("list", field(1, b"b") + field(1, b"a"), f"list: refusal 6: {plans.REFUSALS[6]}"),
                 ("cut", field(1, b"day")[:-1], f"cut: refusal 2: {plans.REFUSALS[2]}"),
-                ("bad.book", field(1, b"day") + field(3, b"\1"), f"bad.book: offset 6: refusal 9: {plans.REFUSALS[9]}")]:
+                ("bad.book", field(1, b"day") + field(3, b"\1"),
+                 f"bad.book: offset 6: refusal 9: {plans.REFUSALS[9]}: row 1 has the entry 1, which is no name's number")]:
             self.put(name, data)
             self.fails(said, "rows", "plan.xml", "--element", "day", "--names", name, "-o", "out")
         self.fails("plans: none: No such file or directory", "rows", "plan.xml", "--element", "day", "--names", "none", "-o", "out")

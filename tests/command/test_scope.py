@@ -67,7 +67,7 @@ class Scope(unittest.TestCase):
         self.assertEqual([name for number, name in shown if f"\n{name} = {number.replace(',', '')}\n" not in limits], [])
         self.assertEqual(len(shown), 9)
         number_of = {name: int(number.replace(",", "")) for number, name in shown}
-        bounds = re.findall(r"([\d,]+)\s\(`([a-z-]+)`\)", section("9. Limits"))
+        bounds = re.findall(r"([\d,]+)\s(?:bytes\s)?\(`([a-z-]+)`\)", section("9. Limits"))
         self.assertEqual([name for _, name in bounds], ["table-bytes", "listing-bytes", "rows-bytes"])
         self.assertEqual([name for number, name in bounds[:2] if f"\n{name} = {number.replace(',', '')}\n" not in limits], [])
         self.assertIn("\nrows-bytes = book-rows * (3 + row-limit)\n", limits)

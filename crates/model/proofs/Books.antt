@@ -9,11 +9,12 @@ use mathlib.Core.List.{List·Memᴰ·not-nil, List·Memᴰ·cases-cons, List·Me
 use Prim.Native.Nat.{ℕ, suc, _≤_, _<_}
 use native.Mathlib.Omega.{arith}
 use lib.ListN.{length, length-append}
+use Rattle.base.specs.Limits.{row-limit}
 use Rattle.model.specs.Fields.{Class, ClassOk, Settings, Allowed, File, FileKind, book, takesStates, unread, readBook, readWith}
 use Rattle.model.specs.Fields.{withField, classOk, allBelow, rowOk}
 use Rattle.model.specs.Calls.{bookOf, treeFault, bookFault}
 use Rattle.model.specs.Claims.{Accepted}
-use Rattle.base.proofs.Tests.{Tells, tells-by, tells-and, tells-ltb}
+use Rattle.base.proofs.Tests.{Tells, tells-by, tells-and, tells-ltb, tells-leb}
 use Rattle.model.proofs.FieldLaws.{NameFits, RowFits, Fitting, a-name, a-class, a-row, a-state, fitting}
 use Rattle.model.proofs.FieldLaws.{first-of, class-parts}
 use Rattle.model.proofs.Turns.{read-keeps}
@@ -42,6 +43,10 @@ tells-allBelow n (y ∷ ys) =
     tells-by (tells-and (tells-ltb y n) (tells-allBelow n ys))
     (λ h x m. ⊎-elim (λ e. subst (λ (z : ℕ). z < n) (sym e) (h .0)) (λ r. h .1 x r) (List·Memᴰ·cases-cons m))
     (λ h. (h y (here refl), λ x m. h x (there m)))
+
+-- a row that is allowed: within the limit, its entries names' numbers
+pub tells-rowOk : (n : ℕ) (row : List ℕ) → Tells (rowOk n row) ((length row ≤ row-limit) × ((x : ℕ) → In x row → x < n))
+tells-rowOk n row = tells-and (tells-leb (length row) row-limit) (tells-allBelow n row)
 
 -- a book as read so far
 pub record BookOk (f : File) : Type 0 where

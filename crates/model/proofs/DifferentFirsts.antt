@@ -6,13 +6,13 @@ use mathlib.Core.Bool.{Bool, cond}
 use mathlib.Core.List.{List, [], _∷_, _++_, map, append-assoc, append-nil, nil≢cons, cons≢nil}
 use mathlib.Core.List.{List·Memᴰ as In, List·Memᴰ·head as here, List·Memᴰ·tail as there}
 use mathlib.Core.List.{List·Memᴰ·not-nil, List·Memᴰ·append-cases, List·Memᴰ·eq-of-singleton, Memᴰ·cast, Memᴰ·append-left}
-use Prim.Native.Nat.{ℕ, suc, _+_, _-_, _≤_}
+use Prim.Native.Nat.{ℕ, suc, _+_}
 use native.Mathlib.Omega.{arith}
-use lib.ListN.{length, getD, drop, replicate, length-append, length-map, length-replicate}
+use lib.ListN.{length, getD, drop, length-append, length-map}
 use Rattle.base.specs.Lists.{Distinct}
 use Rattle.model.specs.Classes.{Word}
 use Rattle.model.specs.Joinings.{beginnings, withStates, withRows, treeOf}
-use Rattle.model.specs.Edges.{rowsFrom}
+use Rattle.model.specs.Edges.{entriesOf, DifferentFirsts}
 use Rattle.base.proofs.Tests.{told-false, tells-hasRow}
 use Rattle.base.proofs.Lists.{map-in}
 
@@ -62,61 +62,56 @@ all-added nodes (w ∷ ws) d new =
         ⊎-elim (λ k. new u (there m) k) (λ k. d .0 (Memᴰ·cast (sym (List·Memᴰ·eq-of-singleton k)) m))
         (List·Memᴰ·append-cases nodes n)
 
--- the root is there, and states begin with names below this one only
-record Below (first : ℕ) (nodes : List Word) : Type 0 where
+-- the root is there, and no state begins with any of these names
+record Free (firsts : List ℕ) (nodes : List Word) : Type 0 where
   root : In [] nodes
-  low : (x : ℕ) (w : Word) → first ≤ x → In (x ∷ w) nodes → ⊥
+  free : (x : ℕ) (w : Word) → In x firsts → In (x ∷ w) nodes → ⊥
 
--- a row with this first name adds a state for each of its entries
-row-added :
-    (first : ℕ) (row : Word) (nodes : List Word) → Below first nodes →
-    withStates nodes (beginnings (first ∷ row)) ≡ nodes ++ after first (beginnings row)
-unfolding withStates beginnings
-row-added first row nodes below =
-    let more = after first (beginnings row) in
-    ap (λ (b : Bool). withStates (cond b nodes (nodes ++ ([] ∷ []))) more) (tells-hasRow [] nodes .test (below .root))
-    ∙ all-added nodes more (after-distinct first (beginnings row) (beginnings-distinct row)) new
-  where
-    new : (u : Word) → In u (after first (beginnings row)) → In u nodes → ⊥
-    new u m n =
-        let r = map-in (λ (w : Word). first ∷ w) (beginnings row) m in
-        below .low first (r .0) (omega arith) (Memᴰ·cast (sym (r .2)) n)
+module _ (first : ℕ) (firsts : List ℕ) (row : Word) (nodes : List Word) (open-to : Free (first ∷ firsts) nodes) where
+  -- a row with such a first name adds a state for each of its entries
+  row-added : withStates nodes (beginnings (first ∷ row)) ≡ nodes ++ after first (beginnings row)
+  unfolding withStates beginnings
+  row-added =
+      let more = after first (beginnings row) in
+      ap (λ (b : Bool). withStates (cond b nodes (nodes ++ ([] ∷ []))) more) (tells-hasRow [] nodes .test (open-to .root))
+      ∙ all-added nodes more (after-distinct first (beginnings row) (beginnings-distinct row)) new
+    where
+      new : (u : Word) → In u (after first (beginnings row)) → In u nodes → ⊥
+      new u m n =
+          let r = map-in (λ (w : Word). first ∷ w) (beginnings row) m in
+          open-to .free first (r .0) (here refl) (Memᴰ·cast (sym (r .2)) n)
 
--- and the next name is above those of all states then
-row-below : (first : ℕ) (row : Word) (nodes : List Word) → Below first nodes → Below (suc first) (nodes ++ after first (beginnings row))
-row-below first row nodes below =
-    let more = after first (beginnings row) in
-    record {
-      root = Memᴰ·append-left more (below .root);
-      low = λ x w next m.
-          ⊎-elim (λ k. below .low x w (omega (arith, next)) k)
-          (λ k. omega (arith, next, after-in first x w (beginnings row) k .0))
-          (List·Memᴰ·append-cases nodes m);
-    }
-
--- how many states rows of these lengths add: one for each entry, where a row has a first one at least
-abbrev pub statesFor : List ℕ → ℕ
-statesFor [] = 0
-statesFor (n ∷ lengths) = suc (n - 1) + statesFor lengths
+  -- and the states begin with none of the other names then
+  still-free : (In first firsts → ⊥) → Free firsts (nodes ++ after first (beginnings row))
+  still-free other =
+      let more = after first (beginnings row) in
+      record {
+        root = Memᴰ·append-left more (open-to .root);
+        free = λ x w n m.
+            ⊎-elim (λ k. open-to .free x w (there n) k)
+            (λ k. other (Memᴰ·cast (sym (after-in first x w (beginnings row) k .0)) n))
+            (List·Memᴰ·append-cases nodes m);
+      }
 
 rows-added :
-    (first : ℕ) (lengths : List ℕ) (nodes : List Word) → Below first nodes →
-    length (withRows nodes (rowsFrom first lengths)) ≡ length nodes + statesFor lengths
-unfolding withRows rowsFrom
-rows-added first [] nodes below = omega arith
-rows-added first (n ∷ lengths) nodes below =
-    let zero-name : ℕ = 0 in
-    let row = replicate (n - 1) zero-name in
-    let more = after first (beginnings row) in
-    let size : length more ≡ suc (n - 1) =
-    length-map (beginnings row) (λ (w : Word). first ∷ w) ∙ beginnings-length row ∙ ap suc (length-replicate (n - 1) zero-name) in
-    ap (λ (grown : List Word). length (withRows grown (rowsFrom (suc first) lengths))) (row-added first row nodes below)
-    ∙ rows-added (suc first) lengths (nodes ++ more) (row-below first row nodes below)
+    (rows nodes : List Word) → DifferentFirsts rows → Free (map (λ (row : Word). getD row 0 0) rows) nodes →
+    length (withRows nodes rows) ≡ length nodes + entriesOf rows
+unfolding withRows entriesOf
+rows-added [] nodes firsts open-to = omega arith
+rows-added ([] ∷ rows) nodes firsts open-to = absurd (firsts .some-entry (here refl))
+rows-added ((x ∷ row) ∷ rows) nodes firsts open-to =
+    let others = map (λ (r : Word). getD r 0 0) rows in
+    let more = after x (beginnings row) in
+    let size : length more ≡ suc (length row) = length-map (beginnings row) (λ (w : Word). x ∷ w) ∙ beginnings-length row in
+    let rest : DifferentFirsts rows =
+    record { some-entry = λ m. firsts .some-entry (there m); different = firsts .different .1 } in
+    ap (λ (grown : List Word). length (withRows grown rows)) (row-added x others row nodes open-to)
+    ∙ rows-added rows (nodes ++ more) rest (still-free x others row nodes open-to (firsts .different .0))
     ∙ omega (arith, length-append nodes more, size)
 
 -- the prefix tree has the root besides
-pub different-firsts-size : (lengths : List ℕ) → length (treeOf (rowsFrom 0 lengths)) ≡ 1 + statesFor lengths
+pub different-firsts-states : (rows : List Word) → DifferentFirsts rows → length (treeOf rows) ≡ 1 + entriesOf rows
 unfolding treeOf
-different-firsts-size lengths =
-    rows-added 0 lengths ([] ∷ [])
-    (record { root = here refl; low = λ x w low m. cons≢nil (List·Memᴰ·eq-of-singleton m) })
+different-firsts-states rows firsts =
+    rows-added rows ([] ∷ []) firsts
+    (record { root = here refl; free = λ x w n m. cons≢nil (List·Memᴰ·eq-of-singleton m) })

@@ -1,14 +1,14 @@
--- The edges hold: what computes, P2's table and rows of any length, walks over any table, and the theorem. Assumes nothing.
+-- The edges hold: what computes; books; P2's table and rows of any length; walks over any table; and the theorem. Assumes nothing.
 use mathlib.Core.Path.{_≡_, refl, ap, _∙_}
 use mathlib.Core.Bool.{Bool, true, false, _&&_, not}
-use mathlib.Core.List.{List, [], _∷_, _++_, flatMap}
+use mathlib.Core.List.{List, [], _∷_, map, flatMap}
 use Prim.Native.Nat.{ℕ, zero, suc, _+_, _<_}
 use native.Mathlib.Omega.{arith}
-use borrow.Author.Tests.{lt-leb, eq-eqb}
-use lib.Dec.{eqb, leb, ltb}
-use lib.ListN.{length, replicate, length-replicate}
-use Rattle.base.specs.Lists.{any, all, filterBy, numbersFrom, same, hasRow, before, lastOr}
-use Rattle.base.specs.Limits.{row-limit, state-limit, input-limit, bad-row, tree-too-large, when}
+use borrow.Author.Tests.{lt-leb, eq-eqb, leb-true}
+use lib.Dec.{eqb, leb}
+use lib.ListN.{length, getD, replicate, length-replicate}
+use Rattle.base.specs.Lists.{any, all, filterBy, numbersFrom, same, hasRow, before, lastOr, Distinct}
+use Rattle.base.specs.Limits.{row-limit, input-limit, bad-row, firstOf, when}
 use Rattle.model.specs.Fields.{standard, rowOk, readBook, readTable}
 use Rattle.model.specs.Fields.{nameOk, allBelow, above, nameFault, classFault, rowFault, stateFault, stateOk, arcsOk}
 use Rattle.model.specs.Fields.{fieldFault, withField, readFrom, readWith}
@@ -16,16 +16,18 @@ use Rattle.model.specs.Tables.{State, state, arc, walk-at}
 use Rattle.model.specs.Tables.{fieldBytes, nameFields, classField, rowFields, arcBytes, stateBody, stateFields, tableBytes, arcsIn}
 use Rattle.model.specs.Tables.{stateIn, statesIn, metByArcs, metByStates, isFirstMet, targetIn, walkFrom, walk}
 use Rattle.model.specs.Tables.{reachedState, admits}
+use Rattle.model.specs.Classes.{Word}
 use Rattle.model.specs.Joinings.{beginnings, withStates, withRows, treeOf}
-use Rattle.model.specs.Calls.{bookOf, bookFault, tableOf, tableFault, tableStates, walkFault}
+use Rattle.model.specs.Calls.{WithWork, bookOf, treeFault, bookFault, buildFault, tableOf, tableFault, tableStates}
+use Rattle.model.specs.Calls.{walkFault}
 use Rattle.model.specs.Claims.{allAmong}
 use Rattle.model.specs.WorkedDays.{P2, s}
-use Rattle.model.specs.Classes.{Word}
-use Rattle.model.specs.Edges.{snacks, dayBook, P2-table, chainFrom, long-chain, rowsFrom, thirteenRows, thirteenBook, WithWork}
-use Rattle.model.specs.Edges.{EdgesClaimed}
-use Rattle.base.proofs.Tests.{tells-itself, tells-eqb, tells-leb, tells-and}
-use Rattle.model.proofs.DifferentFirsts.{statesFor, different-firsts-size}
-use Rattle.model.proofs.CallLaws.{table-accepted, walk-judged}
+use Rattle.model.specs.Edges.{snacks, dayBook, P2-table, chainFrom, long-chain, entriesOf, thirteenRows}
+use Rattle.model.specs.Edges.{thirteenBook, EdgesClaimed}
+use Rattle.base.proofs.Tests.{not-told, tells-itself, tells-eqb, tells-leb, tells-and, tells-hasRow}
+use Rattle.base.proofs.Places.{numbersFrom-in}
+use Rattle.model.proofs.DifferentFirsts.{different-firsts-states}
+use Rattle.model.proofs.CallLaws.{sizes-none, table-accepted, walk-judged}
 use Rattle.model.proofs.Reading.{accepted-row}
 use Rattle.model.proofs.WorkedDays.{P2-table-is}
 use Rattle.model.proofs.Walkable.{walkable, walkableTo, onlyThese, admits-only}
@@ -40,17 +42,20 @@ two-states = state false (arc s 1 ∷ []) ∷ state true (arc s 1 ∷ []) ∷ []
 isGood : List ℕ → Bool
 isGood table = leb (length table) input-limit && (eqb (readTable table .number) 0 && isFirstMet (tableStates table))
 
--- a book is read without a fault, and its rows are these
-record ReadAs (s : List ℕ) (rows : List Word) : Type 0 where
-  number-is : readBook standard s .number ≡ 0
-  rows-are : bookOf standard s .items ≡ rows
+-- a book that is not too long, is read without a fault, and whose rows are the thirteen
+record ThirteenRead (last : ℕ) : Type 0 where
+  short : leb (length (thirteenBook last)) input-limit ≡ true
+  number-is : readBook standard (thirteenBook last) .number ≡ 0
+  rows-are : bookOf standard (thirteenBook last) .items ≡ thirteenRows last
+  none-empty : hasRow [] (thirteenRows last) ≡ false
+  firsts-are : map (λ (row : Word). getD row 0 0) (thirteenRows last) ≡ numbersFrom 13 0
 
 record Computed : Type 0 where
   -- books
-  row-passes : bookFault standard (dayBook (snacks 40 ∷ [])) ≡ 0
-  row-refused : bookFault standard (dayBook (snacks 41 ∷ [])) ≡ bad-row
-  read-31 : ReadAs (thirteenBook 31) (thirteenRows 31)
-  read-32 : ReadAs (thirteenBook 32) (thirteenRows 32)
+  row-of-40 : (leb (length (dayBook (snacks 40 ∷ []))) input-limit ≡ true) × (bookFault standard (dayBook (snacks 40 ∷ [])) ≡ 0)
+  row-of-41 : (leb (length (dayBook (snacks 41 ∷ []))) input-limit ≡ true) × (bookFault standard (dayBook (snacks 41 ∷ [])) ≡ bad-row)
+  last-of-31 : ThirteenRead 31
+  last-of-32 : ThirteenRead 32
   -- P2's table: it is good, its states, and a row that a walk over it takes
   P2-good : isGood (P2 .table-is) ≡ true
   P2-states : tableStates (P2 .table-is) ≡ two-states
@@ -63,14 +68,13 @@ computed : Computed
 unfolding isGood flatMap walkable walkableTo onlyThese allAmong any all filterBy numbersFrom same hasRow before lastOr nameOk allBelow
     above nameFault classFault rowFault stateFault stateOk arcsOk fieldFault withField readFrom readWith fieldBytes nameFields
     classField rowFields arcBytes stateBody stateFields tableBytes arcsIn stateIn statesIn metByArcs metByStates isFirstMet
-    targetIn walkFrom walk reachedState admits beginnings withStates withRows treeOf bookOf bookFault tableOf tableStates
-    chainFrom rowsFrom
+    targetIn walkFrom walk reachedState admits beginnings withStates withRows treeOf bookOf bookFault tableOf tableStates chainFrom
 computed =
     record {
-      row-passes = refl;
-      row-refused = refl;
-      read-31 = record { number-is = refl; rows-are = refl };
-      read-32 = record { number-is = refl; rows-are = refl };
+      row-of-40 = (refl, refl);
+      row-of-41 = (refl, refl);
+      last-of-31 = record { short = refl; number-is = refl; rows-are = refl; none-empty = refl; firsts-are = refl };
+      last-of-32 = record { short = refl; number-is = refl; rows-are = refl; none-empty = refl; firsts-are = refl };
       P2-good = refl;
       P2-states = refl;
       P2-passes = refl;
@@ -80,16 +84,33 @@ computed =
 
 -- ---- books
 
--- the thirteen rows need a state for each entry, and the root
-thirteen-size : (last : ℕ) → length (treeOf (thirteenRows last)) ≡ 1 + statesFor (replicate 12 40 ++ (last ∷ []))
-thirteen-size last = different-firsts-size (replicate 12 40 ++ (last ∷ []))
+-- a book that is not too long is judged by its fields and its tree
+book-judged : (book : List ℕ) → leb (length book) input-limit ≡ true → WithWork (buildFault standard book) (bookFault standard book)
+unfolding buildFault
+book-judged book short work enough =
+    ap (λ (n : ℕ). firstOf n (bookFault standard book))
+    (sizes-none book work (record { input-fits = leb-true (length book) input-limit short; work-fits = enough }))
 
--- a book that is read is judged by the size of its tree
-tree-judged :
-    (s : List ℕ) (rows : List Word) (n : ℕ) → ReadAs s rows → length (treeOf rows) ≡ n →
-    bookFault standard s ≡ when (ltb state-limit n) tree-too-large
+-- numbers in a row are different
+numbers-distinct : (n i : ℕ) → Distinct (numbersFrom n i)
+unfolding numbersFrom
+numbers-distinct zero i = tt
+numbers-distinct (suc n) i = (λ m. omega (arith, numbersFrom-in n (suc i) i m .0), numbers-distinct n (suc i))
+
+-- the thirteen rows need a state for each entry, and the root
+thirteen-size : (last : ℕ) → ThirteenRead last → length (treeOf (thirteenRows last)) ≡ 1 + entriesOf (thirteenRows last)
+thirteen-size last read =
+    different-firsts-states (thirteenRows last)
+    (record {
+      some-entry = not-told (tells-hasRow [] (thirteenRows last)) (read .none-empty);
+      different = rw (read .firsts-are) (numbers-distinct 13 0);
+    })
+
+-- and their book is judged by that
+thirteen-judged : (last : ℕ) → ThirteenRead last → WithWork (buildFault standard (thirteenBook last)) (treeFault (thirteenRows last))
 unfolding bookFault
-tree-judged s rows n read size = rw (read .number-is, read .rows-are, size)
+thirteen-judged last read work enough =
+    book-judged (thirteenBook last) (read .short) work enough ∙ rw (read .number-is, read .rows-are)
 
 -- ---- P2's table
 
@@ -99,7 +120,7 @@ unfolding walkFrom targetIn
 snacks-walked zero k = ap (walk-at 1) (omega arith)
 snacks-walked (suc n) k = snacks-walked n (suc k) ∙ ap (walk-at 1) (omega arith)
 
--- so any number of them is admitted, but none
+-- so every number of them from 1 on is admitted
 snacks-admitted : (n : ℕ) → admits (tableStates P2-table) (snacks (suc n)) ≡ true
 unfolding admits reachedState walk walkFrom targetIn
 snacks-admitted n =
@@ -131,11 +152,14 @@ walk-bounded table row work ok long = walk-judged table row work ok ∙ rw (lt-l
 -- ---- the theorem
 
 pub edges-hold : EdgesClaimed
+unfolding numbersFrom entriesOf
 edges-hold =
     record {
-      row-passes = computed .row-passes;
-      row-refused = computed .row-refused;
-      rows-bounded = λ settings allowed s ok r m. accepted-row settings allowed s ok r m .0;
+      row-passes = λ work enough.
+          book-judged (dayBook (snacks 40 ∷ [])) (computed .row-of-40 .0) work enough ∙ computed .row-of-40 .1;
+      row-refused = λ work enough.
+          book-judged (dayBook (snacks 41 ∷ [])) (computed .row-of-41 .0) work enough ∙ computed .row-of-41 .1;
+      rows-bounded = λ settings allowed book ok row m. accepted-row settings allowed book ok row m .0;
       walk-passes = λ work enough. P2-walk (snacks 40) work enough ∙ rw (computed .P2-passes);
       walk-refused = λ work enough. P2-walk (snacks 41) work enough;
       walk-bounded = walk-bounded;
@@ -143,7 +167,10 @@ edges-hold =
       any-number = snacks-admitted;
       chain-accepted = good-accepted long-chain (computed .chain-good);
       chain-admits = admits-only (tableStates long-chain) 41 (replicate 41 0 ∷ []) (computed .chain-only);
-      tree-size = thirteen-size 31;
-      tree-passes = tree-judged (thirteenBook 31) (thirteenRows 31) 512 (computed .read-31) (thirteen-size 31);
-      tree-refused = tree-judged (thirteenBook 32) (thirteenRows 32) 513 (computed .read-32) (thirteen-size 32);
+      tree-states = different-firsts-states;
+      thirteen-states = thirteen-size 31 (computed .last-of-31);
+      thirteen-pass = λ work enough.
+          thirteen-judged 31 (computed .last-of-31) work enough ∙ rw (thirteen-size 31 (computed .last-of-31));
+      thirteen-refused = λ work enough.
+          thirteen-judged 32 (computed .last-of-32) work enough ∙ rw (thirteen-size 32 (computed .last-of-32));
     }

@@ -12,11 +12,10 @@ use Rattle.model.specs.Tables.{State, fieldBytes, nameFields, classField
 use Rattle.model.specs.Tables.{isFirstMet}
 use Rattle.model.specs.Calls.{bookOf, sizesFault, tableStates, tableFault, rewritten}
 use Rattle.model.specs.Claims.{Accepted, AllBytes}
-use Rattle.base.proofs.Tests.{tells-leb, tells-and}
 use Rattle.model.proofs.Writable.{Writable, arcCount}
 use Rattle.model.proofs.FieldLaws.{first-of}
 use Rattle.model.proofs.StateBodies.{body-ok}
-use Rattle.model.proofs.Books.{accepted-book, tells-allBelow}
+use Rattle.model.proofs.Books.{accepted-book, tells-rowOk}
 use Rattle.model.proofs.ReadBack.{reads-table}
 use Rattle.model.proofs.WrittenLengths.{name-fields-length, names-few, state-fields-length}
 use Rattle.model.proofs.Rewriting.{bytes-of, rewritten-same}
@@ -37,9 +36,7 @@ module _ (settings : Settings) (allowed : Allowed settings) where
   pub accepted-row :
       (s : List ℕ) → Accepted settings s → (r : List ℕ) → In r (bookOf settings s .items) →
       (length r ≤ row-limit) × ((a : ℕ) → In a r → a < length (bookOf settings s .names))
-  accepted-row s ok r m =
-      tells-and (tells-leb (length r) row-limit) (tells-allBelow (length (bookOf settings s .names)) r) .fact
-      (accepted-book settings allowed s ok .1 .rows-ok r m)
+  accepted-row s ok r m = tells-rowOk (length (bookOf settings s .names)) r .fact (accepted-book settings allowed s ok .1 .rows-ok r m)
 
   -- a table with the book's names and class, and states that can be written, is read back
   pub reads-written :

@@ -10,12 +10,11 @@ use Rattle.base.specs.Lists.{all, any, same, hasRow, before, lastOr}
 use Rattle.base.specs.Limits.{input-limit, work-bytes, too-many, bad-row}
 use Rattle.model.specs.Fields.{nameOk, nameNumber, above, nameFault, fieldFault, withField, readFrom, readWith}
 use Rattle.model.specs.Tables.{fieldBytes, nameFields}
-use Rattle.model.specs.Calls.{sizesFault}
+use Rattle.model.specs.Calls.{WithWork, sizesFault}
 use Rattle.written_plans.specs.Reading.{readPlan, readPlanFrom, beginsName, step, met, tagFault, isChild, ended}
 use Rattle.written_plans.specs.Reading.{afterName, afterEnd, endBegins, rowsIn, rowAfter, rowsShort, rowsFault}
 use Rattle.written_plans.specs.Calls.{planReading, planRows, askedFault, planFault}
 use Rattle.model.specs.WorkedDays.{sameRows}
-use Rattle.model.specs.Edges.{WithWork}
 use Rattle.written_plans.specs.WorkedPlans.{times, holds, examples, dayOf, plan-names, WorkedPlansHold}
 use Rattle.model.proofs.CallLaws.{sizes-none}
 

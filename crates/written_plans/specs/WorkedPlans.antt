@@ -11,7 +11,7 @@ use Rattle.base.specs.Lists.{all}
 use Rattle.base.specs.Limits.{too-many, bad-row}
 use Rattle.model.specs.Tables.{nameFields}
 use Rattle.model.specs.WorkedDays.{sameRows}
-use Rattle.model.specs.Edges.{WithWork}
+use Rattle.model.specs.Calls.{WithWork}
 use Rattle.written_plans.specs.Reading.{readPlan, entryOf, rowsIn, rowsFault}
 use Rattle.written_plans.specs.Calls.{planFault}
 

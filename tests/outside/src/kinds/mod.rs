@@ -63,7 +63,7 @@ pub const KINDS: &[Kind] = &[
     kind("plans and lists of 65,535 and 65,536 bytes", 5, plan_sizes::longest),
     kind("plans with names of 31 to 33 bytes", 15, plan_sizes::name_lengths),
     kind("plans of 14 to 18 levels", 50, plan_sizes::depths),
-    kind("plans of 255 to 257 rows, of 39 to 41 entries, and of 256 rows of 40", 10, plan_sizes::row_limits),
+    kind("plans of 255 to 257 rows, of 39 to 41 entries and far more, and of 256 rows of 40", 10, plan_sizes::row_limits),
     kind("plans with lists of 1 to 65 names", 10, plan_sizes::name_counts),
     #[cfg(expat)]
     kind("plans that expat accepts too: the same rows", 30, parsers::accepted),

@@ -2,7 +2,7 @@
 
 use crate::comparing::{Mismatch, Run};
 use crate::damage::any_bytes;
-use crate::drawing::{draw_name, draw_names};
+use crate::drawing::{draw_name, draw_names, TOO_LONG};
 use crate::planning::{draw_plan, draw_small_plan, draw_text_byte, element, empty, near_names, nested, Plan, Text};
 use reference::fields::{CLASS, NAME, NAMES_LIMIT, NAME_LENGTH_LIMIT, ROW, ROWS_LIMIT, ROW_LIMIT};
 use reference::plan_rows::LEVELS_LIMIT;
@@ -142,14 +142,14 @@ fn draw_levels(random: &mut Random, plan: &Plan, depth: usize, inside: &[u8]) ->
     bytes
 }
 
-/// 255 to 257 rows, rows of 39 to 41 entries, and both together; with a fault behind them, and with outputs too short.
+/// 255 to 257 rows, one of them of 39 to 41 entries or far too long; with a fault behind them, and with outputs too short.
 pub fn row_limits(run: &mut Run) -> Result<(), Mismatch> {
     let names = draw_names(&mut run.random, 2);
     let chosen = run.random.below(2);
     let plan = Plan { bytes: vec![], names, chosen };
     let list = plan.list();
     for rows in ROWS_LIMIT - 1..=ROWS_LIMIT + 1 {
-        for entries in ROW_LIMIT - 1..=ROW_LIMIT + 1 {
+        for entries in (ROW_LIMIT - 1..=ROW_LIMIT + 1).chain(TOO_LONG) {
             let days = draw_days(&mut run.random, &plan, rows, entries);
             let whole = element(b"_none", &days);
             run.compare_rows(plan.ask(&whole, &list))?;
