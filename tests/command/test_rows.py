@@ -219,7 +219,8 @@ class Refused(InFolder):
         smaller = "take a smaller element, such as a meal in place of a day"
         said = [
             "one: 2 rows", "two: 71 names",
-            "three:2:1: refusal 14: an & stands in the text, and a plan's text has none: write it in words, such as 'and'", "four:2:3: refusal 15: a stands inside 16 other elements: at most 15 are allowed; nest less deeply",
+            "three:2:1: refusal 14: an & stands in the text, and a plan's text has none: write it in words, such as 'and'",
+            "four:2:3: refusal 15: a stands inside 16 other elements: at most 15 are allowed; nest less deeply",
             "five: 0 rows: it has no element day",
             "six:2:1: refusal 7: over 256 elements day in one plan: at most 256 rows are allowed; divide the plan, or take some out",
             "seven: 71 names", "eight: refusal 1: the plan is over 65,535 bytes: give it in parts, each with one outermost element",
