@@ -1,6 +1,6 @@
 //! The books that are timed.
 
-use crate::book::{short_names, Book, Class, CLASSES, ROW_LENGTH, ROW_LIMIT, STATE_LIMIT};
+use crate::book::{short_names, Book, Class, BOOK_ROWS, CLASSES, ROW_LIMIT, STATE_LIMIT};
 use crate::random::Random;
 use std::collections::HashSet;
 use std::fs;
@@ -35,7 +35,7 @@ impl Gathered {
     }
 
     fn is_full(&self) -> bool {
-        self.beginnings.len() == self.limit || self.rows.len() == ROW_LIMIT
+        self.beginnings.len() == self.limit || self.rows.len() == BOOK_ROWS
     }
 
     /// Adds the row if its states fit.
@@ -113,7 +113,7 @@ pub fn nearly_one_name() -> Book {
     let mut rows: Vec<Vec<u8>> = Vec::new();
     let mut left = STATE_LIMIT - 1;
     while left > 0 {
-        let mut row = vec![0; left.min(ROW_LENGTH)];
+        let mut row = vec![0; left.min(ROW_LIMIT)];
         left -= row.len();
         row[0] = 1 + rows.len() as u8;
         rows.push(row);

@@ -1,7 +1,7 @@
 //! The bench: every case compared and timed, growth, plans, stack, and the bars.
 
 use crate::bars::{Bar, Bars};
-use crate::book::{Book, Class, CLASSES, ROW_LENGTH};
+use crate::book::{Book, Class, CLASSES, ROW_LIMIT};
 use crate::cases;
 use crate::measure::{Effort, Times};
 use crate::readings::Readings;
@@ -86,7 +86,7 @@ fn walks(sides: &mut Sides) -> Result<[Case; 2], String> {
     let (_, table) = sides.build(&days.bytes())?;
     Ok([
         Case::walk("walk of 10, typical", table.to_vec(), days.rows[0].clone(), &[]),
-        Case::walk("walk of 40, 512 states", cases::chain_table(), vec![0; ROW_LENGTH], &[Bar::Walk]),
+        Case::walk("walk of 40, 512 states", cases::chain_table(), vec![0; ROW_LIMIT], &[Bar::Walk]),
     ])
 }
 

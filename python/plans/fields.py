@@ -7,8 +7,8 @@ from typing import Dict, Iterable, Iterator, List, Optional, Sequence, Tuple, Un
 INPUT_LIMIT = 65535
 NAME_LIMIT = 64
 NAME_BYTES = 32
-ROW_LIMIT = 256
-ENTRY_LIMIT = 40
+BOOK_ROWS = 256
+ROW_LIMIT = 40
 STATE_LIMIT = 512
 SETTING_LIMIT = 8
 
@@ -133,14 +133,14 @@ def name_fault(names: Sequence[bytes], name: bytes) -> int:
 
 
 def row_fault(names: int, before: int, body: bytes) -> int:
-    if before == ROW_LIMIT:
+    if before == BOOK_ROWS:
         return 7
-    return 9 if len(body) > ENTRY_LIMIT or any(entry >= names for entry in body) else 0
+    return 9 if len(body) > ROW_LIMIT or any(entry >= names for entry in body) else 0
 
 
 def bad_row(names: int, before: int, body: bytes) -> str:
     """Which of the faults of 9 a row has."""
-    if len(body) > ENTRY_LIMIT:
+    if len(body) > ROW_LIMIT:
         return f"row {before + 1} has {len(body)} entries"
     return f"row {before + 1} has the entry {next(entry for entry in body if entry >= names)}, which is no name's number"
 

@@ -7,7 +7,7 @@ from reference import Sample
 FIRST = "ABCXYZabcxyz_:"
 LATER = FIRST + "0189.-"
 STATE_LIMIT = 512
-ROW_LIMIT = 256
+BOOK_ROWS = 256
 
 
 def a_name(draw: random.Random) -> str:
@@ -44,7 +44,7 @@ def a_small_sample(draw: random.Random) -> Sample:
 def with_copies(draw: random.Random, sample: Sample) -> Sample:
     """The sample with some of its rows repeated, and all in another order."""
     rows = list(sample.rows)
-    rows += draw.choices(rows, k=min(draw.choice([0, 1, 2, 30]), ROW_LIMIT - len(rows)))
+    rows += draw.choices(rows, k=min(draw.choice([0, 1, 2, 30]), BOOK_ROWS - len(rows)))
     draw.shuffle(rows)
     return sample._replace(rows=tuple(rows))
 

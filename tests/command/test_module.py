@@ -12,8 +12,8 @@ import unittest
 from pathlib import Path
 
 import plans
+from plans import fields as limits
 from plans import library
-from plans.fields import ENTRY_LIMIT, INPUT_LIMIT, NAME_BYTES, NAME_LIMIT, ROW_LIMIT, SETTING_LIMIT, STATE_LIMIT
 from plans.plan_files import DEPTH_LIMIT
 from reference import book_bytes, joined, listing, states_of, table_bytes, walked
 from samples import a_sample, a_small_sample, book_of, damaged
@@ -182,9 +182,10 @@ class Layouts(unittest.TestCase):
         self.assertEqual(fields, {name: [part for part, _ in layout._fields_] for name, layout in LAYOUTS.items()})
         calls = {name: result for result, name in re.findall(r"^(plans_\w+) (plans_\w+)\(", header, re.M)}
         self.assertEqual({name: LAYOUTS[result] for name, result in calls.items()}, library.RESULTS)
-        for name, size in [("WORK_BYTES", library.WORK_BYTES), ("LISTING_BYTES", library.LISTING_BYTES), ("INPUT_LIMIT", INPUT_LIMIT),
-                           ("NAME_LIMIT", NAME_LIMIT), ("NAME_BYTES", NAME_BYTES), ("BOOK_ROWS", ROW_LIMIT), ("ROW_LIMIT", ENTRY_LIMIT),
-                           ("STATE_LIMIT", STATE_LIMIT), ("SETTING_LIMIT", SETTING_LIMIT), ("PLAN_DEPTH", DEPTH_LIMIT)]:
+        sizes = {"WORK_BYTES": library.WORK_BYTES, "LISTING_BYTES": library.LISTING_BYTES, "PLAN_DEPTH": DEPTH_LIMIT}
+        for name in ("INPUT_LIMIT", "NAME_LIMIT", "NAME_BYTES", "BOOK_ROWS", "ROW_LIMIT", "STATE_LIMIT", "SETTING_LIMIT"):
+            sizes[name] = getattr(limits, name)
+        for name, size in sizes.items():
             self.assertIn(f"#define PLANS_{name} {size}\n", header)
         self.assertIn("#define PLANS_ROWS_BYTES (PLANS_BOOK_ROWS * (3 + PLANS_ROW_LIMIT))\n", header)
         self.assertEqual(library.ROWS_BYTES, 256 * (3 + 40))
