@@ -113,8 +113,8 @@ with-row f body high fits ok =
 
 -- so it does after any field without a fault, in a kind of file that takes no states
 pub book-step :
-    (kind : FileKind) → takesStates kind ≡ false → (f : File) (mark : ℕ) (body : List ℕ) → Fitting kind f mark body → BookOk f →
-    BookOk (withField f mark body)
+    (kind : FileKind) → takesStates kind ≡ false → (f : File) (mark : ℕ) (body : List ℕ) → Fitting kind f mark body →
+    BookOk f → BookOk (withField f mark body)
 book-step kind none f mark body (a-name e low fits) ok =
     subst (λ (m : ℕ). BookOk (withField f m body)) (sym e) (with-name f body low fits ok)
 book-step kind none f mark body (a-class k e at fits) ok =

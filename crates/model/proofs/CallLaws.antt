@@ -96,7 +96,8 @@ seen-as f c outs outs′ r gives =
 
 module _ {A : Type 0} {c : Call A} {outs outs′ : List (List ℕ)} {r : A} (gives : Gives c outs outs′ r) where
   -- the answer tells the refusal where that of a refused call does, and that of an accepted one tells none
-  pub refusal-is : (tells : A → ℕ) → ((k : ℕ) → tells (c .none k) ≡ k) → tells (c .answer) ≡ 0 → tells r ≡ faultWith c outs
+  pub refusal-is :
+      (tells : A → ℕ) → ((k : ℕ) → tells (c .none k) ≡ k) → tells (c .answer) ≡ 0 → tells r ≡ faultWith c outs
   refusal-is tells none accepted = ap tells (gives .answer-is) ∙ go (faultWith c outs)
     where
       go : (k : ℕ) → tells (unless k (c .none k) (c .answer)) ≡ k
@@ -126,7 +127,9 @@ pub fault-roomy :
     faultWith c outs ≡ c .refusal
 fault-roomy c outs room = go (c .refusal) room
   where
-    go : (k : ℕ) → (k ≡ 0 → tooShort (c .writes) outs ≡ false) → firstOf k (when (tooShort (c .writes) outs) output-too-short) ≡ k
+    go :
+        (k : ℕ) → (k ≡ 0 → tooShort (c .writes) outs ≡ false) →
+        firstOf k (when (tooShort (c .writes) outs) output-too-short) ≡ k
     go zero room = ap (λ (b : Bool). when b output-too-short) (room refl)
     go (suc k) room = refl
 
@@ -168,7 +171,8 @@ module _ (input work : List ℕ) where
 
 -- a table of sizes that fit is accepted where it is read without a fault and numbered first-met
 pub table-accepted :
-    (s work : List ℕ) → SizesFit s work → readTable s .number ≡ 0 → isFirstMet (tableStates s) ≡ true → tableFault s work ≡ 0
+    (s work : List ℕ) → SizesFit s work → readTable s .number ≡ 0 → isFirstMet (tableStates s) ≡ true →
+    tableFault s work ≡ 0
 unfolding tableFault
 table-accepted s work fit read met = rw (sizes-none s work fit, read, met)
 
@@ -179,7 +183,8 @@ table-sizes s work none = sizes-fit s work (first-of (sizesFault s work) _ none 
 
 -- over an accepted table only the row is judged
 pub walk-judged :
-    (s row work : List ℕ) → tableFault s work ≡ 0 → walkFault s row work ≡ when (not (rowOk (length (tableOf s .names)) row)) bad-row
+    (s row work : List ℕ) → tableFault s work ≡ 0 →
+    walkFault s row work ≡ when (not (rowOk (length (tableOf s .names)) row)) bad-row
 unfolding walkFault
 walk-judged s row work ok = ap (λ (n : ℕ). firstOf n (when (not (rowOk (length (tableOf s .names)) row)) bad-row)) ok
 
@@ -221,7 +226,8 @@ module _ {A : Type 0} (c : Call A) (bytes out : List ℕ) (one : c .writes ≡ b
 
   -- what a call that is not refused left in its output
   pub one-wrote :
-      (out′ : List ℕ) (r : A) → Gives c (out ∷ []) (out′ ∷ []) r → faultWith c (out ∷ []) ≡ 0 → out′ ≡ over bytes out
+      (out′ : List ℕ) (r : A) → Gives c (out ∷ []) (out′ ∷ []) r → faultWith c (out ∷ []) ≡ 0 →
+      out′ ≡ over bytes out
   unfolding fronts
   one-wrote out′ r gives accepted =
       ap (λ (l : List (List ℕ)). getD l 0 []) (wrote gives accepted ∙ ap (λ (ws : List (List ℕ)). fronts ws (out ∷ [])) one)

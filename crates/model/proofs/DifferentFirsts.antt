@@ -50,7 +50,8 @@ beginnings-length (x ∷ row) = ap suc (length-map (beginnings row) (λ (w : Wor
 -- ---- states added
 
 -- different words, none of which is there yet, are all added
-all-added : (nodes ws : List Word) → Distinct ws → ((w : Word) → In w ws → In w nodes → ⊥) → withStates nodes ws ≡ nodes ++ ws
+all-added :
+    (nodes ws : List Word) → Distinct ws → ((w : Word) → In w ws → In w nodes → ⊥) → withStates nodes ws ≡ nodes ++ ws
 unfolding withStates
 all-added nodes [] d new = sym (append-nil nodes)
 all-added nodes (w ∷ ws) d new =

@@ -42,6 +42,11 @@ two-states = state false (arc s 1 ∷ []) ∷ state true (arc s 1 ∷ []) ∷ []
 isGood : List ℕ → Bool
 isGood table = leb (length table) input-limit && (eqb (readTable table .number) 0 && isFirstMet (tableStates table))
 
+-- a book that is not too long comes to this refusal, or to 0
+record IsJudged (book : List ℕ) (number : ℕ) : Type 0 where
+  short : leb (length book) input-limit ≡ true
+  fault-is : bookFault standard book ≡ number
+
 -- a book that is not too long, is read without a fault, and whose rows are the thirteen
 record ThirteenRead (last : ℕ) : Type 0 where
   short : leb (length (thirteenBook last)) input-limit ≡ true
@@ -52,8 +57,8 @@ record ThirteenRead (last : ℕ) : Type 0 where
 
 record Computed : Type 0 where
   -- books
-  row-of-40 : (leb (length (dayBook (snacks 40 ∷ []))) input-limit ≡ true) × (bookFault standard (dayBook (snacks 40 ∷ [])) ≡ 0)
-  row-of-41 : (leb (length (dayBook (snacks 41 ∷ []))) input-limit ≡ true) × (bookFault standard (dayBook (snacks 41 ∷ [])) ≡ bad-row)
+  row-of-40 : IsJudged (dayBook (snacks 40 ∷ [])) 0
+  row-of-41 : IsJudged (dayBook (snacks 41 ∷ [])) bad-row
   last-of-31 : ThirteenRead 31
   last-of-32 : ThirteenRead 32
   -- P2's table: it is good, its states, and a row that a walk over it takes
@@ -71,8 +76,8 @@ unfolding isGood flatMap walkable walkableTo onlyThese allAmong any all filterBy
     targetIn walkFrom walk reachedState admits beginnings withStates withRows treeOf bookOf bookFault tableOf tableStates chainFrom
 computed =
     record {
-      row-of-40 = (refl, refl);
-      row-of-41 = (refl, refl);
+      row-of-40 = record { short = refl; fault-is = refl };
+      row-of-41 = record { short = refl; fault-is = refl };
       last-of-31 = record { short = refl; number-is = refl; rows-are = refl; none-empty = refl; firsts-are = refl };
       last-of-32 = record { short = refl; number-is = refl; rows-are = refl; none-empty = refl; firsts-are = refl };
       P2-good = refl;
@@ -156,9 +161,9 @@ unfolding numbersFrom entriesOf
 edges-hold =
     record {
       row-passes = λ work enough.
-          book-judged (dayBook (snacks 40 ∷ [])) (computed .row-of-40 .0) work enough ∙ computed .row-of-40 .1;
+          book-judged (dayBook (snacks 40 ∷ [])) (computed .row-of-40 .short) work enough ∙ computed .row-of-40 .fault-is;
       row-refused = λ work enough.
-          book-judged (dayBook (snacks 41 ∷ [])) (computed .row-of-41 .0) work enough ∙ computed .row-of-41 .1;
+          book-judged (dayBook (snacks 41 ∷ [])) (computed .row-of-41 .short) work enough ∙ computed .row-of-41 .fault-is;
       rows-bounded = λ settings allowed book ok row m. accepted-row settings allowed book ok row m .0;
       walk-passes = λ work enough. P2-walk (snacks 40) work enough ∙ rw (computed .P2-passes);
       walk-refused = λ work enough. P2-walk (snacks 41) work enough;

@@ -24,7 +24,8 @@ pub row-field-length : (row : List ℕ) → length (fieldBytes row-mark row) ≡
 unfolding fieldBytes
 row-field-length row = omega arith
 
-pub row-fields-length : (row : List ℕ) (rows : List (List ℕ)) → length (rowFields (row ∷ rows)) ≡ 3 + length row + length (rowFields rows)
+pub row-fields-length :
+    (row : List ℕ) (rows : List (List ℕ)) → length (rowFields (row ∷ rows)) ≡ 3 + length row + length (rowFields rows)
 row-fields-length row rows =
     rw (row-fields-next row rows) (omega (arith, length-append (fieldBytes row-mark row) (rowFields rows), row-field-length row))
 

@@ -1,6 +1,6 @@
 -- Worked plans (docs/SCOPE.md, sections 10.1 and 11): plans and bytes that are none, each with what reading it comes to, and one test that
--- compares it with what the definitions compute; and the longest row, with one that is longer. The names are day, lunch and snack, and day is
--- chosen. `worked-plans-hold` of proofs/WorkedPlans.antt proves it. Bytes are hexadecimal. Assumes nothing.
+-- compares it with what the definitions compute; and the longest row, with one that is longer. The names are day, lunch and snack, and
+-- day is chosen. `worked-plans-hold` of proofs/WorkedPlans.antt proves it. Bytes are hexadecimal. Assumes nothing.
 use mathlib.Core.Path.{_≡_}
 use mathlib.Core.Bool.{Bool, true, _&&_, cond}
 use mathlib.Core.List.{List, [], _∷_, _++_, map}
