@@ -33,7 +33,7 @@ extern "C" {
 #endif
 
 /* The version of this header and of the library beside it. scripts/header writes this line from the file VERSION. */
-#define PLANS_VERSION "2.0.0"
+#define PLANS_VERSION "3.0.0"
 
 /* The least length of a working area, in bytes. */
 #define PLANS_WORK_BYTES 65536
@@ -47,16 +47,17 @@ extern "C" {
 /* A text of so many bytes is long enough for the listing of every book (proved). */
 #define PLANS_LISTING_BYTES 32768
 
-/* An output of so many bytes is long enough for the rows of every plan (proved): 256 rows, each of 3 bytes and up to 64 entries. */
-#define PLANS_ROWS_BYTES 17152
-
 /* At most so many names, each of 1 to so many bytes. */
 #define PLANS_NAME_LIMIT 64
 #define PLANS_NAME_BYTES 32
 
 /* At most so many rows in a book, and from a plan, each of 0 to so many entries; a row that is walked has the same limit. */
 #define PLANS_BOOK_ROWS 256
-#define PLANS_ROW_LIMIT 64
+#define PLANS_ROW_LIMIT 40
+
+/* An output of so many bytes is long enough for the rows of every plan (proved): so many rows, each of 3 bytes and up to so many
+ * entries. */
+#define PLANS_ROWS_BYTES (PLANS_BOOK_ROWS * (3 + PLANS_ROW_LIMIT))
 
 /* At most so many states, of a table and of a book's prefix tree. */
 #define PLANS_STATE_LIMIT 512
@@ -211,7 +212,7 @@ plans_written plans_list(const uint8_t *book, size_t book_len,
  *     14 at the first byte, or at the end (`at` is then `plan_len`), that no plan can have there;
  *     15 an element inside PLANS_PLAN_DEPTH others, at the byte after its tag's name;
  *     16 a child of an element of the chosen name that is not in the list, at the byte after its tag's name;
- *   7 for a 257th row; 9 for a row over 64 entries; 13. An output of PLANS_ROWS_BYTES is always enough.
+ *   7 for more than PLANS_BOOK_ROWS rows; 9 for a row over PLANS_ROW_LIMIT entries; 13. An output of PLANS_ROWS_BYTES is always enough.
  */
 plans_plan_rows plans_read_rows(const uint8_t *plan, size_t plan_len,
                                 const uint8_t *names, size_t names_len,
@@ -232,7 +233,7 @@ static inline const char *plans_refusal_text(unsigned number)
     case PLANS_NAME_ORDER: return "a name not above the one before";
     case PLANS_TOO_MANY: return "a 65th name, 257th row or 513th state";
     case PLANS_BAD_CLASS: return "a class field of another length or value than allowed";
-    case PLANS_BAD_ROW: return "a row over 64 entries, or an entry or chosen number that is no name's";
+    case PLANS_BAD_ROW: return "a row over 40 entries, or an entry or chosen number that is no name's";
     case PLANS_TREE_TOO_LARGE: return "the prefix tree needs over 512 states, the root counted";
     case PLANS_BAD_STATE: return "a state field of wrong length, first byte, or arc names";
     case PLANS_BAD_NUMBERING: return "an arc to no state, a state never met, or states not numbered first-met";

@@ -72,7 +72,7 @@ impl Library {
         let build = unsafe {
             match version {
                 1 => Build::First(transmute::<*mut c_void, Call<FirstBuilt>>(call)),
-                2 => Build::Now(transmute::<*mut c_void, Call<Built>>(call)),
+                2 | 3 => Build::Now(transmute::<*mut c_void, Call<Built>>(call)),
                 _ => return Err(format!("{path}: the results of version {version} are not known here")),
             }
         };

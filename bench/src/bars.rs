@@ -22,7 +22,7 @@ const BARS: [(Bar, &str, f64); 13] = [
     (Bar::Typical, "typical, any class, memsets", 30.0),
     (Bar::Large, "512-state books, memsets", 200.0),
     (Bar::Worst, "worst books found, memsets", 4000.0),
-    (Bar::Walk, "walk of 64 names over 512 states, memsets", 12.0),
+    (Bar::Walk, "walk of 40 names over 512 states, memsets", 12.0),
     (Bar::Ratio, "library to maps, ratio", 1.2),
     (Bar::Copied, "days copied sixfold to once, library, ratio", 4.0),
     (Bar::ClinicPlan, "plan of a clinic, library to expat, ratio", 0.4),

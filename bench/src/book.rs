@@ -1,8 +1,8 @@
 //! Books as rows of name numbers, and their bytes.
 
 pub const NAME_LIMIT: usize = 64;
-pub const ROW_LIMIT: usize = 256;
-pub const ROW_LENGTH: usize = 64;
+pub const BOOK_ROWS: usize = 256;
+pub const ROW_LIMIT: usize = 40;
 pub const STATE_LIMIT: usize = 512;
 
 #[derive(Clone, Copy, Debug, PartialEq, Eq)]

@@ -1,6 +1,6 @@
 //! The books that are timed.
 
-use crate::book::{short_names, Book, Class, CLASSES, ROW_LENGTH, ROW_LIMIT, STATE_LIMIT};
+use crate::book::{short_names, Book, Class, BOOK_ROWS, CLASSES, ROW_LIMIT, STATE_LIMIT};
 use crate::random::Random;
 use std::collections::HashSet;
 use std::fs;
@@ -35,7 +35,7 @@ impl Gathered {
     }
 
     fn is_full(&self) -> bool {
-        self.beginnings.len() == self.limit || self.rows.len() == ROW_LIMIT
+        self.beginnings.len() == self.limit || self.rows.len() == BOOK_ROWS
     }
 
     /// Adds the row if its states fit.
@@ -108,15 +108,17 @@ pub fn random_rows(names: usize) -> Book {
     Book { names: short_names(names), class: Class::Context(2, 1), rows: gathered.rows }
 }
 
-/// Eight rows, each one name of its own and then one name that they share: 512 states.
+/// Rows as long as they may be, each one name of its own and then one name that they share: 512 states, so that the last is shorter.
 pub fn nearly_one_name() -> Book {
-    let rows = (1..=8).map(|first| {
-        let length = if first == 8 { ROW_LENGTH - 1 } else { ROW_LENGTH };
-        let mut row = vec![0; length];
-        row[0] = first;
-        row
-    });
-    Book { names: short_names(9), class: Class::Context(2, 1), rows: rows.collect() }
+    let mut rows: Vec<Vec<u8>> = Vec::new();
+    let mut left = STATE_LIMIT - 1;
+    while left > 0 {
+        let mut row = vec![0; left.min(ROW_LIMIT)];
+        left -= row.len();
+        row[0] = 1 + rows.len() as u8;
+        rows.push(row);
+    }
+    Book { names: short_names(1 + rows.len()), class: Class::Context(2, 1), rows }
 }
 
 /// The books of 510 and 512 states, with what they are called.

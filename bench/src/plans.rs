@@ -1,6 +1,6 @@
 //! The plans that are timed, each of as many bytes as a plan may have.
 
-use crate::book::{put_names, NAME_LIMIT, ROW_LENGTH, ROW_LIMIT};
+use crate::book::{put_names, BOOK_ROWS, NAME_LIMIT, ROW_LIMIT};
 use crate::library::INPUT_LIMIT;
 use crate::random::Random;
 use std::collections::BTreeSet;
@@ -141,13 +141,13 @@ fn chosen_first(bytes: Vec<u8>, names: Vec<String>) -> Plan {
     Plan { bytes, names: names.into_iter().map(String::into_bytes).collect(), chosen: 0 }
 }
 
-/// As many chosen elements as a plan may have or has room for, each with 40 empty children of all names.
+/// As many chosen elements as a plan may have or has room for, each with as many empty children as a row may have, of all names.
 pub fn tag_dense(names: Names) -> Plan {
     let names = names.drawn();
     let (chosen, outermost) = (&names[0], &names[1]);
     let mut random = Random::new(2);
-    let elements = std::iter::repeat_with(|| format!("<{chosen}>{}</{chosen}>", empty_children(&mut random, &names, 40)));
-    let bytes = filled(&format!("<{outermost}>"), &format!("</{outermost}>"), elements.take(ROW_LIMIT));
+    let elements = std::iter::repeat_with(|| format!("<{chosen}>{}</{chosen}>", empty_children(&mut random, &names, ROW_LIMIT)));
+    let bytes = filled(&format!("<{outermost}>"), &format!("</{outermost}>"), elements.take(BOOK_ROWS));
     chosen_first(bytes, names)
 }
 
@@ -159,8 +159,8 @@ pub fn nested(names: Names) -> Plan {
     let names = names.drawn();
     let (chosen, holder) = (&names[0], &names[1]);
     let mut random = Random::new(3);
-    let children = INPUT_LIMIT / ROW_LENGTH / format!("<{chosen}/>").len() - 2;
+    let children = INPUT_LIMIT / ROW_LIMIT / format!("<{chosen}/>").len() - 2;
     let holders = std::iter::repeat_with(|| format!("<{holder}>{}</{holder}>", empty_children(&mut random, &names, children)));
-    let bytes = filled(&format!("<{chosen}>").repeat(NESTED), &format!("</{chosen}>").repeat(NESTED), holders.take(ROW_LENGTH));
+    let bytes = filled(&format!("<{chosen}>").repeat(NESTED), &format!("</{chosen}>").repeat(NESTED), holders.take(ROW_LIMIT));
     chosen_first(bytes, names)
 }

@@ -1,7 +1,7 @@
 //! The bench: every case compared and timed, growth, plans, stack, and the bars.
 
 use crate::bars::{Bar, Bars};
-use crate::book::{Book, Class, CLASSES};
+use crate::book::{Book, Class, CLASSES, ROW_LIMIT};
 use crate::cases;
 use crate::measure::{Effort, Times};
 use crate::readings::Readings;
@@ -86,7 +86,7 @@ fn walks(sides: &mut Sides) -> Result<[Case; 2], String> {
     let (_, table) = sides.build(&days.bytes())?;
     Ok([
         Case::walk("walk of 10, typical", table.to_vec(), days.rows[0].clone(), &[]),
-        Case::walk("walk of 64, 512 states", cases::chain_table(), vec![0; 64], &[Bar::Walk]),
+        Case::walk("walk of 40, 512 states", cases::chain_table(), vec![0; ROW_LIMIT], &[Bar::Walk]),
     ])
 }
 
@@ -108,13 +108,20 @@ impl Case {
         Case { name, class, input, bars: bars.to_vec(), sizes: None, times: Times::NONE }
     }
 
-    /// What the library gives, or an error where one of the others gives something else.
+    /// What the library gives, or an error where one of the others gives something else, or where it is a refusal, which would be
+    /// timed as if it were a result.
     fn compare(&mut self, sides: &mut Sides) -> Result<(), String> {
         let compared = match &self.input {
-            Input::Book(book) => sides.build(book).map(|(built, _)| Some([built.states + built.joins, built.states])),
-            Input::Walk { table, row } => sides.walk(table, row).map(|_| None),
+            Input::Book(book) => {
+                sides.build(book).map(|(built, _)| (built.refusal, Some([built.states + built.joins, built.states])))
+            }
+            Input::Walk { table, row } => sides.walk(table, row).map(|walked| (walked.refusal, None)),
         };
-        self.sizes = compared.map_err(|what| format!("{} {}: {what}", self.name, self.class))?;
+        let accepted = compared.and_then(|(refusal, sizes)| match refusal {
+            0 => Ok(sizes),
+            _ => Err(format!("refusal {refusal}")),
+        });
+        self.sizes = accepted.map_err(|what| format!("{} {}: {what}", self.name, self.class))?;
         Ok(())
     }
 

@@ -1,7 +1,7 @@
 //! How many bytes of stack a call of the library uses: it runs in a thread whose stack is painted first.
 
 use crate::bars::Bar;
-use crate::book::CLASSES;
+use crate::book::{CLASSES, ROW_LIMIT};
 use crate::cases;
 use crate::library::{self, INPUT_LIMIT, WORK_BYTES};
 use crate::plans::{self, Names};
@@ -51,9 +51,9 @@ pub fn calls() -> Vec<(Bar, String, usize)> {
     });
     calls.push((Bar::Stack, "rewrite, 512 states".to_string(), rewriting - empty));
     let walking = used(&mut || {
-        black_box(library::walk(&table, &[0; 64], &mut work));
+        black_box(library::walk(&table, &[0; ROW_LIMIT], &mut work));
     });
-    calls.push((Bar::Stack, "walk of 64, 512 states".to_string(), walking - empty));
+    calls.push((Bar::Stack, "walk of 40, 512 states".to_string(), walking - empty));
     for (name, plan) in [
         ("plan of a clinic", plans::clinic()),
         ("tag-dense", plans::tag_dense(Names::Letters(3))),

@@ -7,7 +7,7 @@ from typing import Callable, Dict, Iterable, List, Mapping, NamedTuple, Optional
 
 from . import drawings, helps
 from .differences import Difference, compare
-from .fields import ENTRY_LIMIT, ROW_LIMIT, Book, Class, Refused, Row, Table, read_table, write_book
+from .fields import BOOK_ROWS, ROW_LIMIT, Book, Class, Refused, Row, Table, read_table, write_book
 from .files import Failure, Input, Kind, label_of, put, read_input, say, write_output
 from .models import Built, Outcome, Walked, build, judged_book, judged_table, list_book, list_table, rewrite, walk
 from .plan_rows import NO_BOOK, Names, Plan, collected, judge_book, missing, names_in, read_plan, rows_alone, rows_of
@@ -54,8 +54,8 @@ def notes(source: Input, text: Text, copies: bool) -> List[str]:
     if text.blank_lines:
         passed = counted(text.blank_lines, "blank line")
         lines.append(f"{source.label}: {passed} passed over (a single - is the empty day)")
-    if not copies and len(text.days) > ROW_LIMIT:
-        lines.append(f"{source.label}: over {ROW_LIMIT} days: each different one is taken once, which gives the same model")
+    if not copies and len(text.days) > BOOK_ROWS:
+        lines.append(f"{source.label}: over {BOOK_ROWS} days: each different one is taken once, which gives the same model")
     return lines
 
 
@@ -146,8 +146,8 @@ def day_of(words: Sequence[str]) -> Row:
         parting = next((letter for letter in word if letter in ",;"), None)
         if parting:
             raise Failure(f"plans: {shown(word)} holds {shown(parting)}, and no name may: give each name by itself")
-    if len(day) > ENTRY_LIMIT:
-        raise Failure(f"plans: a day of {len(day)} names: at most {ENTRY_LIMIT} are allowed")
+    if len(day) > ROW_LIMIT:
+        raise Failure(f"plans: a day of {len(day)} names: a walk takes at most {ROW_LIMIT}, though the model may allow longer days")
     return day
 
 
@@ -229,8 +229,8 @@ def difference_lines(ours: Model, theirs: Model, found: Difference) -> List[str]
     if found.day is None:
         return lines + ["days: both allow the same"]
     day = " ".join(found.day) or "the empty day"
-    if len(found.day) > ENTRY_LIMIT:
-        lines.append(f"days: of up to {ENTRY_LIMIT} names both allow the same; one of {len(found.day)} names parts them")
+    if len(found.day) > ROW_LIMIT:
+        lines.append(f"days: of up to {ROW_LIMIT} names both allow the same; one of {len(found.day)} names parts them")
     allows, refuses = (one, two) if found.first_allows else (two, one)
     return lines + [f"days: {day} is allowed by {allows}, not by {refuses}"]
 

@@ -7,8 +7,8 @@ from typing import Dict, Iterable, Iterator, List, Optional, Sequence, Tuple, Un
 INPUT_LIMIT = 65535
 NAME_LIMIT = 64
 NAME_BYTES = 32
-ROW_LIMIT = 256
-ENTRY_LIMIT = 64
+BOOK_ROWS = 256
+ROW_LIMIT = 40
 STATE_LIMIT = 512
 SETTING_LIMIT = 8
 
@@ -29,17 +29,18 @@ REFUSALS = _words()
 
 class Refused(Exception):
     """A refusal: its number, its words, and its offset, if that is known: where the field begins that it concerns; of 14, 15 and 16
-    the place in the plan."""
+    the place in the plan. What is wrong there is told too where the words leave it open and the field shows it."""
 
-    def __init__(self, number: int, offset: Optional[int] = None):
+    def __init__(self, number: int, offset: Optional[int] = None, what: str = ""):
         self.number = number
         self.words = REFUSALS[number]
         self.offset = offset
+        self.what = what
         place = "" if offset is None else f"offset {offset}: "
-        super().__init__(f"{place}refusal {number}: {self.words}")
+        super().__init__(f"{place}refusal {number}: {self.words}" + (f": {what}" if what else ""))
 
     def __reduce__(self) -> Tuple:
-        return Refused, (self.number, self.offset)
+        return Refused, (self.number, self.offset, self.what)
 
 
 @dataclass(frozen=True)
@@ -132,9 +133,16 @@ def name_fault(names: Sequence[bytes], name: bytes) -> int:
 
 
 def row_fault(names: int, before: int, body: bytes) -> int:
-    if before == ROW_LIMIT:
+    if before == BOOK_ROWS:
         return 7
-    return 9 if len(body) > ENTRY_LIMIT or any(entry >= names for entry in body) else 0
+    return 9 if len(body) > ROW_LIMIT or any(entry >= names for entry in body) else 0
+
+
+def bad_row(names: int, before: int, body: bytes) -> str:
+    """Which of the faults of 9 a row has."""
+    if len(body) > ROW_LIMIT:
+        return f"row {before + 1} has {len(body)} entries"
+    return f"row {before + 1} has the entry {next(entry for entry in body if entry >= names)}, which is no name's number"
 
 
 def state_fault(names: int, before: int, body: bytes) -> int:
@@ -169,7 +177,7 @@ class _Reading:
             fault = judge(len(self.names), len(self.items), body)
             self.items.append((offset, body))
         if fault:
-            raise Refused(fault, offset)
+            raise Refused(fault, offset, bad_row(len(self.names), len(self.items) - 1, body) if fault == 9 else "")
 
     def name(self, number: int) -> str:
         return self.names[number].decode("ascii")

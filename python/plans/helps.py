@@ -60,7 +60,8 @@ plans walk FILE [NAME...] [--class CLASS] [-q]
 
 Says whether the day of these names is allowed by the model of FILE, a text, a
 book or a table; if not, how far it goes; and what may come next. Without a name
-it is the empty day. The exit status is 0 if the day is allowed, else 1.
+it is the empty day; a walk takes at most 40 names. The exit status is 0 if the
+day is allowed, else 1.
 
   $ printf 'tea\\ntea cake tea\\n' | plans walk -q - tea cake
   on the way: a day may not end here

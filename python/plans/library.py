@@ -5,13 +5,15 @@ import os
 from pathlib import Path
 from typing import Callable, List, Tuple
 
+from .fields import BOOK_ROWS, ROW_LIMIT
+
 HERE = Path(__file__).resolve().parent
 # the library by its soname: one with another first number has results of another layout
-FILE = "libplans.so.2"
+FILE = "libplans.so.3"
 
 WORK_BYTES = 65536
 LISTING_BYTES = 32768
-ROWS_BYTES = 17152
+ROWS_BYTES = BOOK_ROWS * (3 + ROW_LIMIT)
 
 
 class LibraryMissing(Exception):

@@ -4,7 +4,7 @@ from dataclasses import dataclass
 from typing import Callable, Iterable, Sequence, Tuple, TypeVar, Union
 
 from . import library
-from .fields import (ENTRY_LIMIT, INPUT_LIMIT, NAME, Book, Bytes, Refused, Row, Table, as_bytes, fields_of, read_book, read_table,
+from .fields import (INPUT_LIMIT, NAME, ROW_LIMIT, Book, Bytes, Refused, Row, Table, as_bytes, fields_of, read_book, read_table,
                      write_book, write_names, write_table)
 
 File = TypeVar("File", Book, Table)
@@ -133,7 +133,7 @@ def walk(table: Union[Table, Bytes], day: Iterable[str]) -> Walked:
     names = front_names(data)
     numbers = {name: number for number, name in enumerate(names[:256])}
     known = next((place for place, name in enumerate(day) if name not in numbers), len(day))
-    if len(day) > ENTRY_LIMIT:
+    if len(day) > ROW_LIMIT:
         row = bytes(len(day))  # refused by its length
     else:
         row = bytes(numbers[name] for name in day[:known])

@@ -6,7 +6,7 @@ from dataclasses import dataclass
 from itertools import islice
 from typing import Iterator, List, NamedTuple, Optional, Tuple
 
-from .fields import ENTRY_LIMIT, NAME_BYTES, ROW_LIMIT
+from .fields import BOOK_ROWS, NAME_BYTES, ROW_LIMIT
 from .showing import WORD_CUT, cut, plain, shown
 from .texts import name_problem
 
@@ -52,11 +52,11 @@ class Scan:
     def too_long(self, element: str) -> Optional[int]:
         """Where the first element of this name begins that has too many children."""
         counts = Counter(tag.parent for tag in self.children(element))
-        return min((self.tags[number].at for number, count in counts.items() if count > ENTRY_LIMIT), default=None)
+        return min((self.tags[number].at for number, count in counts.items() if count > ROW_LIMIT), default=None)
 
     def too_many(self, element: str) -> Optional[int]:
         """Where the first element of this name begins that is one row too many."""
-        return next(islice((tag.at for tag in self.tags if tag.name == element), ROW_LIMIT, None), None)
+        return next(islice((tag.at for tag in self.tags if tag.name == element), BOOK_ROWS, None), None)
 
 
 def scan(plan: bytes) -> Scan:

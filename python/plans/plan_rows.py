@@ -4,7 +4,7 @@ from dataclasses import dataclass
 from itertools import count
 from typing import FrozenSet, Iterable, Optional, Sequence, Set, Tuple
 
-from .fields import ENTRY_LIMIT, INPUT_LIMIT, NAME_LIMIT, REFUSALS, ROW_LIMIT, STATE_LIMIT, Book, Refused, Row
+from .fields import BOOK_ROWS, INPUT_LIMIT, NAME_LIMIT, REFUSALS, ROW_LIMIT, STATE_LIMIT, Book, Refused, Row
 from .files import Failure, Input, Kind, read_input
 from .models import build, front_names, judged_book, judged_table, read_rows
 from .plan_files import DEPTH_LIMIT, place_of, scan, tag_at, what_stands
@@ -109,9 +109,9 @@ def _explained(plan: Plan, problem: Refused, names: Names, element: str) -> str:
     if problem.number == SIZES:
         return f"the plan is over {INPUT_LIMIT:,} bytes: give it in parts, each with one outermost element"
     if problem.number == TOO_MANY:
-        return f"over {ROW_LIMIT} elements {element} in one plan: at most {ROW_LIMIT} rows are allowed; divide the plan, or take some out"
+        return f"over {BOOK_ROWS} elements {element} in one plan: at most {BOOK_ROWS} rows are allowed; divide the plan, or take some out"
     if problem.number == BAD_ROW:
-        return f"an element {element} of over {ENTRY_LIMIT} children: at most {ENTRY_LIMIT} are allowed; {SMALLER}"
+        return f"an element {element} of over {ROW_LIMIT} children: at most {ROW_LIMIT} are allowed; {SMALLER}"
     if problem.number == BAD_PLAN:
         return what_stands(data, at)
     if problem.number == TOO_DEEP:
@@ -162,8 +162,8 @@ def _over_limit(plans: Sequence[Plan], rows: Sequence[Sequence[Row]], number: in
     count, beginnings = 0, {()}
     for plan, own in zip(plans, rows):
         count += len(own)
-        if number == TOO_MANY and count > ROW_LIMIT:
-            return f"{plan.source.label}: with this plan there are over {ROW_LIMIT} rows: at most {ROW_LIMIT} are allowed; give fewer plans"
+        if number == TOO_MANY and count > BOOK_ROWS:
+            return f"{plan.source.label}: with this plan there are over {BOOK_ROWS} rows: at most {BOOK_ROWS} are allowed; give fewer plans"
         beginnings.update(row[:end] for row in own for end in range(1, len(row) + 1))
         if number == TREE_TOO_LARGE and len(beginnings) > STATE_LIMIT:
             return (f"{plan.source.label}: with this plan the prefix tree needs over {STATE_LIMIT} states; give fewer plans, "

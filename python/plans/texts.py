@@ -5,7 +5,7 @@ from collections import Counter
 from dataclasses import dataclass
 from typing import Dict, FrozenSet, Iterable, List, Optional, Set, Tuple, Union
 
-from .fields import (CONTEXT, ENTRY_LIMIT, LAST, NAME_BYTES, NAME_LIMIT, NAME_SHAPE, ROW_LIMIT, SEEN, SETTING_LIMIT, STATE_LIMIT,
+from .fields import (BOOK_ROWS, CONTEXT, LAST, NAME_BYTES, NAME_LIMIT, NAME_SHAPE, ROW_LIMIT, SEEN, SETTING_LIMIT, STATE_LIMIT,
                      Book, Class, Row)
 from .showing import counted, shown, suggested
 
@@ -145,7 +145,7 @@ class Text:
 
     def book(self, copies: bool = True) -> Book:
         """The book; BadText over the limits. Without copies each day is taken once where more than 256 are typed."""
-        once = not copies and len(self.days) > ROW_LIMIT
+        once = not copies and len(self.days) > BOOK_ROWS
         problems = limit_problems(self, once)
         if problems:
             raise BadText(problems)
@@ -155,12 +155,12 @@ class Text:
 
 def _too_many_days(text: Text, first: Dict[Row, int], once: bool) -> List[Problem]:
     lines = list(first.values()) if once else text.lines
-    if len(lines) <= ROW_LIMIT:
+    if len(lines) <= BOOK_ROWS:
         return []
-    copies = "" if len(first) > ROW_LIMIT else f" (only {counted(len(first), 'different day')}: leave copies out)"
+    copies = "" if len(first) > BOOK_ROWS else f" (only {counted(len(first), 'different day')}: leave copies out)"
     what = "different day" if once else "day"
-    reason = f"a {ROW_LIMIT + 1}th {what}: at most {ROW_LIMIT} are allowed; give fewer days{copies}"
-    return [Problem(lines[ROW_LIMIT], reason)]
+    reason = f"a {BOOK_ROWS + 1}th {what}: at most {BOOK_ROWS} are allowed; give fewer days{copies}"
+    return [Problem(lines[BOOK_ROWS], reason)]
 
 
 def limit_problems(text: Text, once: bool) -> List[Problem]:
@@ -242,8 +242,8 @@ class _Reader:
                 self.wrong(number, str(problem))
 
     def day(self, number: int, names: Row) -> None:
-        if len(names) > ENTRY_LIMIT:
-            self.wrong(number, f"a day of {len(names)} names: at most {ENTRY_LIMIT} are allowed; {SMALLER}")
+        if len(names) > ROW_LIMIT:
+            self.wrong(number, f"a day of {len(names)} names: at most {ROW_LIMIT} are allowed; {SMALLER}")
         self.days.append(names)
         self.lines.append(number)
 

@@ -62,18 +62,20 @@ def library_functions(text):
 
 
 def header_constants(text):
-    """Each number defined, by its name without PLANS_; but for 0, no refusal, and the kinds of classes, which tests/c/tablet.c tries."""
+    """Each number defined, or what it is made of, by its name without PLANS_; but for 0, no refusal, and the kinds of classes, which
+    tests/c/tablet.c tries."""
     numbers = dict(re.findall(r"(?:^#define |^ +)PLANS_(\w+)(?: =)? (\d+)", text, re.M))
-    return {name: number for name, number in numbers.items() if name not in ("OK", "CONTEXT", "SEEN_SET", "LAST_NAMES")}
+    made = {name: parts.replace("PLANS_", "") for name, parts in re.findall(r"^#define PLANS_(\w+) \((.*)\)$", text, re.M)}
+    return {name: value for name, value in {**numbers, **made}.items() if name not in ("OK", "CONTEXT", "SEEN_SET", "LAST_NAMES")}
 
 
 def library_constants(text, names):
     """The constants with these names; all values where crates differ."""
     found = {}
-    for name, number in re.findall(r"^pub const (\w+): \w+ = (\d+);", text, re.M):
+    for name, value in re.findall(r"^pub const (\w+): \w+ = ([^;]+);", text, re.M):
         if name in names:
-            found.setdefault(name, set()).add(number)
-    return {name: " or ".join(numbers) for name, numbers in found.items()}
+            found.setdefault(name, set()).add(value)
+    return {name: " or ".join(values) for name, values in found.items()}
 
 
 def printed(*command):

@@ -308,12 +308,17 @@ static void refused_plans(void)
     check("7: a 257th row", read_into(PLANS_ROWS_BYTES).refusal == PLANS_TOO_MANY);
     plan.length = 0;
     put_text("<b>");
-    repeat("<l/>", PLANS_ROW_LIMIT + 1);
+    repeat("<l/>", 41);
     put_text("</b>");
-    check("9: a row of 65", read_into(PLANS_ROWS_BYTES).refusal == PLANS_BAD_ROW);
+    check("9: a plan's row of 41", read_into(PLANS_ROWS_BYTES).refusal == PLANS_BAD_ROW);
+    plan.length = 0;
+    put_text("<b>");
+    repeat("<l/>", 40);
+    put_text("</b>");
+    check("a plan's row of 40", read_into(PLANS_ROWS_BYTES).length == 3 + 40);
 }
 
-/* As many rows as there may be, fifteen of them as long as may be. */
+/* As many rows as there may be, each as long as may be: no plan's rows have more bytes. */
 static void most_rows(void)
 {
     plans_plan_rows read;
@@ -321,15 +326,16 @@ static void most_rows(void)
     start_list();
     plan.length = 0;
     put_text("<w>");
-    for (size_t i = 0; i < 15; i++) {
+    for (size_t i = 0; i < PLANS_BOOK_ROWS; i++) {
         put_text("<b>");
         repeat("<l/>", PLANS_ROW_LIMIT);
         put_text("</b>");
     }
-    repeat("<b/>", PLANS_BOOK_ROWS - 15);
     put_text("</w>");
     read = read_into(PLANS_ROWS_BYTES);
-    check("256 rows", read.refusal == PLANS_OK && read.rows == PLANS_BOOK_ROWS && read.length == 256 * 3 + 15 * 64);
+    check("256 rows of 40", read.refusal == PLANS_OK && read.rows == 256 && read.length == 11008);
+    check("they just fit", PLANS_ROWS_BYTES == 11008);
+    check("13: an output one byte short", read_into(PLANS_ROWS_BYTES - 1).refusal == PLANS_OUTPUT_TOO_SHORT);
 }
 
 static void refused_build(const char *what, uint8_t number)
@@ -362,7 +368,7 @@ static void refused_lengths(void)
 /* Refusals 2 to 6, 8 and 9: one field is wrong. */
 static void refused_fields(void)
 {
-    static const uint8_t entries[65] = {NAMES};
+    static const uint8_t entries[] = {NAMES};
 
     book.length = 0;
     refused_build("4: an empty book", PLANS_UNFINISHED);
@@ -372,9 +378,6 @@ static void refused_fields(void)
     refused_build("9: an entry that is no name's number", PLANS_BAD_ROW);
     book.length--;
     refused_build("2: a field cut off", PLANS_CUT_OFF);
-    start_book(PLANS_CONTEXT, 2, 1);
-    put_field(&book, PLANS_ROW_MARK, entries, sizeof entries);
-    refused_build("9: a row of 65", PLANS_BAD_ROW);
     start_book(PLANS_CONTEXT, 9, 1);
     refused_build("8: k = 9", PLANS_BAD_CLASS);
     book.length = 0;
@@ -389,10 +392,24 @@ static void refused_fields(void)
     refused_build("6: names not in order", PLANS_NAME_ORDER);
 }
 
+/* A book of thirteen rows with different first names, twelve of 40 entries and the last of so many. */
+static void thirteen_rows(size_t last)
+{
+    uint8_t row[40] = {0};
+
+    book.length = 0;
+    for (uint8_t i = 0; i < 13; i++) {
+        const uint8_t name = (uint8_t)('a' + i);
+        put_field(&book, PLANS_NAME_MARK, &name, 1);
+    }
+    for (row[0] = 0; row[0] < 13; row[0]++)
+        put_field(&book, PLANS_ROW_MARK, row, row[0] == 12 ? last : sizeof row);
+}
+
 /* Refusals 7 and 10: one too many. */
 static void refused_counts(void)
 {
-    uint8_t row[64] = {0};
+    plans_built built;
 
     book.length = 0;
     for (uint8_t i = 0; i < 65; i++) {
@@ -402,15 +419,28 @@ static void refused_counts(void)
     refused_build("7: a 65th name", PLANS_TOO_MANY);
     start_book(PLANS_CONTEXT, 2, 1);
     for (size_t i = 0; i < 257; i++)
-        put_field(&book, PLANS_ROW_MARK, row, 0);
+        put_field(&book, PLANS_ROW_MARK, NULL, 0);
     refused_build("7: a 257th row", PLANS_TOO_MANY);
-    start_book(PLANS_SEEN_SET, 0, 0);
-    for (uint8_t i = 0; i < 16; i++) {
-        row[0] = i % 4;
-        row[1] = i / 4;
-        put_field(&book, PLANS_ROW_MARK, row, sizeof row);
-    }
-    refused_build("10: a tree of over 512 states", PLANS_TREE_TOO_LARGE);
+    thirteen_rows(31);
+    built = build_all();
+    check("a tree of 512 states", built.refusal == PLANS_OK && built.states + built.joins == 512);
+    thirteen_rows(32);
+    refused_build("10: a tree of 513 states", PLANS_TREE_TOO_LARGE);
+}
+
+/* A row of 40 passes and one of 41 gives 9, in a book and in a walk, though the table admits the longer one too. */
+static void longest_rows(void)
+{
+    static const uint8_t breakfasts[41] = {0};
+
+    start_book(PLANS_CONTEXT, 1, 1);
+    put_field(&book, PLANS_ROW_MARK, breakfasts, 40);
+    check("a row of 40", build_all().refusal == PLANS_OK);
+    check("a walk of 40", walk(&table, breakfasts, 40, PLANS_WORK_BYTES).outcome == PLANS_ADMITTED);
+    check("9: a walk of 41", walk(&table, breakfasts, 41, PLANS_WORK_BYTES).refusal == PLANS_BAD_ROW);
+    start_book(PLANS_CONTEXT, 1, 1);
+    put_field(&book, PLANS_ROW_MARK, breakfasts, 41);
+    refused_build("9: a row of 41", PLANS_BAD_ROW);
 }
 
 static void refused_table(const char *what, uint8_t number)
@@ -419,13 +449,12 @@ static void refused_table(const char *what, uint8_t number)
     check(what, walk(&table, NULL, 0, PLANS_WORK_BYTES).refusal == number);
 }
 
-/* Refusals 7, 9, 11 and 12 of a table or a walk. */
+/* Refusals 7, 11 and 12 of a table. */
 static void refused_states(void)
 {
     static const uint8_t not_accepting[] = {0};
     static const uint8_t wrong_first[] = {2};
     static const uint8_t to_no_state[] = {0, 0, 0, 9};
-    static const uint8_t row[65] = {0};
 
     start_book(PLANS_CONTEXT, 2, 1);
     table = book;
@@ -440,8 +469,6 @@ static void refused_states(void)
     refused_table("7: a 513th state", PLANS_TOO_MANY);
     put_day("bsl");
     build_all();
-    check("9: a walk of 65", walk(&table, row, sizeof row, PLANS_WORK_BYTES).refusal == PLANS_BAD_ROW);
-    check("a walk of 64", walk(&table, row, sizeof row - 1, PLANS_WORK_BYTES).refusal == PLANS_OK);
     check("a walk of none", walk(&table, NULL, 0, PLANS_WORK_BYTES).outcome == PLANS_ON_THE_WAY);
 }
 
@@ -456,6 +483,7 @@ static void *tablet(void *unused)
     refused_lengths();
     refused_fields();
     refused_counts();
+    longest_rows();
     refused_states();
     read_plans();
     refused_lists();

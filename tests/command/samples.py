@@ -7,7 +7,7 @@ from reference import Sample
 FIRST = "ABCXYZabcxyz_:"
 LATER = FIRST + "0189.-"
 STATE_LIMIT = 512
-ROW_LIMIT = 256
+BOOK_ROWS = 256
 
 
 def a_name(draw: random.Random) -> str:
@@ -21,7 +21,7 @@ def a_class(draw: random.Random):
     return draw.choice([None, (0, 2, 1), (0, k, draw.randint(1, k)), (1, 0, 0), (2, draw.randint(0, 8), 0)])
 
 
-def a_sample(draw: random.Random, names=(1, 2, 5, 30, 64), rows=(1, 2, 10, 40, 256), lengths=(0, 1, 3, 8, 64)) -> Sample:
+def a_sample(draw: random.Random, names=(1, 2, 5, 30, 64), rows=(1, 2, 10, 40, 256), lengths=(0, 1, 3, 8, 40)) -> Sample:
     """A book that is accepted. Some names stay unused, some rows are empty and some are repeated."""
     chosen = tuple(sorted({a_name(draw) for _ in range(draw.choice(names))}))
     days, beginnings = [], {()}
@@ -44,7 +44,7 @@ def a_small_sample(draw: random.Random) -> Sample:
 def with_copies(draw: random.Random, sample: Sample) -> Sample:
     """The sample with some of its rows repeated, and all in another order."""
     rows = list(sample.rows)
-    rows += draw.choices(rows, k=min(draw.choice([0, 1, 2, 30]), ROW_LIMIT - len(rows)))
+    rows += draw.choices(rows, k=min(draw.choice([0, 1, 2, 30]), BOOK_ROWS - len(rows)))
     draw.shuffle(rows)
     return sample._replace(rows=tuple(rows))
 

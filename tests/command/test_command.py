@@ -74,6 +74,21 @@ class Good(InFolder):
         self.answers(1, "class: context (2,1) in days.table, context (3,1) in class.txt\ndays: both allow the same\n",
                      "diff", "-q", "days.table", "class.txt")
 
+    def test_diff_by_a_day_that_no_walk_takes(self):
+        def chain(arcs: int) -> bytes:
+            states = b"".join(field(4, b"\0\0" + number.to_bytes(2, "big")) for number in range(1, arcs + 1))
+            return field(1, b"lunch") + field(2, b"\1\0\0") + states + field(4, b"\1")
+
+        self.put("one.table", chain(40))
+        self.put("two.table", chain(41))
+        self.put("three.table", chain(50))
+        parted = "is allowed by {}, not by {}\n"
+        self.answers(1, "states: 41 in one.table, 42 in two.table\n"
+                        "days: " + 40 * "lunch " + parted.format("one.table", "two.table"), "diff", "-q", "one.table", "two.table")
+        self.answers(1, "states: 42 in two.table, 51 in three.table\n"
+                        "days: of up to 40 names both allow the same; one of 41 names parts them\n"
+                        "days: " + 41 * "lunch " + parted.format("two.table", "three.table"), "diff", "-q", "two.table", "three.table")
+
     def test_text_and_book(self):
         self.answers(0, TEXT, "text", "days.book")
         self.answers(0, "", "text", "days.book", "-o", "again.txt")
@@ -245,14 +260,15 @@ class Bad(InFolder):
         """By a file for each number that a file can have, as check and as walk tell it."""
         names = field(1, b"lunch") + field(1, b"tea")
         front = names + field(2, b"\1\0\0")
-        many = b"".join(field(1, b"n%02d" % i) for i in range(8))
-        tree = b"".join(field(3, bytes([i] + 63 * [0])) for i in range(8))
+        many = b"".join(field(1, b"n%02d" % i) for i in range(13))
+        tree = b"".join(field(3, bytes([i] + 39 * [0])) for i in range(13))
         cases = {1: front + bytes(65536), 2: front + b"\4\0", 3: front + field(9, b""), 4: front, 5: field(1, b"9"),
                  6: names + field(1, b"lunch"), 7: names + 257 * field(3, b"\0"), 8: names + field(2, b"\0\2\3") + field(4, b"\1"),
                  9: names + field(3, b"\2"), 10: many + tree, 11: front + field(4, b"\2"), 12: front + field(4, b"\1\0\0\1")}
         for number, data in cases.items():
             self.put("bad", data)
-            line = rf"offset \d+: refusal {number}: {plans.REFUSALS[number]}\n"
+            what = ": row 1 has the entry 2, which is no name's number" if number == 9 else ""
+            line = rf"offset \d+: refusal {number}: {plans.REFUSALS[number]}{what}\n"
             done = self.plans("check", "bad")
             self.assertEqual((done.returncode, done.stderr), (1, b""))
             self.assertRegex(done.stdout.decode(), f"^bad: refused: {line}$")
@@ -278,7 +294,8 @@ class Bad(InFolder):
                    "walk", "days.table", "lunch tea")
         for word, parting in [("lunch,tea", ","), ("lunch;tea,cake", ";")]:
             self.fails(f"plans: '{word}' holds '{parting}', and no name may: give each name by itself", "walk", "days.table", word)
-        self.fails("plans: a day of 65 names: at most 64 are allowed", "walk", "days.table", *65 * ["lunch"])
+        self.fails("plans: a day of 41 names: a walk takes at most 40, though the model may allow longer days",
+                   "walk", "days.table", *41 * ["lunch"])
         self.answers(1, "not allowed: a day may not begin with 'a\\x1b[1m' (the model has no such name)\nnext: lunch\n",
                      "walk", "days.table", "a\x1b[1m")
         done = self.plans("walk", "days.table", 10000 * "x")

@@ -4,6 +4,7 @@ import random
 import unittest
 
 from plans import Class, Outcome, State, Table, build, compare, read_table, walk, write_table
+from plans.fields import ROW_LIMIT
 from samples import a_small_sample, book_of
 
 MOST = 6
@@ -90,6 +91,6 @@ class Parting(unittest.TestCase):
         for _ in range(200):
             one, two = a_table(draw, ("a", "b")), a_table(draw, ("a", "b"))
             found = compare(one, two)
-            if found.day is not None and len(found.day) <= 64:
+            if found.day is not None and len(found.day) <= ROW_LIMIT:
                 self.assertEqual([walk(table, found.day).outcome is Outcome.ADMITTED for table in (one, two)],
                                  [found.first_allows, not found.first_allows])

@@ -101,8 +101,8 @@ class NoNumber(InFolder):
 
     def test_refused(self):
         good = self.NAME + field(3, b"\x00") + field(3, b"\x00")
-        eight = b"".join(field(1, bytes([letter])) for letter in b"abcdefgh")
-        too_large = eight + b"".join(field(3, bytes([name] + 63 * [0])) for name in range(8))
+        thirteen = b"".join(field(1, bytes([letter])) for letter in b"abcdefghijklm")
+        too_large = thirteen + b"".join(field(3, bytes([name] + 39 * [0])) for name in range(13))
         none = {"length": 0, "states": 0, "joins": 0, "distinct": 0}
         for data, room, number in [(b"", 65535, 4), (good + b"\x03", 65535, 2), (good + field(3, b"\x01"), 65535, 9),
                                    (too_large, 65535, 10), (good, 8, 13)]:

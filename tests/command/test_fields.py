@@ -30,7 +30,8 @@ class Judged(unittest.TestCase):
         with self.assertRaises(Refused) as caught:
             read(data)
         self.assertEqual((caught.exception.number, caught.exception.offset), (number, offset))
-        self.assertEqual(str(caught.exception), f"offset {offset}: refusal {number}: {plans.REFUSALS[number]}")
+        what = f": {caught.exception.what}" if number == 9 else ""
+        self.assertEqual(str(caught.exception), f"offset {offset}: refusal {number}: {plans.REFUSALS[number]}{what}")
         with self.assertRaises(Refused) as called:
             call(data)
         self.assertEqual((called.exception.number, called.exception.words), (number, plans.REFUSALS[number]))
@@ -99,18 +100,22 @@ class Books(Judged):
             self.refused_both(NAMES + field(CLASS, body), 8, len(NAMES))
 
     def test_9_bad_row(self):
-        read_book(NAMES + field(ROW, bytes(64)))
-        self.refused(NAMES + field(ROW, bytes(65)), 9, len(NAMES))
+        read_book(NAMES + field(ROW, bytes(40)))
+        self.refused(NAMES + field(ROW, bytes(41)), 9, len(NAMES))
+        for row, what in [(bytes(41), "41 entries"), (b"\x00\x02", "the entry 2, which is no name's number")]:
+            with self.assertRaises(Refused) as caught:
+                read_book(NAMES + ROWS + field(ROW, row))
+            self.assertEqual(caught.exception.what, f"row 2 has {what}")
         self.refused(NAMES + ROWS + field(ROW, b"\x00\x02"), 9, len(NAMES + ROWS))
         with self.assertRaises(Refused) as caught:
-            plans.walk(FRONT + END, 65 * ["lunch"])
+            plans.walk(FRONT + END, 41 * ["lunch"])
         self.assertEqual(caught.exception.number, 9)
 
     def test_10_prefix_tree_too_large(self):
-        read_book(names_of(8) + rows_of(7 * [64] + [63]))
-        data = names_of(8) + rows_of(8 * [64])
-        self.refused(data, 10, len(data) - 67)
-        self.refused(data + field(ROW, b"\x00"), 10, len(data) - 67)
+        read_book(names_of(13) + rows_of(12 * [40] + [31]))
+        data = names_of(13) + rows_of(12 * [40] + [32])
+        self.refused(data, 10, len(data) - 35)
+        self.refused(data + field(ROW, b"\x00"), 10, len(data) - 35)
 
     def test_11_bad_state(self):
         for body in [b"", b"\x02", b"\x00\x00", b"\x00\x00\x00", b"\x01\x02\x00\x00", b"\x01\x01\x00\x00\x00\x00\x00",

@@ -12,6 +12,7 @@ import unittest
 from pathlib import Path
 
 import plans
+from plans import fields as limits
 from plans import library
 from plans.plan_files import DEPTH_LIMIT
 from reference import book_bytes, joined, listing, states_of, table_bytes, walked
@@ -150,7 +151,7 @@ class WrongArguments(unittest.TestCase):
             self.assertEqual(number_of(plans.build, book), number)
 
     def test_refusals_are_pickled(self):
-        for problem in (plans.Refused(9, 4), plans.Refused(1)):
+        for problem in (plans.Refused(9, 4, "row 1 has 41 entries"), plans.Refused(9, 4), plans.Refused(1)):
             again = pickle.loads(pickle.dumps(problem))
             self.assertEqual((again.number, again.offset, again.words, str(again)),
                              (problem.number, problem.offset, problem.words, str(problem)))
@@ -181,9 +182,13 @@ class Layouts(unittest.TestCase):
         self.assertEqual(fields, {name: [part for part, _ in layout._fields_] for name, layout in LAYOUTS.items()})
         calls = {name: result for result, name in re.findall(r"^(plans_\w+) (plans_\w+)\(", header, re.M)}
         self.assertEqual({name: LAYOUTS[result] for name, result in calls.items()}, library.RESULTS)
-        for name, size in [("WORK_BYTES", library.WORK_BYTES), ("LISTING_BYTES", library.LISTING_BYTES),
-                           ("ROWS_BYTES", library.ROWS_BYTES), ("PLAN_DEPTH", DEPTH_LIMIT), ("INPUT_LIMIT", 65535)]:
+        sizes = {"WORK_BYTES": library.WORK_BYTES, "LISTING_BYTES": library.LISTING_BYTES, "PLAN_DEPTH": DEPTH_LIMIT}
+        for name in ("INPUT_LIMIT", "NAME_LIMIT", "NAME_BYTES", "BOOK_ROWS", "ROW_LIMIT", "STATE_LIMIT", "SETTING_LIMIT"):
+            sizes[name] = getattr(limits, name)
+        for name, size in sizes.items():
             self.assertIn(f"#define PLANS_{name} {size}\n", header)
+        self.assertIn("#define PLANS_ROWS_BYTES (PLANS_BOOK_ROWS * (3 + PLANS_ROW_LIMIT))\n", header)
+        self.assertEqual(library.ROWS_BYTES, 256 * (3 + 40))
         for outcome in plans.Outcome:
             self.assertRegex(header, rf"PLANS_{outcome.name} = {outcome.value}\b")
 
@@ -218,8 +223,8 @@ class Finding(unittest.TestCase):
             environment.pop("PLANS_LIBRARY", None)
             done = subprocess.run([sys.executable, "-B", "-c", code], env=environment, capture_output=True, text=True, check=False)
             self.assertEqual(done.stdout, "9.9.9\n")
-            self.assertIn(f"libplans.so.2 is not in {module} and {folder}/lib: 'make lib' builds it", done.stderr)
+            self.assertIn(f"{library.FILE} is not in {module} and {folder}/lib: 'make lib' builds it", done.stderr)
             (Path(folder) / "lib").mkdir()
-            (Path(folder) / "lib" / "libplans.so.2").write_bytes((ROOT / "target" / "lib" / "libplans.so").read_bytes())
+            (Path(folder) / "lib" / library.FILE).write_bytes((ROOT / "target" / "lib" / "libplans.so").read_bytes())
             done = subprocess.run([sys.executable, "-B", "-c", code], env=environment, capture_output=True, text=True, check=False)
             self.assertIn("refusal 4: the input ends while a field is still due", done.stderr)

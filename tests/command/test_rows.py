@@ -180,9 +180,11 @@ class Refused(InFolder):
         self.refused("plan.xml:2:8: refusal 7: over 256 elements day in one plan: at most 256 rows are allowed; divide the plan, or take "
                      "some out", "plan.xml", "--element", "day")
         smaller = "take a smaller element, such as a meal in place of a day"
-        self.put("plan.xml", "<plan><day/>\n <day>" + 65 * "<tea/>" + "</day></plan>")
-        self.refused(f"plan.xml:2:2: refusal 9: an element day of over 64 children: at most 64 are allowed; {smaller}",
+        self.put("plan.xml", "<plan><day/>\n <day>" + 41 * "<tea/>" + "</day></plan>")
+        self.refused(f"plan.xml:2:2: refusal 9: an element day of over 40 children: at most 40 are allowed; {smaller}",
                      "plan.xml", "--element", "day")
+        self.put("plan.xml", "<plan>" + 256 * ("<day>" + 40 * "<t/>" + "</day>") + "</plan>")
+        self.answers(0, "", "rows", "plan.xml", "--element", "day", "-q", "-o", "out")
         self.put("plan.xml", "<plan>" + 65536 * " ")
         self.refused("plan.xml: refusal 1: the plan is over 65,535 bytes: give it in parts, each with one outermost element",
                      "plan.xml", "--element", "day")
@@ -203,21 +205,22 @@ class Refused(InFolder):
         more = "".join(f"<n{i}/>" for i in range(60, 65))
         self.counted(f"<day>{more}</day>", many,
                      f"two.xml: with this file there are over 64 different names: at most 64 are allowed; {smaller}")
-        rows = [f"<day><n{i}/>" + 63 * "<a/>" + "</day>" for i in range(8)]
-        self.counted(rows[7], "".join(rows[:7]),
+        rows = [f"<day><n{i}/>" + 39 * "<a/>" + "</day>" for i in range(13)]
+        self.counted(rows[12], "".join(rows[:12]),
                      f"two.xml: with this plan the prefix tree needs over 512 states; give fewer plans, or {smaller}")
 
     def test_all_plans_are_told_of_where_there_are_too_many_names(self):
-        row = "<day>" + "".join(f"<n{i}/>" for i in range(60)) + "</day>"
+        row = "".join("<day>" + "".join(f"<n{i}/>" for i in range(half, half + 30)) + "</day>" for half in (0, 30))
         more = row + "<day>" + "".join(f"<m{i}/>" for i in range(10)) + "</day>"
         for name, plan in [("one", row), ("two", more), ("three", more + "\n&"), ("four", more + 15 * "<a>" + "\n<a>"), ("five", "<_0/>"),
-                           ("six", row.replace("n", "k") + 255 * "<day/>" + "\n<day/>"), ("seven", f"<_0>{more}</_0>")]:
+                           ("six", row.replace("n", "k") + 254 * "<day/>" + "\n<day/>"), ("seven", f"<_0>{more}</_0>")]:
             self.put(name, f"<plan>{plan}</plan>")
         self.put("eight", f"<plan>{more}{65536 * ' '}</plan>")
         smaller = "take a smaller element, such as a meal in place of a day"
         said = [
-            "one: 1 row", "two: 71 names", "three:2:1: refusal 14: an & stands in the text, and a plan's text has none: write it in words, "
-            "such as 'and'", "four:2:3: refusal 15: a stands inside 16 other elements: at most 15 are allowed; nest less deeply",
+            "one: 2 rows", "two: 71 names",
+            "three:2:1: refusal 14: an & stands in the text, and a plan's text has none: write it in words, such as 'and'",
+            "four:2:3: refusal 15: a stands inside 16 other elements: at most 15 are allowed; nest less deeply",
             "five: 0 rows: it has no element day",
             "six:2:1: refusal 7: over 256 elements day in one plan: at most 256 rows are allowed; divide the plan, or take some out",
             "seven: 71 names", "eight: refusal 1: the plan is over 65,535 bytes: give it in parts, each with one outermost element",
@@ -261,7 +264,8 @@ class Refused(InFolder):
                 ("other.xml", "<day/>", f"other.xml: this is a plan, in XML ('plans rows' makes a book of plans); {wanted}"),
                 ("list", field(1, b"b") + field(1, b"a"), f"list: refusal 6: {plans.REFUSALS[6]}"),
                 ("cut", field(1, b"day")[:-1], f"cut: refusal 2: {plans.REFUSALS[2]}"),
-                ("bad.book", field(1, b"day") + field(3, b"\1"), f"bad.book: offset 6: refusal 9: {plans.REFUSALS[9]}")]:
+                ("bad.book", field(1, b"day") + field(3, b"\1"),
+                 f"bad.book: offset 6: refusal 9: {plans.REFUSALS[9]}: row 1 has the entry 1, which is no name's number")]:
             self.put(name, data)
             self.fails(said, "rows", "plan.xml", "--element", "day", "--names", name, "-o", "out")
         self.fails("plans: none: No such file or directory", "rows", "plan.xml", "--element", "day", "--names", "none", "-o", "out")
@@ -391,7 +395,7 @@ class Module(unittest.TestCase):
                 (b"", ("day",), "day", 14, 0), (b"<day><tea", ("day",), "day", 14, 9),
                 (b"<day><tea/>", ("day",), "day", 16, 9), (16 * b"<a>" + b"<a>", ("day",), "day", 15, 50),
                 (b"<a>" + 257 * b"<day/>" + b"</a>", ("day",), "day", 7, None), (bytes(65536), ("day",), "day", 1, None),
-                (b"<day>" + 65 * b"<day/>" + b"</day>", ("day",), "day", 9, None),
+                (b"<day>" + 41 * b"<day/>" + b"</day>", ("day",), "day", 9, None),
                 (b"", plans.write_names(("day",))[:-1], "day", 2, None)]:
             with self.assertRaises(plans.Refused) as caught:
                 plans.read_rows(plan, names, element)

@@ -66,6 +66,12 @@ class Scope(unittest.TestCase):
         shown = re.findall(r"^\| [^|]* \| ([\d,]+) \| `([a-z-]+)` \|$", section("9. Limits"), re.MULTILINE)
         self.assertEqual([name for number, name in shown if f"\n{name} = {number.replace(',', '')}\n" not in limits], [])
         self.assertEqual(len(shown), 9)
+        number_of = {name: int(number.replace(",", "")) for number, name in shown}
+        bounds = re.findall(r"([\d,]+)\s(?:bytes\s)?\(`([a-z-]+)`\)", section("9. Limits"))
+        self.assertEqual([name for _, name in bounds], ["table-bytes", "listing-bytes", "rows-bytes"])
+        self.assertEqual([name for number, name in bounds[:2] if f"\n{name} = {number.replace(',', '')}\n" not in limits], [])
+        self.assertIn("\nrows-bytes = book-rows * (3 + row-limit)\n", limits)
+        self.assertEqual(bounds[2][0], f"{number_of['book-rows'] * (3 + number_of['row-limit']):,}")
 
     def test_refusals(self):
         numbers = re.findall(r"^\| (\d+) \|", section("4. What a call gives back"), re.MULTILINE)

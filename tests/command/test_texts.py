@@ -52,9 +52,9 @@ class ThereAndBack(unittest.TestCase):
 
     def test_no_book_within_the_limits_is_too_long(self):
         names = tuple(chr(65 + i // 26) + chr(65 + i % 26) + 30 * "x" for i in range(64))
-        longest = write_book(Book(names, Class(0, 2, 1), 256 * (64 * (names[0],),)))
+        longest = write_book(Book(names, Class(0, 2, 1), 256 * (40 * (names[0],),)))
         read_book(longest)
-        self.assertEqual(len(longest), 19398)
+        self.assertEqual(len(longest), 13254)
 
 
 class Spreadsheets(unittest.TestCase):
@@ -97,8 +97,8 @@ class Copies(unittest.TestCase):
         self.assertEqual(len(few.book().rows), 256)
 
 
-def words(count: int) -> str:
-    return " ".join(f"n{i}" for i in range(count))
+def words(count: int, first: int = 0) -> str:
+    return " ".join(f"n{first + i}" for i in range(count))
 
 
 class Faults(unittest.TestCase):
@@ -164,14 +164,15 @@ class Faults(unittest.TestCase):
 
     def test_limits(self):
         smaller = "take a smaller element, such as a meal in place of a day"
-        read_text(words(64)).book()
-        self.says(words(64) + "\nn0 more\n", (2, f"with this day there are over 64 different names; {smaller}"))
+        all_names = words(32) + "\n" + words(32, 32)
+        read_text(all_names).book()
+        self.says(all_names + "\nn0 more\n", (3, f"with this day there are over 64 different names; {smaller}"))
         self.says(f"names = {words(65)}\nn0\n", (1, f"65 names are declared: at most 64 are allowed; {smaller}"))
-        self.says("x\n" + 65 * "x ", (2, f"a day of 65 names: at most 64 are allowed; {smaller}"))
-        rows = [f"n{i} " + 63 * "x " for i in range(7)]
-        read_text("\n".join(rows + ["last " + 62 * "x "])).book()
-        self.says("\n".join(rows + ["last " + 63 * "x "]),
-                  (8, f"with this day the prefix tree needs over 512 states; give fewer days, or {smaller}"))
+        self.says("x\n" + 41 * "x ", (2, f"a day of 41 names: at most 40 are allowed; {smaller}"))
+        rows = [f"n{i} " + 39 * "x " for i in range(12)]
+        read_text("\n".join(rows + ["last " + 30 * "x "])).book()
+        self.says("\n".join(rows + ["last " + 31 * "x "]),
+                  (13, f"with this day the prefix tree needs over 512 states; give fewer days, or {smaller}"))
 
     def test_257th_day(self):
         read_text(256 * "lunch\n").book()
@@ -226,13 +227,13 @@ class LongTexts(unittest.TestCase):
             self.assertLess(time.monotonic() - started, 10, data[:10])
 
     def test_beginnings_are_kept_to_the_limit_only(self):
-        tail = 60 * " x"
+        tail = 39 * " x"
         text = read_text("".join(f"n{i}{tail}\n" for i in range(2000)))
         tracemalloc.start()
         self.addCleanup(tracemalloc.stop)
         with self.assertRaises(BadText) as caught:
             text.book()
-        self.assertEqual([problem.line for problem in caught.exception.problems], [9, 64, 257])
+        self.assertEqual([problem.line for problem in caught.exception.problems], [13, 64, 257])
         self.assertLess(tracemalloc.get_traced_memory()[1], 2_000_000)
 
 

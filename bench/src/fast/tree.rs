@@ -5,7 +5,7 @@ use super::fields::{field_at, read_front, Front, ROW};
 use super::refusals::Refusal;
 use super::suffixes::lengthen;
 use super::{State, STATES};
-use crate::book::{ROW_LENGTH, ROW_LIMIT};
+use crate::book::{BOOK_ROWS, ROW_LIMIT};
 
 #[derive(Default)]
 pub struct Tree<C: Containers> {
@@ -33,7 +33,7 @@ impl<C: Containers> Tree<C> {
         self.count = 0;
         let bytes = book.len() - front.end;
         self.ends.clear();
-        self.ends.reserve(ROW_LIMIT.min(bytes / 3));
+        self.ends.reserve(BOOK_ROWS.min(bytes / 3));
         let states = STATES.min(1 + bytes);
         self.nodes.begin(states);
         self.children.begin(states, front.names);
@@ -93,10 +93,10 @@ fn check_row(mark: u8, row: &[u8], rows: usize) -> Result<(), Refusal> {
     if mark != ROW {
         return Err(Refusal::Misplaced);
     }
-    if rows == ROW_LIMIT {
+    if rows == BOOK_ROWS {
         return Err(Refusal::TooMany);
     }
-    if row.len() > ROW_LENGTH {
+    if row.len() > ROW_LIMIT {
         return Err(Refusal::BadRow);
     }
     Ok(())

@@ -5,7 +5,7 @@ use super::fields::{field_at, read_front, STATE};
 use super::refusals::Refusal;
 use super::tree::check_names;
 use super::{State, STATES};
-use crate::book::ROW_LENGTH;
+use crate::book::ROW_LIMIT;
 use crate::library::Walked;
 
 const ADMITTED: u8 = 1;
@@ -69,7 +69,7 @@ impl<C: Containers> Table<C> {
 
     /// Walks the row over the table that was read.
     pub fn walk(&self, table: &[u8], row: &[u8]) -> Result<Walked, Refusal> {
-        if row.len() > ROW_LENGTH {
+        if row.len() > ROW_LIMIT {
             return Err(Refusal::BadRow);
         }
         check_names(row, self.names)?;

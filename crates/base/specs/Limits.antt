@@ -2,7 +2,7 @@
 -- reading them, the kinds of classes, the ends of a walk, and the refusals (section 4.1). src/limits.rt has them by the same names.
 -- Assumes nothing.
 use mathlib.Core.Bool.{Bool, true, false}
-use Prim.Native.Nat.{ℕ, zero, suc}
+use Prim.Native.Nat.{ℕ, zero, suc, _+_, _*_}
 
 -- at most so many names
 abbrev pub name-limit : ℕ
@@ -18,7 +18,7 @@ book-rows = 256
 
 -- at most so many entries in a row
 abbrev pub row-limit : ℕ
-row-limit = 64
+row-limit = 40
 
 -- at most so many states, of a prefix tree and of a table
 abbrev pub state-limit : ℕ
@@ -53,10 +53,10 @@ listing-bytes = 32768
 abbrev pub plan-depth : ℕ
 plan-depth = 16
 
--- the rows of a plan have at most so many bytes: 256 row fields of 64 entries. It follows from the limits: `rows-length` of
--- plan_rows/proofs/Lengths.antt
+-- the rows of a plan have at most so many bytes: as many row fields as a book may have, each of 3 bytes and as many entries as a row may
+-- have. It follows from the limits: `rows-length` of plan_rows/proofs/Lengths.antt
 abbrev pub rows-bytes : ℕ
-rows-bytes = 17152
+rows-bytes = book-rows * (3 + row-limit)
 
 -- numbers of two bytes are below this
 abbrev pub number-limit : ℕ

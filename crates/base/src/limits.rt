@@ -8,7 +8,7 @@ pub const NAME_BYTES: usize = 32;
 // At most so many rows in a book, of at most so many entries.
 pub const BOOK_ROWS: usize = 256;
 
-pub const ROW_LIMIT: usize = 64;
+pub const ROW_LIMIT: usize = 40;
 
 // At most so many states, of a prefix tree and of a table.
 pub const STATE_LIMIT: usize = 512;
@@ -34,7 +34,7 @@ pub const LISTING_BYTES: usize = 32768;
 // Elements of a plan are nested at most so deep; the rows of a plan have at most so many bytes.
 pub const PLAN_DEPTH: usize = 16;
 
-pub const ROWS_BYTES: usize = 17152;
+pub const ROWS_BYTES: usize = BOOK_ROWS * (3 + ROW_LIMIT);
 
 // The marks of fields.
 pub const NAME_MARK: u8 = 1;

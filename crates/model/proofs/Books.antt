@@ -1,21 +1,20 @@
--- What an accepted book satisfies, by induction over its reading: names allowed one after the other, a class allowed, rows of
--- numbers of its names, and at least one of them. Assumes nothing.
+-- What an accepted book satisfies, by induction over its reading: names allowed one after the other, a class allowed, rows
+-- allowed, and at least one of them. Assumes nothing.
 use mathlib.Core.Path.{_≡_, refl, sym, _∙_, subst}
 use mathlib.Core.Logic.{⊎-elim}
-use mathlib.Core.Bool.{true, false, false≢true, and-eq-true-iff}
+use mathlib.Core.Bool.{true, false, false≢true}
 use mathlib.Core.List.{List, [], _∷_, _++_, append-nil, append-assoc, List·Memᴰ as In, List·Memᴰ·head as here}
 use mathlib.Core.List.{List·Memᴰ·tail as there}
 use mathlib.Core.List.{List·Memᴰ·not-nil, List·Memᴰ·cases-cons, List·Memᴰ·append-cases, List·Memᴰ·eq-of-singleton}
 use Prim.Native.Nat.{ℕ, suc, _≤_, _<_}
 use native.Mathlib.Omega.{arith}
-use lib.Dec.{leb}
 use lib.ListN.{length, length-append}
 use Rattle.base.specs.Limits.{row-limit}
 use Rattle.model.specs.Fields.{Class, ClassOk, Settings, Allowed, File, FileKind, book, takesStates, unread, readBook, readWith}
-use Rattle.model.specs.Fields.{withField, classOk, allBelow}
+use Rattle.model.specs.Fields.{withField, classOk, allBelow, rowOk}
 use Rattle.model.specs.Calls.{bookOf, treeFault, bookFault}
 use Rattle.model.specs.Claims.{Accepted}
-use Rattle.base.proofs.Tests.{Tells, tells-by, tells-and, tells-ltb}
+use Rattle.base.proofs.Tests.{Tells, tells-by, tells-and, tells-ltb, tells-leb}
 use Rattle.model.proofs.FieldLaws.{NameFits, RowFits, Fitting, a-name, a-class, a-row, a-state, fitting}
 use Rattle.model.proofs.FieldLaws.{first-of, class-parts}
 use Rattle.model.proofs.Turns.{read-keeps}
@@ -45,6 +44,10 @@ tells-allBelow n (y ∷ ys) =
     (λ h x m. ⊎-elim (λ e. subst (λ (z : ℕ). z < n) (sym e) (h .0)) (λ r. h .1 x r) (List·Memᴰ·cases-cons m))
     (λ h. (h y (here refl), λ x m. h x (there m)))
 
+-- a row that is allowed: within the limit, its entries names' numbers
+pub tells-rowOk : (n : ℕ) (row : List ℕ) → Tells (rowOk n row) ((length row ≤ row-limit) × ((x : ℕ) → In x row → x < n))
+tells-rowOk n row = tells-and (tells-leb (length row) row-limit) (tells-allBelow n row)
+
 -- a book as read so far
 pub record BookOk (f : File) : Type 0 where
   pub names-ok : NamesOk [] (f .names)
@@ -52,7 +55,7 @@ pub record BookOk (f : File) : Type 0 where
   pub class-ok : ClassOk (f .class-is)
   pub no-rows : f .stage ≤ 2 → f .items ≡ []
   pub some-row : 3 ≤ f .stage → 1 ≤ length (f .items)
-  pub rows-below : (r : List ℕ) → In r (f .items) → allBelow (length (f .names)) r ≡ true
+  pub rows-ok : (r : List ℕ) → In r (f .items) → rowOk (length (f .names)) r ≡ true
 
 -- before the first field
 pub nothing-read : (c : Class) → ClassOk c → BookOk (unread c)
@@ -63,7 +66,7 @@ nothing-read c ok =
       class-ok = ok;
       no-rows = λ h. refl;
       some-row = λ h. let z : ⊥ = omega arith in absurd z;
-      rows-below = λ r m. absurd (List·Memᴰ·not-nil m);
+      rows-ok = λ r m. absurd (List·Memᴰ·not-nil m);
     }
 
 -- what is read stays sound after a name, a class, a row
@@ -76,7 +79,7 @@ with-name f body low fits ok =
       class-ok = ok .class-ok;
       no-rows = λ h. ok .no-rows (omega arith);
       some-row = λ h. let z : ⊥ = omega arith in absurd z;
-      rows-below = λ r m. absurd (List·Memᴰ·not-nil (subst (λ (z : List (List ℕ)). In r z) (ok .no-rows (omega arith)) m));
+      rows-ok = λ r m. absurd (List·Memᴰ·not-nil (subst (λ (z : List (List ℕ)). In r z) (ok .no-rows (omega arith)) m));
     }
 
 with-class : (f : File) (body : List ℕ) → f .stage ≡ 1 → classOk body ≡ true → BookOk f → BookOk (withField f 2 body)
@@ -88,7 +91,7 @@ with-class f body at fits ok =
       class-ok = class-parts body fits .1;
       no-rows = λ h. ok .no-rows (omega arith);
       some-row = λ h. let z : ⊥ = omega arith in absurd z;
-      rows-below = ok .rows-below;
+      rows-ok = ok .rows-ok;
     }
 
 with-row :
@@ -96,23 +99,22 @@ with-row :
     BookOk (withField f 3 body)
 unfolding withField
 with-row f body high fits ok =
-    let below = and-eq-true-iff (leb (length body) row-limit) (allBelow (length (f .names)) body) .0 (fits .row-ok) .1 in
     record {
       names-ok = ok .names-ok;
       named = λ h. ok .named high;
       class-ok = ok .class-ok;
       no-rows = λ h. let z : ⊥ = omega arith in absurd z;
       some-row = λ h. omega (arith, length-append (f .items) (body ∷ []));
-      rows-below = λ r m.
-          ⊎-elim (λ n. ok .rows-below r n)
-          (λ n. subst (λ (z : List ℕ). allBelow (length (f .names)) z ≡ true) (sym (List·Memᴰ·eq-of-singleton n)) below)
+      rows-ok = λ r m.
+          ⊎-elim (λ n. ok .rows-ok r n)
+          (λ n. subst (λ (z : List ℕ). rowOk (length (f .names)) z ≡ true) (sym (List·Memᴰ·eq-of-singleton n)) (fits .row-ok))
           (List·Memᴰ·append-cases (f .items) m);
     }
 
 -- so it does after any field without a fault, in a kind of file that takes no states
 pub book-step :
-    (kind : FileKind) → takesStates kind ≡ false → (f : File) (mark : ℕ) (body : List ℕ) → Fitting kind f mark body → BookOk f →
-    BookOk (withField f mark body)
+    (kind : FileKind) → takesStates kind ≡ false → (f : File) (mark : ℕ) (body : List ℕ) → Fitting kind f mark body →
+    BookOk f → BookOk (withField f mark body)
 book-step kind none f mark body (a-name e low fits) ok =
     subst (λ (m : ℕ). BookOk (withField f m body)) (sym e) (with-name f body low fits ok)
 book-step kind none f mark body (a-class k e at fits) ok =

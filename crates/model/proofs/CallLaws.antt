@@ -1,7 +1,8 @@
 -- Which refusal comes first; what every call gives back, from its refusal: refused, refused for an output that is too short, or
--- answered; the same with the answer seen as another; what follows for callers; and the sizes of what is lent. Assumes nothing.
+-- answered; the same with the answer seen as another; what follows for callers; the sizes of what is lent; when a table is accepted, and
+-- by what a walk over it is judged. Assumes nothing.
 use mathlib.Core.Path.{_≡_, refl, sym, ap, _∙_, subst}
-use mathlib.Core.Bool.{Bool, true, false, cond, _||_, or-false}
+use mathlib.Core.Bool.{Bool, true, false, cond, _||_, not, or-false}
 use mathlib.Core.List.{List, [], _∷_}
 use Prim.Native.Nat.{ℕ, zero, suc, _≤_, _<_}
 use native.Mathlib.Omega.{arith}
@@ -9,9 +10,12 @@ use borrow.Author.Tests.{eq-eqb, ne-eqb, eqb-true, ltb-false, lt-ltb, le-ltb}
 use lib.Dec.{eqb, ltb, eqb·suc-zero}
 use lib.ListN.{length, getD, take, drop, length-append}
 use lib.Seq.{take-append-seam}
-use Rattle.base.specs.Limits.{when, firstOf, input-limit, work-bytes, bad-sizes, output-too-short}
-use Rattle.model.specs.Calls.{Call, tooShort, over, fronts, faultWith, unless, seenAs, Gives, Refuses, sizesFault, tableFault}
-use Rattle.base.proofs.Tests.{false-or}
+use Rattle.base.specs.Limits.{when, firstOf, input-limit, work-bytes, bad-sizes, bad-row, output-too-short}
+use Rattle.model.specs.Fields.{readTable, rowOk}
+use Rattle.model.specs.Tables.{isFirstMet}
+use Rattle.model.specs.Calls.{Call, tooShort, over, fronts, faultWith, unless, seenAs, Gives, Refuses, sizesFault, tableOf}
+use Rattle.model.specs.Calls.{tableStates, tableFault, walkFault}
+use Rattle.base.proofs.Tests.{false-or, or-false as neither}
 use Rattle.model.proofs.FieldLaws.{first-of, when-none}
 
 -- ---- refusals
@@ -92,7 +96,8 @@ seen-as f c outs outs′ r gives =
 
 module _ {A : Type 0} {c : Call A} {outs outs′ : List (List ℕ)} {r : A} (gives : Gives c outs outs′ r) where
   -- the answer tells the refusal where that of a refused call does, and that of an accepted one tells none
-  pub refusal-is : (tells : A → ℕ) → ((k : ℕ) → tells (c .none k) ≡ k) → tells (c .answer) ≡ 0 → tells r ≡ faultWith c outs
+  pub refusal-is :
+      (tells : A → ℕ) → ((k : ℕ) → tells (c .none k) ≡ k) → tells (c .answer) ≡ 0 → tells r ≡ faultWith c outs
   refusal-is tells none accepted = ap tells (gives .answer-is) ∙ go (faultWith c outs)
     where
       go : (k : ℕ) → tells (unless k (c .none k) (c .answer)) ≡ k
@@ -122,7 +127,9 @@ pub fault-roomy :
     faultWith c outs ≡ c .refusal
 fault-roomy c outs room = go (c .refusal) room
   where
-    go : (k : ℕ) → (k ≡ 0 → tooShort (c .writes) outs ≡ false) → firstOf k (when (tooShort (c .writes) outs) output-too-short) ≡ k
+    go :
+        (k : ℕ) → (k ≡ 0 → tooShort (c .writes) outs ≡ false) →
+        firstOf k (when (tooShort (c .writes) outs) output-too-short) ≡ k
     go zero room = ap (λ (b : Bool). when b output-too-short) (room refl)
     go (suc k) room = refl
 
@@ -145,6 +152,11 @@ module _ (input work : List ℕ) where
   unfolding sizesFault
   sizes-pass fit = ap (λ (b : Bool). when b bad-sizes) fit
 
+  pub sizes-none : SizesFit input work → sizesFault input work ≡ 0
+  sizes-none fit =
+      sizes-pass
+      (neither (le-ltb input-limit (length input) (fit .input-fits)) (le-ltb (length work) work-bytes (fit .work-fits)))
+
   pub sizes-fit : sizesFault input work ≡ 0 → SizesFit input work
   unfolding sizesFault
   sizes-fit e =
@@ -155,10 +167,26 @@ module _ (input work : List ℕ) where
         work-fits = ltb-false (length work) work-bytes (both .1);
       }
 
+-- ---- tables and walks
+
+-- a table of sizes that fit is accepted where it is read without a fault and numbered first-met
+pub table-accepted :
+    (s work : List ℕ) → SizesFit s work → readTable s .number ≡ 0 → isFirstMet (tableStates s) ≡ true →
+    tableFault s work ≡ 0
+unfolding tableFault
+table-accepted s work fit read met = rw (sizes-none s work fit, read, met)
+
 -- an accepted table has sizes that fit
 pub table-sizes : (s work : List ℕ) → tableFault s work ≡ 0 → SizesFit s work
 unfolding tableFault
 table-sizes s work none = sizes-fit s work (first-of (sizesFault s work) _ none .0)
+
+-- over an accepted table only the row is judged
+pub walk-judged :
+    (s row work : List ℕ) → tableFault s work ≡ 0 →
+    walkFault s row work ≡ when (not (rowOk (length (tableOf s .names)) row)) bad-row
+unfolding walkFault
+walk-judged s row work ok = ap (λ (n : ℕ). firstOf n (when (not (rowOk (length (tableOf s .names)) row)) bad-row)) ok
 
 -- ---- a call without outputs
 
@@ -198,7 +226,8 @@ module _ {A : Type 0} (c : Call A) (bytes out : List ℕ) (one : c .writes ≡ b
 
   -- what a call that is not refused left in its output
   pub one-wrote :
-      (out′ : List ℕ) (r : A) → Gives c (out ∷ []) (out′ ∷ []) r → faultWith c (out ∷ []) ≡ 0 → out′ ≡ over bytes out
+      (out′ : List ℕ) (r : A) → Gives c (out ∷ []) (out′ ∷ []) r → faultWith c (out ∷ []) ≡ 0 →
+      out′ ≡ over bytes out
   unfolding fronts
   one-wrote out′ r gives accepted =
       ap (λ (l : List (List ℕ)). getD l 0 []) (wrote gives accepted ∙ ap (λ (ws : List (List ℕ)). fronts ws (out ∷ [])) one)

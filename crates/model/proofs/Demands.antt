@@ -2,24 +2,24 @@
 -- read back as they were written and are rewritten to the same bytes, then the number of different rows. Assumes nothing.
 use mathlib.Core.Path.{_≡_, refl, sym, ap, _∙_, subst}
 use mathlib.Core.Logic.{_↔_}
-use mathlib.Core.Bool.{Bool, true, _||_}
+use mathlib.Core.Bool.{true}
 use mathlib.Core.List.{List, _++_, map, List·Memᴰ as In, List·Memᴰ·head as here, Memᴰ·append-left, Memᴰ·append-right}
 use Prim.Native.Nat.{ℕ, _≤_, _<_}
 use native.Mathlib.Omega.{arith}
 use lib.Dec.{ltb}
 use lib.ListN.{length}
-use borrow.Author.Tests.{ltb-false, le-ltb}
-use Rattle.base.specs.Limits.{state-limit, input-limit, work-bytes, table-bytes, when, bad-sizes, tree-too-large}
+use borrow.Author.Tests.{ltb-false}
+use Rattle.base.specs.Limits.{state-limit, work-bytes, table-bytes, tree-too-large}
 use Rattle.model.specs.Fields.{Settings, Allowed, File, file, Class, Read, readBook, readTable, accepted-file}
 use Rattle.model.specs.Tables.{State, stateBody, statesIn, isFirstMet, tableBytes}
 use Rattle.model.specs.Classes.{Word}
 use Rattle.model.specs.Joinings.{Step, treeOf, apart, isFullJoining, afterSteps, joinedGroups}
 use Rattle.model.specs.Quotients.{statesOf, bookStates, bookTable, tableAfter}
-use Rattle.model.specs.Calls.{bookOf, treeFault, bookFault, sizesFault, distinctOf, tableOf, tableFault, tableStates}
+use Rattle.model.specs.Calls.{bookOf, treeFault, bookFault, distinctOf, tableOf, tableFault, tableStates}
 use Rattle.model.specs.Claims.{Accepted, SameBook, DefiningJoining, Demand-3}
 use Rattle.model.specs.Claims.{Same-bytes, Reads-back, Different-rows, Demands}
 use Rattle.base.proofs.Lists.{same-length}
-use Rattle.base.proofs.Tests.{tells-hasRow, or-false}
+use Rattle.base.proofs.Tests.{tells-hasRow}
 use Rattle.model.proofs.Notions.{_▸_}
 use Rattle.model.proofs.Trees.{treeOf-tree, node-begins-row, same-nodes}
 use Rattle.model.proofs.DifferentRows.{tells-among, different-set, set-size, different-same, different-few}
@@ -30,11 +30,12 @@ use Rattle.model.proofs.Joined.{Joined, joining-joined, joinedGroups-jo
 use Rattle.model.proofs.InTheClass.{admits-row, admits-in-class, admits-smallest}
 use Rattle.model.proofs.Writable.{Writable}
 use Rattle.model.proofs.FieldLaws.{first-of, when-none}
+use Rattle.model.proofs.CallLaws.{table-accepted}
 use Rattle.model.proofs.StateBodies.{states-read-back}
 use Rattle.model.proofs.WritableStates.{states-writable}
 use Rattle.model.proofs.Identified.{among-itself}
 use Rattle.model.proofs.RowBooks.{rows-make-books}
-use Rattle.model.proofs.Reading.{accepted-has-row, accepted-entries, reads-written, written-length, rewrites-same}
+use Rattle.model.proofs.Reading.{accepted-has-row, accepted-row, reads-written, written-length, rewrites-same}
 
 -- ---- what an accepted book and a like book give
 
@@ -161,7 +162,7 @@ module _ (settings : Settings) (allowed : Allowed settings) where
       name-below s ok w a m =
           let first-row = accepted-has-row settings allowed s ok in
           let b = node-begins-row (bookOf settings s .items) (first-row .0) (first-row .1) (w ▸ a) m in
-          accepted-entries settings allowed s ok ((w ▸ a) ++ b .0) (b .1) a
+          accepted-row settings allowed s ok ((w ▸ a) ++ b .0) (b .1) .1 a
           (Memᴰ·append-left (b .0) (Memᴰ·append-right w (here refl)))
 
   -- the table of a book is read back: its names, its class and its states
@@ -187,16 +188,10 @@ module _ (settings : Settings) (allowed : Allowed settings) where
   -- so it is accepted, where there is room to work
   read-no-fault :
       (s work : List ℕ) → Accepted settings s → work-bytes ≤ length work → tableFault (bookTable (bookOf settings s)) work ≡ 0
-  unfolding tableFault sizesFault
   read-no-fault s work ok long =
-      let bytes : List ℕ = bookTable (bookOf settings s) in
-      let short : length bytes ≤ input-limit = omega (arith, table-length s ok) in
-      let sizes : when (ltb input-limit (length bytes) || ltb (length work) work-bytes) bad-sizes ≡ 0 =
-      ap (λ (t : Bool). when t bad-sizes)
-      (or-false (le-ltb input-limit (length bytes) short) (le-ltb (length work) work-bytes long)) in
-      let number : readTable bytes .number ≡ 0 = ap (λ (r : Read). r .number) (read-table s ok) in
-      let numbered : isFirstMet (tableStates bytes) ≡ true = ap isFirstMet (read-states s ok) ∙ book-writable s ok .first-met in
-      rw (sizes, number, numbered)
+      table-accepted (bookTable (bookOf settings s)) work
+      (record { input-fits = omega (arith, table-length s ok); work-fits = long })
+      (ap (λ (r : Read). r .number) (read-table s ok)) (ap isFirstMet (read-states s ok) ∙ book-writable s ok .first-met)
 
   -- tables read back as they were written
   pub reads-back : Reads-back settings

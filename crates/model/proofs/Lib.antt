@@ -58,6 +58,8 @@ pub mod ContextualRows
 pub mod Samples
 pub mod Identified
 pub mod Sources
--- tables that admit rows of bounded length only, and the worked days of docs/SCOPE.md
+-- tables that admit rows of bounded length only, the worked days of docs/SCOPE.md, rows with different first names, and the edges
 pub mod Walkable
 pub mod WorkedDays
+pub mod DifferentFirsts
+pub mod Edges

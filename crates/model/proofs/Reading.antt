@@ -1,4 +1,4 @@
--- What reading and writing come to: an accepted book has a row, and its entries are numbers of its names; written fields are
+-- What reading and writing come to: an accepted book has a row, and what its rows may be; written fields are
 -- read back; and read fields are written as they stood. Assumes nothing.
 use mathlib.Core.Path.{_≡_, refl}
 use mathlib.Core.Bool.{not}
@@ -6,7 +6,7 @@ use mathlib.Core.List.{List, [], _∷_, _++_, map, List·Memᴰ as In, List·Mem
 use Prim.Native.Nat.{ℕ, suc, _≤_, _<_}
 use native.Mathlib.Omega.{arith}
 use lib.ListN.{length, length-append}
-use Rattle.base.specs.Limits.{name-limit, state-limit, table-bytes, when, firstOf, bad-numbering}
+use Rattle.base.specs.Limits.{name-limit, row-limit, state-limit, table-bytes, when, firstOf, bad-numbering}
 use Rattle.model.specs.Fields.{Settings, Allowed, standard, file, readTable, readWith, accepted-file}
 use Rattle.model.specs.Tables.{State, fieldBytes, nameFields, classField, stateFields, stateBody, tableBytes}
 use Rattle.model.specs.Tables.{isFirstMet}
@@ -15,7 +15,7 @@ use Rattle.model.specs.Claims.{Accepted, AllBytes}
 use Rattle.model.proofs.Writable.{Writable, arcCount}
 use Rattle.model.proofs.FieldLaws.{first-of}
 use Rattle.model.proofs.StateBodies.{body-ok}
-use Rattle.model.proofs.Books.{accepted-book, tells-allBelow}
+use Rattle.model.proofs.Books.{accepted-book, tells-rowOk}
 use Rattle.model.proofs.ReadBack.{reads-table}
 use Rattle.model.proofs.WrittenLengths.{name-fields-length, names-few, state-fields-length}
 use Rattle.model.proofs.Rewriting.{bytes-of, rewritten-same}
@@ -32,12 +32,11 @@ module _ (settings : Settings) (allowed : Allowed settings) where
       let r = accepted-book settings allowed s ok in
       first-in (bookOf settings s .items) (r .1 .some-row (omega (arith, r .0)))
 
-  -- entries of its rows are numbers of its names
-  pub accepted-entries :
-      (s : List ℕ) → Accepted settings s → (r : List ℕ) → In r (bookOf settings s .items) → (a : ℕ) → In a r →
-      a < length (bookOf settings s .names)
-  accepted-entries s ok r m a n =
-      tells-allBelow (length (bookOf settings s .names)) r .fact (accepted-book settings allowed s ok .1 .rows-below r m) a n
+  -- its rows are within their limit, and their entries are numbers of its names
+  pub accepted-row :
+      (s : List ℕ) → Accepted settings s → (r : List ℕ) → In r (bookOf settings s .items) →
+      (length r ≤ row-limit) × ((a : ℕ) → In a r → a < length (bookOf settings s .names))
+  accepted-row s ok r m = tells-rowOk (length (bookOf settings s .names)) r .fact (accepted-book settings allowed s ok .1 .rows-ok r m)
 
   -- a table with the book's names and class, and states that can be written, is read back
   pub reads-written :

@@ -29,7 +29,7 @@ use Rattle.model.specs.Calls.{bookOf, bookFault, joinsOf, differentRows,
 use Rattle.model.specs.Claims.{allAmong}
 use Rattle.model.specs.Listing.{digits, arcText, stateLine, stateLines, firstLine, listing, refusalText, listingFault, listingOf}
 use Rattle.model.specs.WorkedDays.{sameRows, rowsOfLength, shortRows, acceptingIn, remarkHolds, isFile, dayHolds}
-use Rattle.model.specs.WorkedDays.{exampleHolds, daysHold, Day, Q3, finiteDays, TellsDefault, DaysClaimed}
+use Rattle.model.specs.WorkedDays.{exampleHolds, daysHold, Day, P2, Q3, finiteDays, TellsDefault, DaysClaimed}
 use Rattle.base.proofs.Tests.{Tells, decided, tells-itself, tells-eqb, tells-leb, tells-and, tells-or, tells-not}
 use Rattle.base.proofs.Tests.{tells-same, tells-all}
 use Rattle.base.proofs.Lists.{in-flatMap, in-filterBy}
@@ -64,6 +64,8 @@ record Computed : Type 0 where
   days : daysHold ≡ true
   -- the rows admitted on the finite days
   finite : all isExact finiteDays ≡ true
+  -- the bytes of P2's table
+  P2-bytes : bookTable (bookOf standard (P2 .book-bytes)) ≡ P2 .table-is
   -- the default class alone gives Q3's states, contexts of more than three names left out
   classes : filterBy givesStates candidates ≡ standard .default-class ∷ []
   default-states : length (statesBy (standard .default-class)) ≡ 4
@@ -85,7 +87,11 @@ unfolding flatMap walkable walkableTo onlyThese allAmong isExact statesBy candid
     bookOf bookFault joinsOf differentRows distinctOf tableOf tableStates
     digits arcText stateLine stateLines firstLine listing refusalText listingFault listingOf
     sameRows rowsOfLength shortRows acceptingIn remarkHolds isFile dayHolds exampleHolds daysHold
-computed = record { days = refl; finite = refl; classes = refl; default-states = refl; long-contexts = λ m h. refl }
+computed = record { days = refl; finite = refl; P2-bytes = refl; classes = refl; default-states = refl; long-contexts = λ m h. refl }
+
+-- P2's table, by its bytes
+pub P2-table-is : bookTable (bookOf standard (P2 .book-bytes)) ≡ P2 .table-is
+P2-table-is = computed .P2-bytes
 
 -- ---- the default class
 

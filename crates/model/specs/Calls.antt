@@ -4,7 +4,7 @@
 use mathlib.Core.Path.{_≡_}
 use mathlib.Core.Bool.{Bool, true, false, _||_, not, cond}
 use mathlib.Core.List.{List, [], _∷_, _++_}
-use Prim.Native.Nat.{ℕ, _-_, _<_}
+use Prim.Native.Nat.{ℕ, _-_, _<_, _≤_}
 use lib.Dec.{eqb, ltb}
 use lib.ListN.{length, drop, replicate}
 use Rattle.base.specs.Lists.{filterBy, same}
@@ -75,6 +75,10 @@ pub record Refuses (fault number : ℕ) : Type 0 where
 -- 1: input over 65,535 bytes, or a working area under 65,536
 unfoldable pub sizesFault : List ℕ → List ℕ → ℕ
 sizesFault input work = when (ltb input-limit (length input) || ltb (length work) work-bytes) bad-sizes
+
+-- with every working area that is long enough the refusal is this one, or 0
+abbrev pub WithWork : (List ℕ → ℕ) → ℕ → Type 0
+WithWork fault number = (work : List ℕ) → work-bytes ≤ length work → fault work ≡ number
 
 -- the book that the bytes hold
 unfoldable pub bookOf : Settings → List ℕ → File

@@ -1,4 +1,5 @@
--- How many bytes the fields of rows have: three and its entries each, so at most 67, and 256 of them at most 17,152. Assumes nothing.
+-- How many bytes the fields of rows have: three and its entries each, so that what a book may have takes at most
+-- `rows-bytes`. Assumes nothing.
 use mathlib.Core.Path.{_≡_, refl, sym, _∙_}
 use mathlib.Core.Bool.{true}
 use mathlib.Core.List.{List, [], _∷_, _++_, flatMap}
@@ -23,7 +24,8 @@ pub row-field-length : (row : List ℕ) → length (fieldBytes row-mark row) ≡
 unfolding fieldBytes
 row-field-length row = omega arith
 
-pub row-fields-length : (row : List ℕ) (rows : List (List ℕ)) → length (rowFields (row ∷ rows)) ≡ 3 + length row + length (rowFields rows)
+pub row-fields-length :
+    (row : List ℕ) (rows : List (List ℕ)) → length (rowFields (row ∷ rows)) ≡ 3 + length row + length (rowFields rows)
 row-fields-length row rows =
     rw (row-fields-next row rows) (omega (arith, length-append (fieldBytes row-mark row) (rowFields rows), row-field-length row))
 

@@ -76,7 +76,7 @@ pub record RowsHandedOver : Type 0 where
   -- what is not refused is a plan without a fault
   pub is-plan : (c : RowsCall) → c .result .refusal ≡ 0 → (plan : Plan) × (planBytes plan ≡ c .plan)
   pub no-fault : (c : RowsCall) → c .result .refusal ≡ 0 → NoFault c
-  -- its traces are what was written, in at most 17,152 bytes; where there is a row, the list and the rows make a book
+  -- its traces are what was written, in at most `rows-bytes` bytes; where there is a row, the list and the rows make a book
   pub traced : (c : RowsCall) → c .result .refusal ≡ 0 → (plan : Plan) → planBytes plan ≡ c .plan → Traced c plan
   pub short : (c : RowsCall) → c .result .refusal ≡ 0 → c .result .length ≤ rows-bytes
   pub makes-book : (c : RowsCall) → c .result .refusal ≡ 0 → 1 ≤ c .result .rows → (plan : Plan) → planBytes plan ≡ c .plan
@@ -96,5 +96,5 @@ pub record RowsHandedOver : Type 0 where
       → (plan : Plan) → planBytes plan ≡ c .plan
       → c .result .refusal
       ≡ firstOf (rowsFault (rowsOf c plan)) (when (ltb (length (c .out)) (length (rowFields (rowsOf c plan)))) output-too-short)
-  -- an output of 17,152 bytes is never too short
+  -- an output of so many bytes is never too short
   pub enough : (c : RowsCall) → rows-bytes ≤ length (c .out) → c .result .refusal ≡ output-too-short → ⊥

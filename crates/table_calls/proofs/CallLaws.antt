@@ -1,15 +1,14 @@
 -- What a table rewritten and a row walked give back, from what opening the table says. Assumes nothing.
 use mathlib.Core.Path.{_≡_, refl, sym, ap, _∙_}
-use mathlib.Core.Bool.{Bool, true, false, not, cond, and-eq-true-iff}
+use mathlib.Core.Bool.{Bool, true, false, not, cond}
 use mathlib.Core.List.{List, [], _∷_}
 use Prim.Native.Nat.{ℕ, _≤_, _<_}
 use native.Mathlib.Omega.{arith}
-use borrow.Author.Tests.{leb-true}
-use lib.Dec.{eqb, leb}
+use lib.Dec.{eqb}
 use lib.ListN.{length, take, drop, length-take, take-append-drop}
 use lib.Seq.{take-append-seam}
-use Rattle.base.specs.Limits.{when, row-limit, bad-row, output-too-short}
-use Rattle.model.specs.Fields.{File, allBelow, rowOk}
+use Rattle.base.specs.Limits.{when, bad-row, output-too-short}
+use Rattle.model.specs.Fields.{File, rowOk}
 use Rattle.model.specs.Tables.{longestBeginning, walk}
 use Rattle.model.specs.Claims.{AllBytes}
 use Rattle.model.specs.Calls.{Gives, Refuses, tooShort, unless, tableOf, tableStates, tableFault, walkFault}
@@ -56,10 +55,6 @@ module _ (table work out : List ℕ) (bytes : AllBytes table) (none : tableFault
 -- how many names an accepted table has
 pub names-count : (s : List ℕ) (p : Place) → TableRead s p → length (tableOf s .names) ≡ p .names
 names-count s p read = ap (λ (f : File). length (f .names)) (sym (read .file-is)) ∙ length-names s p (read .sound)
-
--- an accepted row has at most 64 entries
-pub row-short : (n : ℕ) (row : List ℕ) → rowOk n row ≡ true → length row ≤ row-limit
-row-short n row ok = leb-true (length row) row-limit (and-eq-true-iff (leb (length row) row-limit) (allBelow n row) .0 ok .0)
 
 -- a beginning taken again by its length
 take-again : (n : ℕ) (l : List ℕ) → take (length (take n l)) l ≡ take n l

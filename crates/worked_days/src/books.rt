@@ -70,22 +70,22 @@ fn put_rows(out: &mut [u8; ROOM], from: usize, count: usize) -> usize
     at
 }
 
-// Appends a row of the name `first` and then 63 times name 0.
+// Appends a row of the name `first` and then 39 times name 0.
 fn put_long_row(out: &mut [u8; ROOM], from: usize, first: u8) -> usize
     requires { ⌜ from ≤ 4096 ⌝ }
     ensures { λ r. ⌜ r ≤ 4096 ⌝ }
 {
-    let at = put(out, from, &[3, 0, 64, first]);
-    put(out, at, &[0u8; 63])
+    let at = put(out, from, &[3, 0, 40, first]);
+    put(out, at, &[0u8; 39])
 }
 
-// Eight names, and a long row for each of the first seven.
-fn put_seven(out: &mut [u8; ROOM]) -> usize
+// Thirteen names, and a long row for each of the first twelve.
+fn put_twelve(out: &mut [u8; ROOM]) -> usize
     ensures { λ r. ⌜ r ≤ 4096 ⌝ }
 {
-    let mut at = put_names(out, 8);
+    let mut at = put_names(out, 13);
     let mut first: u8 = 0;
-    while first < 7 {
+    while first < 12 {
         at = put_long_row(out, at, first);
         first += 1;
     }
@@ -217,23 +217,24 @@ pub fn rows() {
     let more = put_rows(&mut out, name, 257);
     book_in(b"257 rows", &out, more);
     let long = put_long_row(&mut out, name, 0);
-    book_in(b"a row of 64", &out, long);
-    let head = put(&mut out, name, &[3, 0, 65]);
-    let longer = put(&mut out, head, &[0u8; 65]);
-    book_in(b"a row of 65", &out, longer);
+    book_in(b"a row of 40", &out, long);
+    let head = put(&mut out, name, &[3, 0, 41]);
+    let longer = put(&mut out, head, &[0u8; 41]);
+    book_in(b"a row of 41", &out, longer);
     book(
         b"an entry that is no name's number",
         b"\x01\x00\x05snack\x03\x00\x01\x01",
     );
 }
 
-// Prefix trees: 10, and what just passes. Eight rows with different first names, seven of 64 and the last of 63 or 64.
+// Prefix trees: 10, and what just passes. Thirteen rows with different first names, twelve of 40 and the last of 31 or 32.
 pub fn trees() {
     let mut out = io::buffer();
-    let seven = put_seven(&mut out);
-    let head = put(&mut out, seven, &[3, 0, 63, 7]);
-    let fewer = put(&mut out, head, &[0u8; 62]);
+    let twelve = put_twelve(&mut out);
+    let head = put(&mut out, twelve, &[3, 0, 31, 12]);
+    let fewer = put(&mut out, head, &[0u8; 30]);
     book_in(b"a prefix tree of 512 states", &out, fewer);
-    let eight = put_long_row(&mut out, seven, 7);
-    book_in(b"a prefix tree of 513 states", &out, eight);
+    let longer = put(&mut out, twelve, &[3, 0, 32, 12]);
+    let more = put(&mut out, longer, &[0u8; 31]);
+    book_in(b"a prefix tree of 513 states", &out, more);
 }

@@ -1,8 +1,9 @@
 // The worked days and the sources' examples, as files, each with its listing; then the edges of docs/SCOPE.md, of books each with the first
-// line that it comes to, of tables and walks each with the refusal's number or 0. The file `stdout` has what docs/SCOPE.md gives, and for
-// the sources' examples the listings of examples/sources.
+// line that it comes to, of tables, walks and plans each with the refusal's number or 0. The file `stdout` has what docs/SCOPE.md gives,
+// and for the sources' examples the listings of examples/sources.
 mod books;
 mod parts;
+mod reading;
 mod tables;
 
 use base::limits::LISTING_BYTES;
@@ -74,4 +75,5 @@ fn main() {
     books::rows();
     books::trees();
     tables::all();
+    reading::rows();
 }

@@ -12,6 +12,10 @@ const CLASS: [u8; 6] = *b"\x02\x00\x03\x00\x01\x01";
 const GOOD: [u8; 28] =
     *b"\x01\x00\x05snack\x02\x00\x03\x00\x01\x01\x04\x00\x04\x00\x00\x00\x01\x04\x00\x04\x01\x00\x00\x01";
 
+// The table of P2: four names, and two states; a snack, name 3, leads from both to the second, which accepts.
+const P2: [u8; 57] =
+    *b"\x01\0\tbreakfast\x01\0\x06dinner\x01\0\x05lunch\x01\0\x05snack\x02\0\x03\0\x01\x01\x04\0\x04\0\x03\0\x01\x04\0\x04\x01\x03\0\x01";
+
 // A state that accepts, without arcs: the last of a table.
 const END: [u8; 4] = *b"\x04\x00\x01\x01";
 
@@ -50,10 +54,10 @@ fn table_in(tried: &[u8], buffer: &[u8; ROOM], end: usize) {
     table_before(tried, buffer, end);
 }
 
-// A row walked over the good table.
+// A row walked over the table of P2.
 fn row(tried: &[u8], names: &[u8]) {
     let mut work = io::large_buffer();
-    let walked = plans::plans_walk(&GOOD, names, &mut work);
+    let walked = plans::plans_walk(&P2, names, &mut work);
     count(tried, b"", walked.refusal as u64);
 }
 
@@ -137,15 +141,16 @@ fn limits() {
     table_in(b"64 names", &out, end);
     let more = put_names(&mut out, 65);
     table_in(b"65 names", &out, more);
+    states(b"42 states, through which only a row of 41 leads", 41);
     states(b"512 states", 511);
     states(b"513 states", 512);
 }
 
 // Rows: 9, and what just passes.
 fn rows() {
-    row(b"a row of 64", &[0u8; 64]);
-    row(b"a row of 65", &[0u8; 65]);
-    row(b"an entry that is no name's number", &[0, 1]);
+    row(b"a walk of 40 snacks", &[3u8; 40]);
+    row(b"a walk of 41 snacks", &[3u8; 41]);
+    row(b"a walk with an entry that is no name's number", &[3, 4]);
 }
 
 // A good table, then the edges.

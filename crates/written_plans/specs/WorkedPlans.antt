@@ -1,6 +1,6 @@
--- Worked plans (docs/SCOPE.md, section 11): plans and bytes that are none, each with what reading it comes to, and one test that
--- compares it with what the definitions compute. The names are day, lunch and snack, and day is chosen. `worked-plans-hold` of
--- proofs/WorkedPlans.antt proves it. Bytes are hexadecimal. Assumes nothing.
+-- Worked plans (docs/SCOPE.md, sections 10.1 and 11): plans and bytes that are none, each with what reading it comes to, and one test that
+-- compares it with what the definitions compute; and the longest row, with one that is longer. The names are day, lunch and snack, and
+-- day is chosen. `worked-plans-hold` of proofs/WorkedPlans.antt proves it. Bytes are hexadecimal. Assumes nothing.
 use mathlib.Core.Path.{_≡_}
 use mathlib.Core.Bool.{Bool, true, _&&_, cond}
 use mathlib.Core.List.{List, [], _∷_, _++_, map}
@@ -8,9 +8,12 @@ use Prim.Native.Nat.{ℕ, zero, suc}
 use lib.Dec.{eqb}
 use lib.ListN.{replicate}
 use Rattle.base.specs.Lists.{all}
-use Rattle.base.specs.Limits.{too-many}
+use Rattle.base.specs.Limits.{too-many, bad-row}
+use Rattle.model.specs.Tables.{nameFields}
 use Rattle.model.specs.WorkedDays.{sameRows}
+use Rattle.model.specs.Calls.{WithWork}
 use Rattle.written_plans.specs.Reading.{readPlan, entryOf, rowsIn, rowsFault}
+use Rattle.written_plans.specs.Calls.{planFault}
 
 -- a refusal and its place, or 0 and 0; the rows where there is no refusal; and the bytes
 pub record Example : Type 0 where
@@ -150,7 +153,13 @@ examples =
     (times 15 (start a) (start day (single a [])))
     ∷ []
 
--- what is proved: the examples hold; and 257 rows that are all too long are refused by 7
+-- a day of so many snacks
+abbrev pub dayOf : ℕ → List ℕ
+dayOf n = start day (times n (single snack) (end day []))
+
+-- what is proved: the examples hold; a day of 40 entries passes, and one of 41 gives 9; 257 rows that are all too long give 7
 pub record WorkedPlansHold : Type 0 where
   pub examples-hold : all holds examples ≡ true
-  pub seven-first : rowsFault (replicate 257 (replicate 65 0)) ≡ too-many
+  pub row-passes : WithWork (planFault (dayOf 40) (nameFields plan-names) 0) 0
+  pub row-refused : WithWork (planFault (dayOf 41) (nameFields plan-names) 0) bad-row
+  pub seven-first : rowsFault (replicate 257 (replicate 41 0)) ≡ too-many

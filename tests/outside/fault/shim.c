@@ -49,6 +49,15 @@ static uint32_t rows_of(const uint8_t *book, size_t book_len, int without_copies
     return rows;
 }
 
+/* Whether a row of as many entries as the limit is among fields that were accepted or written. */
+static int has_longest(const uint8_t *fields, size_t length)
+{
+    for (size_t at = 0; at < length; at += 3 + (size_t)fields[at + 2])
+        if (fields[at] == PLANS_ROW_MARK && fields[at + 2] == PLANS_ROW_LIMIT)
+            return 1;
+    return 0;
+}
+
 plans_built plans_build(const uint8_t *book, size_t book_len,
                         uint8_t *work, size_t work_len,
                         uint8_t *out, size_t out_len)
@@ -71,6 +80,8 @@ plans_built plans_build(const uint8_t *book, size_t book_len,
         built.distinct = rows_of(book, book_len, 1);
     if (is("DISTINCT_REFUSED") && built.refusal == PLANS_OUTPUT_TOO_SHORT)
         built.distinct = rows_of(book, book_len, 1);
+    if (is("LONGEST_IN_BOOK") && built.refusal == PLANS_OK && has_longest(book, book_len))
+        built.refusal = PLANS_BAD_ROW;
     return built;
 }
 
@@ -93,6 +104,8 @@ plans_walked plans_walk(const uint8_t *table, size_t table_len,
 {
     plans_walked walked = real_plans_walk(table, table_len, row, row_len, work, work_len);
 
+    if (is("LONGER_WALK") && row_len == PLANS_ROW_LIMIT + 1)
+        walked = real_plans_walk(table, table_len, row, PLANS_ROW_LIMIT, work, work_len);
     if (is("NEXT_NAMES"))
         walked.next_names &= ~(UINT64_C(1) << 63);
     return walked;
@@ -190,6 +203,8 @@ plans_plan_rows plans_read_rows(const uint8_t *plan, size_t plan_len,
         first_last(out, read.length);
     if (is("PLACE") && read.refusal == PLANS_BAD_PLAN && read.at == plan_len)
         read.at = 0;
+    if (is("LONGEST_IN_PLAN") && read.refusal == PLANS_OK && has_longest(out, read.length))
+        read.refusal = PLANS_BAD_ROW;
     if (is("ROWS_TOUCHED") && read.refusal == PLANS_TOO_MANY && out_len > 0)
         out[0] ^= 1;
     return read;

@@ -8,6 +8,9 @@ use std::collections::BTreeSet;
 /// The most names' numbers in a small book's rows, so that its tree has at most 40 states.
 pub const SMALL: usize = 39;
 
+/// Lengths of rows that are far too long, some of which a byte takes for shorter ones.
+pub const TOO_LONG: [usize; 4] = [ROW_LIMIT + 2, 64, 256, 256 + ROW_LIMIT];
+
 /// A book before it is written. No class field is written where `class` is none.
 #[derive(Clone, Debug)]
 pub struct Draft {

@@ -11,7 +11,7 @@ pub const STATE: u8 = 4;
 pub const NAMES_LIMIT: usize = 64;
 pub const NAME_LENGTH_LIMIT: usize = 32;
 pub const ROWS_LIMIT: usize = 256;
-pub const ROW_LIMIT: usize = 64;
+pub const ROW_LIMIT: usize = 40;
 pub const STATES_LIMIT: usize = 512;
 
 #[derive(Clone, Copy, Debug, PartialEq, Eq)]

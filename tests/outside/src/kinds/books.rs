@@ -3,7 +3,7 @@
 use crate::comparing::{Mismatch, Run};
 use crate::damage::{damaged_everywhere, moved_fields};
 use crate::drawing::{
-    add_copies, add_near_copies, all_classes, draw_book, draw_class, draw_names, draw_small_book, Draft, SMALL,
+    add_copies, add_near_copies, all_classes, draw_book, draw_class, draw_names, draw_small_book, Draft, SMALL, TOO_LONG,
 };
 use reference::fields::{NAMES_LIMIT, ROWS_LIMIT, ROW_LIMIT};
 use reference::random::Random;
@@ -59,13 +59,13 @@ fn draw_many_rows(random: &mut Random) -> Draft {
     Draft { names: draw_names(random, NAMES_LIMIT), class: draw_class(random), rows }
 }
 
-/// A row of each length, the last too long by one, beside rows of a small book.
+/// A row of each length, the last of them too long by one, and rows that are far too long, beside rows of a small book.
 pub fn row_lengths(run: &mut Run) -> Result<(), Mismatch> {
     let mut book = draw_small_book(&mut run.random);
     book.names = draw_names(&mut run.random, book.names.len().max(2));
     book.rows.truncate(3);
     let names = run.random.between(1, book.names.len());
-    for length in 0..=ROW_LIMIT + 1 {
+    for length in (0..=ROW_LIMIT + 1).chain(TOO_LONG) {
         let row = (0..length).map(|_| run.random.below(names) as u8).collect();
         book.rows.push(row);
         run.compare_build(&book.bytes())?;

@@ -2,7 +2,7 @@
 
 use crate::comparing::{Mismatch, Run};
 use crate::damage::any_bytes;
-use crate::drawing::{draw_name, draw_names};
+use crate::drawing::{draw_name, draw_names, TOO_LONG};
 use crate::planning::{draw_plan, draw_small_plan, draw_text_byte, element, empty, near_names, nested, Plan, Text};
 use reference::fields::{CLASS, NAME, NAMES_LIMIT, NAME_LENGTH_LIMIT, ROW, ROWS_LIMIT, ROW_LIMIT};
 use reference::plan_rows::LEVELS_LIMIT;
@@ -68,7 +68,7 @@ fn filled(random: &mut Random, plan: &Plan, length: usize) -> Vec<u8> {
     element(b"a", &[&text[..], inside].concat())
 }
 
-/// Chosen elements of up to 64 children each, as many as there is room for, then text that gives the length.
+/// Chosen elements of up to 40 children each, as many as there is room for, then text that gives the length.
 fn many_tags(random: &mut Random, plan: &Plan, length: usize) -> Vec<u8> {
     let room = length - b"<a></a>".len();
     let mut inside: Vec<u8> = vec![];
@@ -142,14 +142,14 @@ fn draw_levels(random: &mut Random, plan: &Plan, depth: usize, inside: &[u8]) ->
     bytes
 }
 
-/// 255 to 257 rows, rows of 63 to 65 entries, and both together; with a fault behind them, and with outputs too short.
+/// 255 to 257 rows, one of them of 39 to 41 entries or far too long; with a fault behind them, and with outputs too short.
 pub fn row_limits(run: &mut Run) -> Result<(), Mismatch> {
     let names = draw_names(&mut run.random, 2);
     let chosen = run.random.below(2);
     let plan = Plan { bytes: vec![], names, chosen };
     let list = plan.list();
     for rows in ROWS_LIMIT - 1..=ROWS_LIMIT + 1 {
-        for entries in ROW_LIMIT - 1..=ROW_LIMIT + 1 {
+        for entries in (ROW_LIMIT - 1..=ROW_LIMIT + 1).chain(TOO_LONG) {
             let days = draw_days(&mut run.random, &plan, rows, entries);
             let whole = element(b"_none", &days);
             run.compare_rows(plan.ask(&whole, &list))?;
@@ -157,6 +157,19 @@ pub fn row_limits(run: &mut Run) -> Result<(), Mismatch> {
             run.compare_rows_lent(plan.ask(&whole, &list), Lent { work: WORK_BYTES, output })?;
             run.compare_rows(plan.ask(&[b"<_none>", &days[..], b"&"].concat(), &list))?;
         }
+    }
+    most_bytes(run)
+}
+
+/// As many rows as there may be, each as long as may be, in an output that just takes them and in one a byte shorter.
+fn most_bytes(run: &mut Run) -> Result<(), Mismatch> {
+    let names = vec![b"a".to_vec(), b"b".to_vec()];
+    let chosen = run.random.below(2);
+    let day = element(&names[chosen], &empty(&names[1 - chosen]).repeat(ROW_LIMIT));
+    let plan = Plan { bytes: element(b"_none", &day.repeat(ROWS_LIMIT)), names, chosen };
+    let most = ROWS_LIMIT * (3 + ROW_LIMIT);
+    for output in [most - 1, most] {
+        run.compare_rows_lent(plan.ask(&plan.bytes, &plan.list()), Lent { work: WORK_BYTES, output })?;
     }
     Ok(())
 }
@@ -177,7 +190,7 @@ fn draw_days(random: &mut Random, plan: &Plan, rows: usize, entries: usize) -> V
     bytes
 }
 
-/// Lists of up to 65 names, with 64 of them in a row; and behind 64 names a field that is refused, or passes but for its number.
+/// Lists of up to 65 names, with 40 of them in a row; and behind 64 names a field that is refused, or passes but for its number.
 pub fn name_counts(run: &mut Run) -> Result<(), Mismatch> {
     for count in [1, 2, NAMES_LIMIT - 1, NAMES_LIMIT, NAMES_LIMIT + 1] {
         let names = draw_names(&mut run.random, count);

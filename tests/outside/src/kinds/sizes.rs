@@ -135,14 +135,14 @@ fn chain_of_states(count: usize) -> Vec<u8> {
     Table { names: vec![b"n".to_vec()], class: Class::SeenSet, states }.bytes()
 }
 
-/// Eight rows with different first names: seven of 64 and one of 63 need 512 states, eight of 64 need 513. Mostly of many names,
-/// so that few states are joined and the reference is quick.
+/// Thirteen rows with different first names: twelve of 40 and one of 31 need 512 states, with 32 in the last they need 513. Mostly of
+/// many names, so that few states are joined and the reference is quick.
 fn tree_limit(run: &mut Run) -> Result<(), Mismatch> {
-    for last in [ROW_LIMIT - 1, ROW_LIMIT] {
+    for last in [31, 32] {
         let used = if run.random.once_in(8) { run.random.between(4, 16) } else { NAMES_LIMIT };
         let mut rows = vec![];
-        for first in 0..8 {
-            let length = if first == 7 { last } else { ROW_LIMIT };
+        for first in 0..13 {
+            let length = if first == 12 { last } else { ROW_LIMIT };
             let mut row: Vec<u8> = (0..length).map(|_| run.random.below(used) as u8).collect();
             row[0] = first;
             rows.push(row);

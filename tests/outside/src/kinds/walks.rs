@@ -3,7 +3,7 @@
 use super::tables::draw_small_table;
 use crate::comparing::{Mismatch, Run};
 use crate::damage::{damaged_at, moved_fields};
-use crate::drawing::{draw_table, draw_walk};
+use crate::drawing::{draw_table, draw_walk, TOO_LONG};
 use reference::fields::{ROW_LIMIT, STATES_LIMIT};
 
 /// Rows over a small table, and over one of any number of states.
@@ -20,10 +20,10 @@ pub fn rows(run: &mut Run) -> Result<(), Mismatch> {
     Ok(())
 }
 
-/// A row of each length, the last too long by one.
+/// A row of each length, the last of them too long by one, and rows that are far too long.
 pub fn row_lengths(run: &mut Run) -> Result<(), Mismatch> {
     let table = draw_small_table(&mut run.random);
-    for length in 0..=ROW_LIMIT + 1 {
+    for length in (0..=ROW_LIMIT + 1).chain(TOO_LONG) {
         let row = draw_walk(&mut run.random, &table, length);
         run.compare_walk(&table.bytes(), &row)?;
     }

@@ -15,9 +15,9 @@ fn sixty_four_names_pass_and_65_give_7() {
 }
 
 #[test]
-fn a_row_of_64_passes_and_65_gives_9() {
-    assert!(built(&book(&["a"], None, &[vec![0; 64]])).is_ok());
-    assert_eq!(built(&book(&["a"], None, &[vec![0; 65]])), Err(Refusal::BadRow));
+fn a_row_of_40_passes_and_41_gives_9() {
+    assert!(built(&book(&["a"], None, &[vec![0; 40]])).is_ok());
+    assert_eq!(built(&book(&["a"], None, &[vec![0; 41]])), Err(Refusal::BadRow));
 }
 
 #[test]
@@ -43,17 +43,17 @@ fn last_names_to_8_pass() {
     assert_eq!(last(9), Err(Refusal::BadClass));
 }
 
-/// Eight rows with different first names, then all of name 8; the last of them `last` long.
-fn eight_rows(last: usize) -> Vec<Vec<u8>> {
-    let row = |first: u8, length| [vec![first], vec![8; length - 1]].concat();
-    (0..8).map(|first| row(first, if first == 7 { last } else { 64 })).collect()
+/// Thirteen rows with different first names, then all of name 13; twelve of 40, and the last of them `last` long.
+fn thirteen_rows(last: usize) -> Vec<Vec<u8>> {
+    let row = |first: u8, length| [vec![first], vec![13; length - 1]].concat();
+    (0..13).map(|first| row(first, if first == 12 { last } else { 40 })).collect()
 }
 
 #[test]
 fn a_tree_of_512_states_passes_and_513_give_10() {
-    let names = many_names(9);
+    let names = many_names(14);
     let names: Vec<&str> = names.iter().map(String::as_str).collect();
-    let passes = built(&book(&names, Some(Class::Context { k: 8, h: 8 }), &eight_rows(63))).unwrap();
+    let passes = built(&book(&names, Some(Class::Context { k: 8, h: 8 }), &thirteen_rows(31))).unwrap();
     assert_eq!(passes.states + passes.joins, STATES_LIMIT);
-    assert_eq!(built(&book(&names, None, &eight_rows(64))), Err(Refusal::TreeTooLarge));
+    assert_eq!(built(&book(&names, None, &thirteen_rows(32))), Err(Refusal::TreeTooLarge));
 }

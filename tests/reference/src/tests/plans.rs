@@ -229,10 +229,10 @@ fn then_the_list_and_the_chosen_number() {
 #[test]
 fn last_come_7_then_9_then_13_over_the_whole_plan() {
     let plan = |inside: &str| format!("<plan>{inside}</plan>");
-    let long = format!("<day>{}</day>", "<lunch/>".repeat(65));
+    let long = format!("<day>{}</day>", "<lunch/>".repeat(41));
     assert_eq!(days(&plan(&"<day/>".repeat(256))).unwrap().rows, 256);
     assert_eq!(fault(&plan(&"<day/>".repeat(257))), (TooMany, 0));
-    assert_eq!(rows(&plan(&long.replacen("<lunch/>", "", 1)))[0].len(), 64);
+    assert_eq!(rows(&plan(&long.replacen("<lunch/>", "", 1)))[0].len(), 40);
     assert_eq!(fault(&plan(&long)), (BadRow, 0));
     assert_eq!(fault(&plan(&format!("{long}{}", "<day/>".repeat(256)))), (TooMany, 0));
     assert_eq!(fault(&format!("<plan>{long}&")), (BadPlan, 6 + long.len()));

@@ -131,6 +131,7 @@ fn an_output_one_byte_short() {
 fn a_walk_judges_its_table_before_its_row() {
     let table = built(&book(&["a"], None, &[vec![0]])).unwrap().bytes;
     assert_eq!(walk(&table, &[1], WORK_BYTES), Err(BadRow));
-    assert_eq!(walk(&table, &[0; 65], WORK_BYTES), Err(BadRow));
+    assert_eq!(walk(&table, &[0; 41], WORK_BYTES), Err(BadRow));
+    assert!(walk(&table, &[0; 40], WORK_BYTES).is_ok());
     assert_eq!(walk(&table[..table.len() - 1], &[1], WORK_BYTES), Err(CutOff));
 }

@@ -6,8 +6,9 @@ use borrow.Author.Tests.{not-true, not-false}
 use lib.ListN.{length}
 use Rattle.model.specs.Calls.{tableOf}
 use Rattle.model.proofs.CallLaws.{gives-as}
+use Rattle.model.proofs.Books.{tells-rowOk}
 use Rattle.tables.proofs.TableLaws.{TableOpened, opened-table, opened-refused}
-use Rattle.table_calls.proofs.CallLaws.{names-count, row-short, walk-refused, walk-row-refused, walk-ended}
+use Rattle.table_calls.proofs.CallLaws.{names-count, walk-refused, walk-row-refused, walk-ended}
 use borrow.Author.Needs.{needs}
 use Rattle.table_calls.proofs.walking.walk.Statement.{statement}
 use Rattle.table_calls.proofs.walking.walk.Tie as tie
@@ -63,8 +64,8 @@ walk-over-requires c κs =
     let tested = c .before .before in
     let at = tested .before .before in (
       opened at .kept .ready,
-      row-short (at .opened .given .0 .0 .names) (row at)
-          (sym (tested .row-ok .ensures) ∙ not-false (tested .row-ok .result) (c .before .if1 .left)),
+      tells-rowOk (at .opened .given .0 .0 .names) (row at) .fact
+          (sym (tested .row-ok .ensures) ∙ not-false (tested .row-ok .result) (c .before .if1 .left)) .0,
     )
 
 enum-known-opened-2 : tie.Need-enum-known-opened-2

@@ -1,14 +1,14 @@
--- `put_seven` meets its contract: what is appended ends within the buffer. Assumes nothing.
+-- `put_twelve` meets its contract: what is appended ends within the buffer. Assumes nothing.
 use borrow.Author.Needs.{needs}
 use Prim.Native.Nat.{_≤_, _-_}
-use Rattle.worked_days.proofs.books.put_seven.Statement.{statement}
-use Rattle.worked_days.proofs.books.put_seven.Tie as tie
+use Rattle.worked_days.proofs.books.put_twelve.Statement.{statement}
+use Rattle.worked_days.proofs.books.put_twelve.Tie as tie
 
 abbrev Inv-loop : tie.InvT-loop
 Inv-loop out₀ at₀ first₀ out at first = at ≤ 4096
 
 abbrev μ-loop : tie.MeasureT-loop
-μ-loop out₀ at₀ first₀ out at first = 7 - first
+μ-loop out₀ at₀ first₀ out at first = 12 - first
 
 put-names-requires : tie.Need-put-names-requires Inv-loop μ-loop
 put-names-requires c κs = search needs
@@ -31,8 +31,8 @@ loop-again c = search needs
 returns : tie.Need-returns Inv-loop μ-loop
 returns c = search needs
 
-pub put-seven-spec : {M : Type 1} → statement M
-put-seven-spec =
+pub put-twelve-spec : {M : Type 1} → statement M
+put-twelve-spec =
     tie.close
     (tie.spec
     Inv-loop
