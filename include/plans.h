@@ -19,8 +19,8 @@
  * - A call uses no global state: calls on different buffers may run at the same time. It takes less than 40 KiB of stack (measured,
  *   docs/FIGURES.md).
  * - The library takes two symbols from outside, memcpy and memset.
- * - plans_build, plans_rewrite and plans_walk execute no division: their sources divide by nothing but 256, to split a number into
- *   its bytes, which the compiler does by shifts (both checked, docs/PROOFS.md).
+ * - plans_build, plans_build_counted, plans_rewrite and plans_walk execute no division: their sources divide by nothing but 256, to
+ *   split a number into its bytes, which the compiler does by shifts (both checked, docs/PROOFS.md).
  */
 #ifndef PLANS_H
 #define PLANS_H
@@ -33,7 +33,7 @@ extern "C" {
 #endif
 
 /* The version of this header and of the library beside it. scripts/header writes this line from the file VERSION. */
-#define PLANS_VERSION "3.0.0"
+#define PLANS_VERSION "3.1.0"
 
 /* The least length of a working area, in bytes. */
 #define PLANS_WORK_BYTES 65536
@@ -43,6 +43,9 @@ extern "C" {
 
 /* No table that plans_build writes is longer, in bytes (proved). A table from elsewhere may have up to PLANS_INPUT_LIMIT. */
 #define PLANS_TABLE_BYTES 5830
+
+/* No counts file that plans_build_counted writes is longer, in bytes (proved). */
+#define PLANS_COUNTS_BYTES 3584
 
 /* A text of so many bytes is long enough for the listing of every book (proved). */
 #define PLANS_LISTING_BYTES 32768
@@ -69,12 +72,14 @@ extern "C" {
 #define PLANS_SETTING_LIMIT 8
 
 /* The marks of fields: a field is its mark, its content's length in two bytes, the high byte first, and its content. A book is
- * names, at most one class, and rows; a table is names, one class, and states; a list of names is names alone. */
+ * names, at most one class, and rows; a table is names, one class, and states; a list of names is names alone; a counts file is counts
+ * alone. */
 enum {
     PLANS_NAME_MARK = 1,  /* names stand in strictly ascending byte order and are numbered from 0 */
     PLANS_CLASS_MARK = 2, /* three bytes: kind and two settings */
     PLANS_ROW_MARK = 3,   /* in each byte a name's number */
-    PLANS_STATE_MARK = 4  /* 1 accepting or 0 not; then for each arc a name's number and a target of two bytes */
+    PLANS_STATE_MARK = 4, /* 1 accepting or 0 not; then for each arc a name's number and a target of two bytes */
+    PLANS_COUNT_MARK = 5  /* of one state: numbers of two bytes, how many rows end in it, then how often each of its arcs is passed */
 };
 
 /* The kinds of classes, with their settings. A book without a class has PLANS_CONTEXT, 2, 1. */
@@ -121,6 +126,17 @@ typedef struct {
     uint32_t distinct; /* how many different rows the book has, each counted once: at least 1, at most the book's rows */
 } plans_built;
 
+/* What building a table with its counts gives back: the same, and the length of the counts. Where it is refused, all but `refusal`
+ * is 0. */
+typedef struct {
+    uint8_t refusal;        /* 0, or the refusal */
+    uint32_t length;        /* the table's length in bytes */
+    uint32_t states;        /* how many states it has */
+    uint32_t joins;         /* states of the prefix tree less states of the table */
+    uint32_t distinct;      /* how many different rows the book has */
+    uint32_t counts_length; /* the length of the counts in bytes */
+} plans_counted;
+
 /* What rewriting a table gives back. Where it is refused, all but `refusal` is 0. A table does not say how many joins or different
  * rows there were. */
 typedef struct {
@@ -163,6 +179,20 @@ typedef struct {
 plans_built plans_build(const uint8_t *book, size_t book_len,
                         uint8_t *work, size_t work_len,
                         uint8_t *out, size_t out_len);
+
+/*
+ * Builds the table of a book as plans_build does, to the same bytes, numbers and refusals, and writes to the front of `counts` how
+ * often each state and each arc is used by the book's rows, copies of a row counted each: for each state, in the table's order, a
+ * field of mark 05 whose bytes are numbers of two bytes, high byte first: how many rows end in the state, then how often the rows
+ * pass each of its arcs, in the table's order. A row that passes an arc twice counts two there. No number is over 10,240.
+ * Reads `book`; writes `work` (zeros), `out` and `counts`. Bytes beyond the table and beyond the counts are left as they were, and
+ * where the call is refused all of `out` and of `counts` is. Refusals, the first that applies: 1; those of the fields, in the book's
+ * order; 10; 13, for either output. PLANS_TABLE_BYTES and PLANS_COUNTS_BYTES are always enough.
+ */
+plans_counted plans_build_counted(const uint8_t *book, size_t book_len,
+                                  uint8_t *work, size_t work_len,
+                                  uint8_t *out, size_t out_len,
+                                  uint8_t *counts, size_t counts_len);
 
 /*
  * Reads the table and writes it again to the front of `out`. An accepted table is written to the same bytes.
@@ -237,7 +267,7 @@ static inline const char *plans_refusal_text(unsigned number)
     case PLANS_TREE_TOO_LARGE: return "the prefix tree needs over 512 states, the root counted";
     case PLANS_BAD_STATE: return "a state field of wrong length, first byte, or arc names";
     case PLANS_BAD_NUMBERING: return "an arc to no state, a state never met, or states not numbered first-met";
-    case PLANS_OUTPUT_TOO_SHORT: return "the output is shorter than the table, the rows or the listing";
+    case PLANS_OUTPUT_TOO_SHORT: return "an output is shorter than the table, its counts, the rows or the listing";
     case PLANS_BAD_PLAN: return "a byte, or the end, where no plan has it";
     case PLANS_TOO_DEEP: return "an element inside 16 others";
     case PLANS_UNKNOWN_CHILD: return "a child of an element of the chosen name that is not in the list";

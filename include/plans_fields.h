@@ -1,6 +1,6 @@
 /*
- * Books, tables and lists of names written and read field by field, for C99 and C++. There is nothing to link, nothing is allocated, and
- * no byte outside the buffers that are handed in is read or written.
+ * Books, tables, lists of names and counts written and read field by field, for C99 and C++. There is nothing to link, nothing is
+ * allocated, and no byte outside the buffers that are handed in is read or written.
  *
  * A book is written name by name, then its class, then row by row:
  *
@@ -41,7 +41,8 @@ typedef struct {
 
 /* One field. Its content is a part of the bytes that were read; no 0 byte follows it. */
 typedef struct {
-    uint8_t mark; /* PLANS_NAME_MARK, PLANS_CLASS_MARK, PLANS_ROW_MARK or PLANS_STATE_MARK in what a call accepts */
+    uint8_t mark; /* PLANS_NAME_MARK, PLANS_CLASS_MARK, PLANS_ROW_MARK or PLANS_STATE_MARK in what a call accepts; and
+                     PLANS_COUNT_MARK in what plans_build_counted writes to `counts` */
     const uint8_t *content;
     size_t length;
 } plans_field;
@@ -164,6 +165,23 @@ static inline int plans_number_of(const uint8_t *bytes, size_t length, const cha
         if (field.length == strlen(name) && memcmp(field.content, name, field.length) == 0)
             return number;
         number++;
+    }
+    return -1;
+}
+
+/*
+ * One number of a counts file, of the state with this number: at place 0 how many rows end in it, at place 1 how often its first arc is
+ * passed, at place 2 its second, and so on, in the table's order; or -1 where there is no such state or place.
+ */
+static inline int plans_count_of(const uint8_t *counts, size_t length, unsigned state, size_t place)
+{
+    plans_reader from = plans_read_from(counts, length);
+    plans_field field;
+
+    while (plans_read_field(&from, &field) && field.mark == PLANS_COUNT_MARK) {
+        if (state == 0)
+            return place < field.length / 2 ? field.content[2 * place] << 8 | field.content[2 * place + 1] : -1;
+        state--;
     }
     return -1;
 }

@@ -9,6 +9,8 @@ pub enum Bar {
     Walk,
     Ratio,
     Copied,
+    CountedTypical,
+    CountedLongest,
     ClinicPlan,
     DensePlan,
     NestedPlan,
@@ -17,7 +19,7 @@ pub enum Bar {
     ReadingStack,
 }
 
-const BARS: [(Bar, &str, f64); 13] = [
+const BARS: [(Bar, &str, f64); 15] = [
     (Bar::TypicalDefault, "typical (2,1), memsets", 8.0),
     (Bar::Typical, "typical, any class, memsets", 30.0),
     (Bar::Large, "512-state books, memsets", 200.0),
@@ -25,6 +27,8 @@ const BARS: [(Bar, &str, f64); 13] = [
     (Bar::Walk, "walk of 40 names over 512 states, memsets", 12.0),
     (Bar::Ratio, "library to maps, ratio", 1.2),
     (Bar::Copied, "days copied sixfold to once, library, ratio", 4.0),
+    (Bar::CountedTypical, "typical, with counts to without, ratio", 1.25),
+    (Bar::CountedLongest, "256 rows of 40, with counts to without", 1.5),
     (Bar::ClinicPlan, "plan of a clinic, library to expat, ratio", 0.4),
     (Bar::DensePlan, "tag-dense plan, library to expat, ratio", 0.75),
     (Bar::NestedPlan, "nested to tag-dense plan, library, ratio", 3.0),

@@ -90,6 +90,19 @@ pub fn put_rows(bytes: &mut Vec<u8>, rows: &[Vec<u8>]) {
     rows.iter().for_each(|row| put_field(bytes, 3, row));
 }
 
+/// The fields of bytes that consist of whole ones: of each its mark and its body.
+pub fn fields(bytes: &[u8]) -> impl Iterator<Item = (u8, &[u8])> {
+    let mut rest = bytes;
+    std::iter::from_fn(move || {
+        let [mark, high, low, after @ ..] = rest else {
+            return None;
+        };
+        let (body, next) = after.split_at(usize::from(*high) * 256 + usize::from(*low));
+        rest = next;
+        Some((*mark, body))
+    })
+}
+
 impl Book {
     pub fn bytes(&self) -> Vec<u8> {
         let mut bytes = Vec::new();
@@ -102,15 +115,12 @@ impl Book {
     /// The book of these bytes, which `bytes` wrote.
     pub fn read(bytes: &[u8]) -> Book {
         let mut book = Book { names: Vec::new(), class: Class::Context(2, 1), rows: Vec::new() };
-        let mut rest = bytes;
-        while let [mark, high, low, after @ ..] = rest {
-            let (body, next) = after.split_at(usize::from(*high) * 256 + usize::from(*low));
+        for (mark, body) in fields(bytes) {
             match mark {
                 1 => book.names.push(body.to_vec()),
                 2 => book.class = Class::of_settings(body),
                 _ => book.rows.push(body.to_vec()),
             }
-            rest = next;
         }
         book
     }

@@ -1,6 +1,6 @@
 //! The books that are timed.
 
-use crate::book::{short_names, Book, Class, BOOK_ROWS, CLASSES, ROW_LIMIT, STATE_LIMIT};
+use crate::book::{short_names, Book, Class, BOOK_ROWS, CLASSES, NAME_LIMIT, ROW_LIMIT, STATE_LIMIT};
 use crate::random::Random;
 use std::collections::HashSet;
 use std::fs;
@@ -129,6 +129,22 @@ pub fn large() -> [(&'static str, Book); 4] {
         ("random rows, 2 names", random_rows(2)),
         ("nearly one name", nearly_one_name()),
     ]
+}
+
+/// Books of as many rows as there may be, each as long as may be, with what they are called: rows that differ in their last two entries;
+/// rows of which there are twelve different ones; and one row, again and again.
+pub fn longest() -> [(&'static str, Book); 3] {
+    let mut random = Random::new(3);
+    let mut draw = |length: usize| (0..length).map(|_| random.below(NAME_LIMIT) as u8).collect::<Vec<u8>>();
+    let first = draw(ROW_LIMIT - 2);
+    let different = |number: usize| [&first[..], &[(number / NAME_LIMIT) as u8, (number % NAME_LIMIT) as u8]].concat();
+    let twelve: Vec<Vec<u8>> = (0..12).map(|number| [vec![number], draw(ROW_LIMIT - 1)].concat()).collect();
+    [
+        ("256 different rows of 40", (0..BOOK_ROWS).map(different).collect()),
+        ("256 rows of 40, of 12", (0..BOOK_ROWS).map(|number| twelve[number % 12].clone()).collect()),
+        ("256 equal rows of 40", vec![draw(ROW_LIMIT); BOOK_ROWS]),
+    ]
+    .map(|(name, rows)| (name, Book { names: short_names(NAME_LIMIT), class: Class::Context(2, 1), rows }))
 }
 
 /// Where the search keeps the worst book of a class.

@@ -3,13 +3,22 @@
 #[path = "../../tests/outside/src/library.rs"]
 mod calls;
 
-pub use calls::{Built, Call, Rewritten, RowsGiven, Walked, Written};
+pub use calls::{Built, Call, Counted, Rewritten, RowsGiven, Walked, Written};
 
 pub const WORK_BYTES: usize = 65_536;
 pub const INPUT_LIMIT: usize = 65_535;
+pub const COUNTS_BYTES: usize = 3_584;
 
 pub fn build(book: &[u8], work: &mut [u8], out: &mut [u8]) -> Built {
     call(calls::plans_build, book, work, out)
+}
+
+/// The counts go to `counts`.
+pub fn build_counted(book: &[u8], work: &mut [u8], out: &mut [u8], counts: &mut [u8]) -> Counted {
+    let (book_len, work_len, out_len, counts_len) = (book.len(), work.len(), out.len(), counts.len());
+    let (work, out, counts) = (work.as_mut_ptr(), out.as_mut_ptr(), counts.as_mut_ptr());
+    // SAFETY: as in call
+    unsafe { calls::plans_build_counted(book.as_ptr(), book_len, work, work_len, out, out_len, counts, counts_len) }
 }
 
 pub fn rewrite(table: &[u8], work: &mut [u8], out: &mut [u8]) -> Rewritten {

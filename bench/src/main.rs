@@ -1,5 +1,5 @@
-//! What builds and walks cost, against a second implementation in two variants that is written for speed; what reading plans costs,
-//! against expat; and all against bars.
+//! What builds and walks cost, against a second implementation in two variants that is written for speed; what counts cost, against
+//! builds without them; what reading plans costs, against expat; and all against bars.
 //! With `search SECONDS`: looks for books that cost the library most, and keeps them under bench/books. With `against FILE FILE`: builds
 //! by one shared library against those by another.
 
@@ -8,6 +8,7 @@ mod bars;
 mod book;
 mod cases;
 mod clock;
+mod countings;
 mod expat;
 mod fast;
 mod library;

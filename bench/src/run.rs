@@ -1,8 +1,9 @@
-//! The bench: every case compared and timed, growth, plans, stack, and the bars.
+//! The bench: every case compared and timed, growth, counts, plans, stack, and the bars.
 
 use crate::bars::{Bar, Bars};
 use crate::book::{Book, Class, CLASSES, ROW_LIMIT};
 use crate::cases;
+use crate::countings::Countings;
 use crate::measure::{Effort, Times};
 use crate::readings::Readings;
 use crate::sides::Sides;
@@ -43,20 +44,24 @@ pub fn run() -> Result<bool, String> {
     let mut timed = builds()?;
     timed.extend(walks(&mut sides)?);
     let mut growth = growth();
+    let mut countings = Countings::new();
     let mut readings = Readings::new();
     for case in timed.iter_mut().chain(&mut growth) {
         case.compare(&mut sides)?;
     }
+    countings.compare()?;
     readings.compare()?;
     for _ in 0..PASSES {
         for case in timed.iter_mut().chain(&mut growth) {
             case.time(&mut sides);
         }
+        countings.time(EFFORT);
         readings.time(EFFORT);
     }
     show_cases(&timed, &mut bars);
     hold_copied(&timed, &mut bars);
     show_growth(&growth);
+    countings.show(&mut bars);
     readings.show(&mut bars);
     show_stack(&mut bars);
     Ok(bars.show())
@@ -174,7 +179,7 @@ fn show_growth(growth: &[Case]) {
 fn show_stack(bars: &mut Bars) {
     println!("\nstack of a call in bytes, without that of an empty thread\n");
     for (bar, call, bytes) in stack::calls() {
-        println!("{call:36}{bytes:8}");
+        println!("{call:44}{bytes:8}");
         bars.take(bar, bytes as f64 / 1024.0, &call);
     }
 }

@@ -3,7 +3,7 @@
 use crate::bars::Bar;
 use crate::book::{CLASSES, ROW_LIMIT};
 use crate::cases;
-use crate::library::{self, INPUT_LIMIT, WORK_BYTES};
+use crate::library::{self, COUNTS_BYTES, INPUT_LIMIT, WORK_BYTES};
 use crate::plans::{self, Names};
 use std::alloc::{alloc, dealloc, handle_alloc_error, Layout};
 use std::ffi::c_void;
@@ -31,20 +31,27 @@ extern "C" {
 
 /// Each call with its bar and the bytes of stack that it uses, without those of an empty thread.
 pub fn calls() -> Vec<(Bar, String, usize)> {
-    let (mut work, mut out) = (vec![0; WORK_BYTES], vec![0; INPUT_LIMIT]);
+    let (mut work, mut out, mut counts) = (vec![0; WORK_BYTES], vec![0; INPUT_LIMIT], vec![0; COUNTS_BYTES]);
     let empty = used(&mut || ());
     let table = cases::chain_table();
     let mut calls = Vec::new();
     for class in CLASSES {
-        let book = cases::nearly_one_name().with_class(class).bytes();
-        let bytes = used(&mut || {
-            black_box(library::build(&book, &mut work, &mut out));
-        });
-        calls.push((Bar::Stack, format!("build {}, 512 states", class.label()), bytes - empty));
-        let listing = used(&mut || {
-            black_box(library::list(&book, &mut work, &mut out));
-        });
-        calls.push((Bar::ListingStack, format!("list {}, 512 states", class.label()), listing - empty));
+        for (name, book) in [("nearly one name", cases::nearly_one_name()), ("2 names", cases::random_rows(2))] {
+            let book = book.with_class(class).bytes();
+            let case = format!("{}, {name}", class.label());
+            let bytes = used(&mut || {
+                black_box(library::build(&book, &mut work, &mut out));
+            });
+            calls.push((Bar::Stack, format!("build {case}"), bytes - empty));
+            let counting = used(&mut || {
+                black_box(library::build_counted(&book, &mut work, &mut out, &mut counts));
+            });
+            calls.push((Bar::Stack, format!("build with counts {case}"), counting - empty));
+            let listing = used(&mut || {
+                black_box(library::list(&book, &mut work, &mut out));
+            });
+            calls.push((Bar::ListingStack, format!("list {case}"), listing - empty));
+        }
     }
     let rewriting = used(&mut || {
         black_box(library::rewrite(&table, &mut work, &mut out));

@@ -7,36 +7,41 @@ from typing import Callable, Dict, Iterable, List, Mapping, NamedTuple, Optional
 
 from . import drawings, helps
 from .differences import Difference, compare
-from .fields import BOOK_ROWS, ROW_LIMIT, Book, Class, Refused, Row, Table, read_table, write_book
-from .files import Failure, Input, Kind, label_of, put, read_input, say, write_output
-from .models import Built, Outcome, Walked, build, judged_book, judged_table, list_book, list_table, rewrite, walk
+from .fields import BOOK_ROWS, ROW_LIMIT, Book, Class, Refused, Row, StateCounts, Table, read_counts, read_table, write_book
+from .files import STANDARD, Failure, Input, Kind, label_of, one_place, put, read_input, say, write_output, write_outputs
+from .models import (Built, Counted, Outcome, Walked, build, build_counted, judged_book, judged_table, list_book, list_table, rewrite,
+                     walk)
 from .plan_rows import NO_BOOK, Names, Plan, collected, judge_book, missing, names_in, read_plan, rows_alone, rows_of
 from .showing import all_and_different, counted, cut, different, nearest, plain, shown
-from .texts import BadClass, BadText, Text, name_problem, read_class, read_text, write_text
+from .texts import EMPTY_DAY, BadClass, BadText, Text, name_problem, read_class, read_text, write_text
 
 YES, NO, ERROR = 0, 1, 2
 
 
 @dataclass(frozen=True)
 class Asked:
-    """What stands on the command line after the sub-command."""
+    """What stands on the command line after the sub-command; counts is whether counts are wanted, by that or by the sub-command."""
     words: Tuple[str, ...]
     out: Optional[str]
     named_class: Optional[Class]
     quiet: bool
     tree: bool
+    counts: bool
+    counts_out: Optional[str]
     element: str
     names: Optional[str]
 
 
 @dataclass(frozen=True)
 class Model:
-    """A table with its bytes; and, if it was built, the book that it was built from and what the build told."""
+    """A table with its bytes; and, if it was built, the book that it was built from, what the build told, and the counts, if they were
+    asked for."""
     source: Input
     data: bytes
     table: Table
     book: Optional[Book]
     built: Optional[Built]
+    counts: Optional[Sequence[StateCounts]] = None
 
 
 def name_lines(names: Mapping[str, int]) -> List[str]:
@@ -66,7 +71,7 @@ def put_lines(lines: Iterable[str]) -> None:
 def text_and_book(source: Input, asked: Asked, copies: bool) -> Tuple[Text, Book]:
     """The text and its book, with notes on it; BadText if it has none."""
     text = read_text(source.data)
-    book = text.book(copies)
+    book = text.book(copies, asked.counts)
     if not asked.quiet:
         for line in notes(source, text, copies):
             say(line)
@@ -95,6 +100,14 @@ def book_of(source: Input, asked: Asked, copies: bool = False, wanted: str = "a 
     return book if asked.named_class is None else Book(book.names, asked.named_class, book.rows)
 
 
+def counted_book(source: Input, asked: Asked) -> Tuple[Book, Counted, Table, Sequence[StateCounts]]:
+    """The book of a text or a book, with every copy of a day; what the build told; the table and its counts."""
+    book = book_of(source, asked, copies=True)
+    built = build_counted(book)
+    table = read_table(built.table)
+    return book, built, table, read_counts(built.counts, table)
+
+
 def model_of(path: str, asked: Asked) -> Model:
     """The model of a text, a book or a table."""
     source = read_input(path)
@@ -104,6 +117,9 @@ def model_of(path: str, asked: Asked) -> Model:
                 raise Failure(f"{source.label}: this is a table, which has its class; --class is for texts and books")
             table = judged_table(source.data)
             return Model(source, rewrite(source.data).table, table, None, None)
+        if asked.counts:
+            book, built, table, counts = counted_book(source, asked)
+            return Model(source, built.table, table, book, built, counts)
         book = book_of(source, asked, wanted="a text, a book or a table")
         built = build(book)
         return Model(source, built.table, read_table(built.table), book, built)
@@ -118,23 +134,58 @@ def listing(asked: Asked) -> int:
     return YES
 
 
-def written(asked: Asked, sources: Sequence[Input], data: bytes, what: str) -> int:
-    write_output(asked.out, data, sources)
-    if asked.out not in (None, "-") and not asked.quiet:
-        say(f"{label_of(asked.out, '')}: {what}")
+def day_lines(rows: Sequence[Row]) -> List[str]:
+    """Each different day with how often it is there, the most frequent first; those equally often in the order of their names."""
+    days = sorted(Counter(rows).items(), key=lambda item: (-item[1], item[0]))
+    return [f"{count} {' '.join(day) or EMPTY_DAY}" for day, count in days]
+
+
+def count_lines(table: Table, counts: Sequence[StateCounts]) -> List[str]:
+    """Each state with how many days end there, and each of its arcs with how often the days pass it."""
+    lines = []
+    for number, (state, used) in enumerate(zip(table.states, counts)):
+        arcs = [f"{name}>{target} passes {count}" for (name, target), (_, count) in zip(state.arcs, used.passes)]
+        lines.append(" ".join([str(number), "+" if state.accepting else "-", f"ends {used.ends}", *arcs]))
+    return lines
+
+
+def counting(asked: Asked) -> int:
+    source = read_input(asked.words[0])
+    try:
+        book, built, table, counts = counted_book(source, asked)
+    except Refused as problem:
+        raise source.refused(problem) from None
+    lines = [f"days {len(book.rows)} distinct {built.distinct}", *day_lines(book.rows),
+             f"states {built.states} joins {built.joins}", *count_lines(table, counts)]
+    write_output(asked.out, "".join(line + "\n" for line in lines).encode("ascii"), [source], binary=False)
+    return YES
+
+
+def written(asked: Asked, sources: Sequence[Input], outputs: Sequence[Tuple[Optional[str], bytes, str]]) -> int:
+    """Each output written, and of each that is a file what there is to say."""
+    write_outputs([(path, data) for path, data, _ in outputs], sources)
+    for path, _, what in outputs:
+        if path not in (None, STANDARD) and not asked.quiet:
+            say(f"{label_of(path, '')}: {what}")
     return YES
 
 
 def building(asked: Asked) -> int:
+    if asked.counts and one_place(asked.out, asked.counts_out):
+        place = label_of(STANDARD if asked.out is None else asked.out, "standard output")
+        raise usage("build", f"the table and its counts cannot both go to {place}")
     source = read_input(asked.words[0])
     try:
-        book = book_of(source, asked)
-        built = build(book)
+        book = book_of(source, asked, copies=asked.counts)
+        built = build_counted(book) if asked.counts else build(book)
     except Refused as problem:
         raise source.refused(problem) from None
-    counts = [counted(built.states, "state"), counted(built.joins, "join"), different(built.distinct, len(book.rows), "row"),
-              counted(len(built.table), "byte")]
-    return written(asked, [source], built.table, ", ".join(counts))
+    told = [counted(built.states, "state"), counted(built.joins, "join"), different(built.distinct, len(book.rows), "row"),
+            counted(len(built.table), "byte")]
+    outputs = [(asked.out, built.table, ", ".join(told))]
+    if isinstance(built, Counted):
+        outputs.append((asked.counts_out, built.counts, counted(len(built.counts), "byte")))
+    return written(asked, [source], outputs)
 
 
 def day_of(words: Sequence[str]) -> Row:
@@ -197,7 +248,8 @@ def judged(source: Input, asked: Asked) -> Tuple[bool, List[str]]:
     except BadText as problem:
         return False, source.faulty_lines(problem)
     except Refused as problem:
-        what = f" (this is {source.kind.value})" if source.kind in (Kind.PLAN, Kind.EMPTY, Kind.NEITHER, Kind.ARCHIVE) else ""
+        known = source.kind in (Kind.TEXT, Kind.BOOK, Kind.TABLE, Kind.FIELDS)
+        what = "" if known else f" (this is {source.kind.value})"
         return False, [f"{source.label}: refused: {problem}{what}"]
 
 
@@ -259,16 +311,17 @@ def to_book(asked: Asked) -> int:
     if source.kind is Kind.BOOK:
         raise wrong_kind(source, "a text")
     data = write_book(book_of(source, asked, copies=True, wanted="a text"))
-    return written(asked, [source], data, counted(len(data), "byte"))
+    return written(asked, [source], [(asked.out, data, counted(len(data), "byte"))])
 
 
 def picturing(asked: Asked) -> int:
     try:
         form = drawings.form_of(asked.out)
         model = model_of(asked.words[0], asked)
-        if asked.tree and model.book is None:
-            raise Failure(f"{model.source.label}: this is a table, which has no days; --tree is for texts and books")
-        text = drawings.drawing(model.table, model.built, model.book if asked.tree else None)
+        option = "--tree" if asked.tree else "--counts" if asked.counts else None
+        if option and model.book is None:
+            raise Failure(f"{model.source.label}: this is a table, which has no days; {option} is for texts and books")
+        text = drawings.drawing(model.table, model.built, model.book if asked.tree else None, model.counts)
         write_output(asked.out, drawings.rendered(text, form), [model.source])
     except drawings.NotDrawn as problem:
         raise Failure(f"plans picture: {problem}") from None
@@ -347,7 +400,7 @@ def rows_to_book(asked: Asked) -> int:
         for line in row_notes(plans, book):
             say(line)
     inputs = [plan.source for plan in plans] + ([names.source] if names.source else [])
-    return written(asked, inputs, data, counted(len(data), "byte"))
+    return written(asked, inputs, [(asked.out, data, counted(len(data), "byte"))])
 
 
 class Subcommand(NamedTuple):
@@ -359,13 +412,14 @@ class Subcommand(NamedTuple):
 
 SUBCOMMANDS: Dict[str, Subcommand] = {
     "list": Subcommand(listing, ("--class", "-o"), "one file"),
-    "build": Subcommand(building, ("--class", "-o"), "one file"),
+    "counts": Subcommand(counting, ("--class", "-o"), "one file"),
+    "build": Subcommand(building, ("--counts", "--class", "-o"), "one file"),
     "walk": Subcommand(walking, ("--class",), "a file and names"),
     "check": Subcommand(checking, (), "one file or more"),
     "diff": Subcommand(differing, (), "two files"),
     "text": Subcommand(to_text, ("-o",), "one file"),
     "book": Subcommand(to_book, ("--class", "-o"), "one file"),
-    "picture": Subcommand(picturing, ("--tree", "--class", "-o"), "one file"),
+    "picture": Subcommand(picturing, ("--tree", "--counts", "--class", "-o"), "one file"),
     "rows": Subcommand(rows_to_book, ("--element", "--names", "--class", "-o"), "one file or more"),
 }
 
@@ -386,7 +440,8 @@ def judge_words(name: str, words: Sequence[str], names: Optional[str]) -> None:
 def parsed(name: str, words: Sequence[str]) -> Optional[Asked]:
     """What is asked; None where help is."""
     try:
-        given, rest = getopt.gnu_getopt(list(words), "o:qh", ["class=", "tree", "element=", "names=", "help"])
+        counts = "counts=" if name == "build" else "counts"  # build's have a file; picture's are drawn
+        given, rest = getopt.gnu_getopt(list(words), "o:qh", ["class=", "tree", counts, "element=", "names=", "help"])
         options = dict(given)
         if "-h" in options or "--help" in options:
             return None
@@ -402,7 +457,8 @@ def parsed(name: str, words: Sequence[str]) -> Optional[Asked]:
     except getopt.GetoptError as problem:
         raise usage(name, plain(cut(str(problem), 120))) from None
     return Asked(tuple(rest), options.get("-o"), named_class, "-q" in options, "--tree" in options,
-                 options.get("--element", ""), options.get("--names"))
+                 name == "counts" or "--counts" in options, options.get("--counts"), options.get("--element", ""),
+                 options.get("--names"))
 
 
 def run(words: Sequence[str]) -> int:

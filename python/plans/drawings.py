@@ -5,11 +5,11 @@ import os
 import shutil
 import subprocess
 from collections import Counter
-from typing import Dict, List, Optional, Sequence
+from typing import Dict, List, Mapping, Optional, Sequence, Tuple
 
-from .fields import Book, Table, prefix_tree
+from .fields import Book, State, StateCounts, Table, prefix_tree
 from .models import Built
-from .showing import counted
+from .showing import counted, different
 
 FORMS = ("svg", "png", "pdf", "dot")
 ATTRIBUTES = [
@@ -17,6 +17,10 @@ ATTRIBUTES = [
     'node [fontname="Helvetica", fontsize=12, shape=circle, style=filled, fillcolor=white, fixedsize=true, width=0.36]',
     'edge [fontname="Helvetica", arrowsize=0.6]',
 ]
+# a state that shows how many rows end there is larger
+WITH_ENDS = "fontsize=10, width=0.7"
+# of arrows that are as wide as they are used: the least width and the greatest, in points
+THIN, THICK = 0.5, 6
 WORDS = "shape=none, fontsize=11, style=solid, fixedsize=false, width=0, height=0, margin=0.03"
 
 
@@ -52,8 +56,8 @@ def fills(found: Dict[tuple, int]) -> Dict[int, str]:
     return colours
 
 
-def node(key: str, label: int, accepting: bool, fill: Optional[str]) -> str:
-    attributes = [f'label="{label}"']
+def node(key: str, label: int, accepting: bool, fill: Optional[str], ends: int = 0) -> str:
+    attributes = [f'label="{label}\\nends {ends}", {WITH_ENDS}' if ends else f'label="{label}"']
     if accepting:
         attributes.append("peripheries=2")
     if fill:
@@ -66,19 +70,39 @@ def entry(key: str, target: str) -> List[str]:
     return [f'{key} [label="", shape=none, width=0, height=0]', f"{key} -> {target}"]
 
 
-def arc(source: str, target: str, names: Sequence[str]) -> List[str]:
-    """An arrow with its names, one a line, half way."""
+def arc(source: str, target: str, names: Sequence[str], width: str = "") -> List[str]:
+    """An arrow with its names, one a line, half way; of a width, if one is given."""
     words = f"{source}_{target}"
     label = "\\n".join(names)
-    return [f'{words} [label="{label}", {WORDS}]', f"{source} -> {words} [dir=none]", f"{words} -> {target}"]
+    front, back = (f" [dir=none, {width}]", f" [{width}]") if width else (" [dir=none]", "")
+    return [f'{words} [label="{label}", {WORDS}]', f"{source} -> {words}{front}", f"{words} -> {target}{back}"]
 
 
-def table_lines(table: Table, colours: Dict[int, str]) -> List[str]:
+def arrows_of(state: State) -> List[Tuple[int, List[str]]]:
+    """Each target of a state's arcs, ascending, with the names that lead there: one arrow."""
+    return [(target, [name for name, to in state.arcs if to == target]) for target in sorted({to for _, to in state.arcs})]
+
+
+def together(names: Sequence[str], passes: Mapping[str, int]) -> int:
+    """How often the arrow of these names is passed."""
+    return sum(passes[name] for name in names)
+
+
+def table_lines(table: Table, colours: Dict[int, str], counts: Optional[Sequence[StateCounts]]) -> List[str]:
+    """The states and arrows. With counts, accepting states have their ends, names their passes, and arrows are as wide as their names
+    together are used."""
+    arrows = [arrows_of(state) for state in table.states]
+    passes = [dict(own.passes) for own in counts or ()]
+    most = max((together(names, own) for leaving, own in zip(arrows, passes) for _, names in leaving), default=1)
     lines = entry("start", "s0")
     for number, state in enumerate(table.states):
-        lines.append(node(f"s{number}", number, state.accepting, colours.get(number)))
-        for target in sorted({to for _, to in state.arcs}):
-            lines += arc(f"s{number}", f"s{target}", [name for name, to in state.arcs if to == target])
+        lines.append(node(f"s{number}", number, state.accepting, colours.get(number), counts[number].ends if counts else 0))
+        for target, names in arrows[number]:
+            labels, width = names, ""
+            if counts:
+                labels = [f"{name} {passes[number][name]}" for name in names]
+                width = f"penwidth={THIN + (THICK - THIN) * together(names, passes[number]) / most:.2f}"
+            lines += arc(f"s{number}", f"s{target}", labels, width)
     return lines
 
 
@@ -97,18 +121,20 @@ def cluster(key: str, label: str, lines: List[str]) -> List[str]:
     return [f"subgraph cluster_{key} {{", f'label="{label}"', "pencolor=none", *lines, "}"]
 
 
-def drawing(table: Table, built: Optional[Built], book: Optional[Book]) -> str:
+def drawing(table: Table, built: Optional[Built], book: Optional[Book], counts: Optional[Sequence[StateCounts]] = None) -> str:
     """The drawing's text, with the numbers of the build, if the table was built. With a book its prefix tree stands beside the table,
-    and both show which states were joined."""
+    and both show which states were joined. With counts the table shows how often it is used, and the title how many rows are copies."""
     title = f"{table.named_class}: {counted(len(table.states), 'state')}"
-    title += "" if built is None else f", {counted(built.joins, 'join')}, {counted(built.distinct, 'different row')}"
+    if built is not None:
+        rows = sum(used.ends for used in counts) if counts else built.distinct
+        title += f", {counted(built.joins, 'join')}, {different(built.distinct, rows, 'row')}"
     if book is None:
-        parts = [f'label="{title}"', "labelloc=t", *table_lines(table, {})]
+        parts = [f'label="{title}"', "labelloc=t", *table_lines(table, {}, counts)]
     else:
         found = homes(book, table)
         colours = fills(found)
         parts = cluster("tree", f"prefix tree: {counted(len(found), 'state')}", tree_lines(book, found, colours))
-        parts += cluster("table", title, table_lines(table, colours))
+        parts += cluster("table", title, table_lines(table, colours, counts))
     return "\n".join(["digraph model {", *ATTRIBUTES, *parts, "}"]) + "\n"
 
 

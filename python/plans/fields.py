@@ -1,4 +1,4 @@
-"""Books and tables as bytes: their fields, read with the refusals of docs/FORMATS.md, and written."""
+"""Books and tables as bytes: their fields, read with the refusals of docs/FORMATS.md, and written; and the counts of a table, read."""
 import re
 from dataclasses import dataclass
 from pathlib import Path
@@ -9,10 +9,11 @@ NAME_LIMIT = 64
 NAME_BYTES = 32
 BOOK_ROWS = 256
 ROW_LIMIT = 40
+PASS_LIMIT = BOOK_ROWS * ROW_LIMIT
 STATE_LIMIT = 512
 SETTING_LIMIT = 8
 
-NAME, CLASS, ROW, STATE = 1, 2, 3, 4
+NAME, CLASS, ROW, STATE, COUNT = 1, 2, 3, 4, 5
 CONTEXT, SEEN, LAST = 0, 1, 2
 
 NAME_SHAPE = re.compile(r"[A-Za-z_:][A-Za-z_:0-9.-]*")
@@ -41,6 +42,18 @@ class Refused(Exception):
 
     def __reduce__(self) -> Tuple:
         return Refused, (self.number, self.offset, self.what)
+
+
+class BadCounts(ValueError):
+    """Bytes that are no counts of the table that they were read with: the offset of the field at fault, and what is wrong."""
+
+    def __init__(self, offset: int, reason: str):
+        self.offset = offset
+        self.reason = reason
+        super().__init__(f"offset {offset}: {reason}")
+
+    def __reduce__(self) -> Tuple:
+        return BadCounts, (self.offset, self.reason)
 
 
 @dataclass(frozen=True)
@@ -81,6 +94,13 @@ class Table:
     names: Tuple[str, ...]
     named_class: Class
     states: Tuple[State, ...]
+
+
+@dataclass(frozen=True)
+class StateCounts:
+    """How many of a book's rows end in a state, copies counted; and each arc of the state as a name and how often the rows pass it."""
+    ends: int
+    passes: Tuple[Tuple[str, int], ...]
 
 
 def class_ok(kind: int, one: int, two: int) -> bool:
@@ -217,8 +237,13 @@ def read_book(data: Bytes) -> Book:
     return Book(reading.all_names(), reading.named_class, rows)
 
 
+def _numbers(body: bytes, first: int, step: int) -> List[int]:
+    """The numbers of two bytes from a place on, one in so many bytes."""
+    return [int.from_bytes(body[place:place + 2], "big") for place in range(first, len(body), step)]
+
+
 def _targets(body: bytes) -> List[int]:
-    return [int.from_bytes(body[place:place + 2], "big") for place in range(2, len(body), 3)]
+    return _numbers(body, 2, 3)
 
 
 def _judge_numbering(items: Sequence[Tuple[int, bytes]]) -> None:
@@ -240,6 +265,70 @@ def read_table(data: Bytes) -> Table:
     states = tuple(State(body[0] == 1, tuple(zip(map(reading.name, body[1::3]), _targets(body)))) for _, body in reading.items)
     assert reading.named_class is not None
     return Table(reading.all_names(), reading.named_class, states)
+
+
+def _state_counts(number: int, state: State, found: Field) -> StateCounts:
+    """What a field says of a state; BadCounts where it cannot be said of this one."""
+    offset, mark, body = found
+    if mark != COUNT:
+        raise BadCounts(offset, f"the mark {mark:02X}, where the counts of state {number} are due, whose mark is {COUNT:02X}")
+    due = 2 + 2 * len(state.arcs)
+    if len(body) != due:
+        raise BadCounts(offset, f"the counts of state {number} have {len(body)} bytes, where its arcs need {due}")
+    ends, *numbers = _numbers(body, 0, 2)
+    if state.accepting != (ends > 0):
+        raise BadCounts(offset, f"the ends of state {number} are {ends}, and it {'accepts' if state.accepting else 'does not accept'}")
+    passes = tuple(zip((name for name, _ in state.arcs), numbers))
+    unused = next((name for name, count in passes if count == 0), None)
+    if unused is not None:
+        raise BadCounts(offset, f"no row passes the arc {unused} of state {number}, and an arc is there only where one does")
+    over = next(((name, count) for name, count in passes if count > PASS_LIMIT), None)
+    if over is not None:
+        raise BadCounts(offset, f"the passes of the arc {over[0]} of state {number} are {over[1]:,}: "
+                                f"{BOOK_ROWS} rows of {ROW_LIMIT} entries have at most {PASS_LIMIT:,}")
+    return StateCounts(ends, passes)
+
+
+def _judge_rows(offsets: Sequence[int], counts: Sequence[StateCounts]) -> None:
+    """BadCounts at the first state with which more rows have ended than a book has."""
+    rows = 0
+    for number, (offset, own) in enumerate(zip(offsets, counts)):
+        rows += own.ends
+        if rows > BOOK_ROWS:
+            raise BadCounts(offset, f"with {own.ends:,} ends of state {number} there are {rows:,} rows: a book has at most {BOOK_ROWS}")
+
+
+def _judge_flow(states: Sequence[State], offsets: Sequence[int], counts: Sequence[StateCounts]) -> None:
+    """BadCounts where a state's arrivals, for state 0 plus one for each row, are not its departures and ends."""
+    arrivals = [sum(own.ends for own in counts), *[0] * (len(states) - 1)]
+    for state, own in zip(states, counts):
+        for (_, target), (_, count) in zip(state.arcs, own.passes):
+            arrivals[target] += count
+    for number, (offset, own) in enumerate(zip(offsets, counts)):
+        leaving = own.ends + sum(count for _, count in own.passes)
+        if arrivals[number] != leaving:
+            raise BadCounts(offset, f"state {number} has arrivals {arrivals[number]}, but departures and ends together {leaving}: "
+                                    "these are the counts of another table, or damaged")
+
+
+def read_counts(data: Bytes, table: Union[Table, Bytes]) -> Tuple[StateCounts, ...]:
+    """The counts of a table's states, in the table's order. A counts file has no names and no targets, so the table that it was
+    written with is needed. BadCounts, with the offset, if the bytes are no counts of this table; Refused if the table is none, and
+    ValueError if it cannot be written (see write_table)."""
+    states = read_table(write_table(table) if isinstance(table, Table) else table).states
+    data = as_bytes(data)
+    try:
+        fields = list(fields_of(data))
+    except Refused as problem:
+        raise BadCounts(problem.offset or 0, "a field runs past the end") from None
+    if len(fields) != len(states):
+        offset = fields[len(states)][0] if len(fields) > len(states) else len(data)
+        raise BadCounts(offset, f"the number of fields is {len(fields)}, that of the table's states {len(states)}")
+    counts = tuple(_state_counts(number, state, found) for number, (state, found) in enumerate(zip(states, fields)))
+    offsets = [offset for offset, _, _ in fields]
+    _judge_rows(offsets, counts)
+    _judge_flow(states, offsets, counts)
+    return counts
 
 
 def _fitted(number: int, size: int) -> bytes:

@@ -1,13 +1,16 @@
 """Files for the command: read no further than needed, told apart by their first bytes, and written whole or not at all."""
+import contextlib
 import enum
+import itertools
+import operator
 import os
 import re
 import stat
 import time
 from dataclasses import dataclass
-from typing import List, Optional, Sequence
+from typing import Iterator, List, Optional, Sequence, Tuple
 
-from .fields import INPUT_LIMIT, ROW, STATE, Refused, kind_of
+from .fields import COUNT, INPUT_LIMIT, ROW, STATE, Refused, kind_of
 from .showing import cut, plain
 from .texts import UTF_16, BadText
 
@@ -22,6 +25,7 @@ class Kind(enum.Enum):
     BOOK = "a book"
     TABLE = "a table"
     FIELDS = "neither a book nor a table: no row and no state follows its names"
+    COUNTS = "a counts file, which goes with its table"
     PLAN = "a plan, in XML ('plans rows' makes a book of plans)"
     EMPTY = "an empty file"
     NEITHER = "neither a text nor fields, which begin with the byte 01"
@@ -83,6 +87,8 @@ def _kind(data: bytes) -> Kind:
         return Kind.EMPTY
     if data[0] == 1:
         return {ROW: Kind.BOOK, STATE: Kind.TABLE}.get(kind_of(data), Kind.FIELDS)
+    if data[0] == COUNT:
+        return Kind.COUNTS
     if data.startswith(b"PK\x03\x04"):
         return Kind.ARCHIVE
     if b"\0" in data and data[:2] not in UTF_16:
@@ -147,9 +153,8 @@ def _refuse_input(path: str, inputs: Sequence[Input]) -> None:
             raise Failure(f"plans: {label_of(path, '')}: this is also the input; give the output another name")
 
 
-def _write_whole(path: str, data: bytes) -> None:
-    """To a file beside it first, which then takes its name."""
-    path = os.path.realpath(path)
+def _write_beside(path: str, data: bytes) -> str:
+    """To a file beside it, which is to take its name: what it is called until then."""
     beside = os.path.join(os.path.dirname(path), f".plans-{os.getpid()}-{time.monotonic_ns()}")
     old = None
     if os.path.exists(path):
@@ -163,25 +168,74 @@ def _write_whole(path: str, data: bytes) -> None:
                 os.fchmod(file, stat.S_IMODE(old))
         finally:
             os.close(file)
-        os.replace(beside, path)
     except BaseException:
         os.unlink(beside)
+        raise
+    return beside
+
+
+def _to_standard(path: Optional[str]) -> bool:
+    return path in (None, STANDARD)
+
+
+def _replaced(path: Optional[str]) -> bool:
+    """Whether a file takes the name; a device or a pipe cannot be replaced."""
+    return not _to_standard(path) and (os.path.isfile(path) or not os.path.exists(path))
+
+
+def one_place(one: Optional[str], two: Optional[str]) -> bool:
+    """Whether two outputs would go to one file, or both to standard output."""
+    if _to_standard(one) or _to_standard(two):
+        return _to_standard(one) and _to_standard(two)
+    return _replaced(one) and os.path.realpath(one) == os.path.realpath(two)
+
+
+@contextlib.contextmanager
+def _telling(path: str) -> Iterator[None]:
+    """What fails is told of this file."""
+    try:
+        yield
+    except OSError as problem:
+        raise failed(label_of(path, ""), problem) from None
+
+
+def _stream(path: Optional[str], data: bytes) -> None:
+    if _to_standard(path):
+        put(data)
+        return
+    with _telling(path), open(path, "wb", buffering=0) as file:
+        _write_all(file.fileno(), data)
+
+
+def write_outputs(outputs: Sequence[Tuple[Optional[str], bytes]], inputs: Sequence[Input], binary: bool = True) -> None:
+    """Each to its file, or to standard output for '-' and for none. No file takes its name before all the bytes are written, so where
+    one cannot be written the others are as they were."""
+    for path, _ in outputs:
+        if not _to_standard(path):
+            _refuse_input(path, inputs)
+        elif binary and os.isatty(1):
+            raise Failure("plans: this is no text for a terminal; say where to write it, as -o FILE")
+    files = [_replaced(path) for path, _ in outputs]
+    waiting: List[Tuple[str, str, str]] = []  # the name that was given, the file's, and what it is called until then
+    try:
+        for path, data in itertools.compress(outputs, files):
+            with _telling(path):
+                real = os.path.realpath(path)
+                waiting.append((path, real, _write_beside(real, data)))
+        for path, data in itertools.compress(outputs, map(operator.not_, files)):
+            _stream(path, data)
+        while waiting:
+            path, real, beside = waiting[0]
+            with _telling(path):
+                os.replace(beside, real)
+            waiting.pop(0)
+    except BaseException:
+        for _, _, beside in waiting:
+            with contextlib.suppress(OSError):
+                os.unlink(beside)
         raise
 
 
 def write_output(path: Optional[str], data: bytes, inputs: Sequence[Input], binary: bool = True) -> None:
     """To the file, or to standard output for '-' and for none."""
-    if path in (None, STANDARD):
-        if binary and os.isatty(1):
-            raise Failure("plans: this is no text for a terminal; say where to write it, as -o FILE")
-        put(data)
-        return
-    _refuse_input(path, inputs)
-    try:
-        if os.path.exists(path) and not os.path.isfile(path):
-            with open(path, "wb", buffering=0) as file:  # a device or a pipe: it cannot be replaced
-                _write_all(file.fileno(), data)
-        else:
-            _write_whole(path, data)
-    except OSError as problem:
-        raise failed(label_of(path, ""), problem) from None
+    write_outputs([(path, data)], inputs, binary)

@@ -5,6 +5,7 @@ plans: models of meal plans. A day is a line of names; a model is inferred from
 days, and other days are held against it.
 
   plans list FILE             the model, as text
+  plans counts FILE           how often each day, and each way, is used
   plans build FILE -o TABLE   the model, as a table of bytes
   plans walk FILE NAME...     whether a day is allowed, and what may come next
   plans check FILE...         whether a file is accepted; if not, why and where
@@ -38,13 +39,35 @@ each name that may come next with the state that it leads to.
   2 +
 """
 
+COUNTS = """\
+plans counts FILE [--class CLASS] [-o FILE] [-q]
+
+Prints how often the days of a text or a book use each way through their model,
+copies counted. First each different day with how often it is there, the most
+frequent first; days that are there equally often in the order of their names.
+Then each state as 'plans list' has it, with how many days end there (ends) and
+how often each arc is passed (passes). A day that passes an arc twice counts two
+there. No copy is left out here, so a text has at most 256 days.
+
+  $ printf 'tea\\ntea cake cake cake\\ntea\\n' | plans counts -q - --class "1 1"
+  days 3 distinct 2
+  2 tea
+  1 tea cake cake cake
+  states 3 joins 2
+  0 - ends 0 tea>1 passes 3
+  1 + ends 2 cake>2 passes 1
+  2 + ends 1 cake>2 passes 2
+"""
+
 BUILD = """\
-plans build FILE [--class CLASS] [-o TABLE] [-q]
+plans build FILE [--counts FILE] [--class CLASS] [-o TABLE] [-q]
 
 Writes the table of a text or a book. CLASS says how generous the model is:
 "k h" (context; k from 1 to 8, h from 1 to k), seen, or "last j" (j 0 to 8).
 Without it the class is the file's own or, if it names none, "2 1". With -o it
 says how many states, joins and different rows there are, and how many copies.
+With --counts it writes the table's counts file too: how often the days use each
+state and each arc. No copy is left out then, so a text has at most 256 days.
 
   $ printf 'tea\\ntea cake cake\\n' | plans build -q - --class seen -o tea.table
   $ plans list tea.table
@@ -53,6 +76,11 @@ says how many states, joins and different rows there are, and how many copies.
   1 + cake>2
   2 - cake>3
   3 +
+  $ printf 'tea\\ntea\\n' | plans build - -o tea.table --counts tea.counts
+  standard input: 2 days, 1 different day (1 is a copy); 1 name:
+    tea 2
+  tea.table: 2 states, 0 joins, 1 different row (1 is a copy), 23 bytes
+  tea.counts: 12 bytes
 """
 
 WALK = """\
@@ -122,16 +150,21 @@ or tabs. A line with a single - is the empty day; # begins a comment.
 """
 
 PICTURE = """\
-plans picture FILE [--tree] [--class CLASS] [-o FILE] [-q]
+plans picture FILE [--tree] [--counts] [--class CLASS] [-o FILE] [-q]
 
 Draws the model with Graphviz (the command dot, Debian's package graphviz). The
 output's name ends in .svg, .png, .pdf or .dot; standard output gets svg. With
 --tree the prefix tree is drawn beside it, and states that were joined have one
-colour.
+colour. With --counts arrows are as wide as the days use them; beside each name
+stands how often it is passed, in each accepting state how many days end there.
 
   $ printf 'tea\\n' | plans picture -q - -o tea.dot
   $ grep label tea.dot | head -n 1
   label="context (2,1): 2 states, 0 joins, 1 different row"
+  $ printf 'tea\\ntea\\n' | plans picture -q --counts - -o tea.dot
+  $ grep -o 'label="[^"]* 2"' tea.dot
+  label="tea 2"
+  label="1\\nends 2"
 """
 
 ROWS = """\
@@ -152,5 +185,5 @@ book is written if a plan is refused, or if none has the element (status 1).
   week.book: 27 bytes
 """
 
-SUBCOMMANDS = {"list": LIST, "build": BUILD, "walk": WALK, "check": CHECK, "diff": DIFF, "text": TEXT, "book": BOOK,
+SUBCOMMANDS = {"list": LIST, "counts": COUNTS, "build": BUILD, "walk": WALK, "check": CHECK, "diff": DIFF, "text": TEXT, "book": BOOK,
                "picture": PICTURE, "rows": ROWS}

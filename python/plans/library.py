@@ -1,11 +1,11 @@
-"""The library's five calls through ctypes, as include/plans.h declares them. Every buffer lives for one call."""
+"""The library's six calls through ctypes, as include/plans.h declares them. Every buffer lives for one call."""
 import ctypes
 import functools
 import os
 from pathlib import Path
 from typing import Callable, List, Tuple
 
-from .fields import BOOK_ROWS, ROW_LIMIT
+from .fields import BOOK_ROWS, INPUT_LIMIT, ROW_LIMIT
 
 HERE = Path(__file__).resolve().parent
 # the library by its soname: one with another first number has results of another layout
@@ -13,6 +13,7 @@ FILE = "libplans.so.3"
 
 WORK_BYTES = 65536
 LISTING_BYTES = 32768
+COUNTS_BYTES = 3584
 ROWS_BYTES = BOOK_ROWS * (3 + ROW_LIMIT)
 
 
@@ -23,6 +24,10 @@ class LibraryMissing(Exception):
 class BuiltLayout(ctypes.Structure):
     _fields_ = [("refusal", ctypes.c_uint8), ("length", ctypes.c_uint32), ("states", ctypes.c_uint32), ("joins", ctypes.c_uint32),
                 ("distinct", ctypes.c_uint32)]
+
+
+class CountedLayout(ctypes.Structure):
+    _fields_ = [*BuiltLayout._fields_, ("counts_length", ctypes.c_uint32)]
 
 
 class RewrittenLayout(ctypes.Structure):
@@ -43,12 +48,13 @@ class PlanRowsLayout(ctypes.Structure):
 
 
 # each call's result, and what it takes: slices, a slice being (pointer, length), and numbers
-RESULTS = {"plans_build": BuiltLayout, "plans_rewrite": RewrittenLayout, "plans_walk": WalkedLayout,
-           "plans_list": WrittenLayout, "plans_read_rows": PlanRowsLayout}
+RESULTS = {"plans_build": BuiltLayout, "plans_build_counted": CountedLayout, "plans_rewrite": RewrittenLayout,
+           "plans_walk": WalkedLayout, "plans_list": WrittenLayout, "plans_read_rows": PlanRowsLayout}
 READ = [ctypes.c_char_p, ctypes.c_size_t]
 LENT = [ctypes.c_void_p, ctypes.c_size_t]
-TAKEN = {"plans_build": READ + LENT + LENT, "plans_rewrite": READ + LENT + LENT, "plans_walk": READ + READ + LENT,
-         "plans_list": READ + LENT + LENT, "plans_read_rows": READ + READ + [ctypes.c_uint8] + LENT + LENT}
+TAKEN = {"plans_build": READ + LENT + LENT, "plans_build_counted": READ + LENT + LENT + LENT,
+         "plans_rewrite": READ + LENT + LENT, "plans_walk": READ + READ + LENT, "plans_list": READ + LENT + LENT,
+         "plans_read_rows": READ + READ + [ctypes.c_uint8] + LENT + LENT}
 
 
 def _folders() -> List[Path]:
@@ -93,6 +99,14 @@ def written_by(name: str, data: bytes, room: int) -> Tuple[ctypes.Structure, byt
     out = ctypes.create_string_buffer(room)
     result = _call(name)(data, len(data), work, WORK_BYTES, out, room)
     return result, out.raw[:result.length]
+
+
+def built_counted(book: bytes, room: int = INPUT_LIMIT, counts_room: int = COUNTS_BYTES) -> Tuple[CountedLayout, bytes, bytes]:
+    """What the counted build gives back, and the bytes that it wrote: the table and the counts."""
+    work = ctypes.create_string_buffer(WORK_BYTES)
+    out, counts = ctypes.create_string_buffer(room), ctypes.create_string_buffer(counts_room)
+    result = _call("plans_build_counted")(book, len(book), work, WORK_BYTES, out, room, counts, counts_room)
+    return result, out.raw[:result.length], counts.raw[:result.counts_length]
 
 
 def walked(table: bytes, row: bytes) -> WalkedLayout:

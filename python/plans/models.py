@@ -27,6 +27,13 @@ class Built:
 
 
 @dataclass(frozen=True)
+class Counted(Built):
+    """What Built has, and the bytes of the counts: how often the book's rows, copies counted, use each state and each arc of the table.
+    read_counts reads them with the table."""
+    counts: bytes
+
+
+@dataclass(frozen=True)
 class Rewritten:
     """A table's bytes, and how many states it has; it does not say how many joins and different rows there were."""
     table: bytes
@@ -67,6 +74,14 @@ def build(book: Union[Book, Bytes]) -> Built:
     """The table of a book. A book that cannot be written is a ValueError (see write_book)."""
     result, table = _written("plans_build", _book_bytes(book), INPUT_LIMIT)
     return Built(table, result.states, result.joins, result.distinct)
+
+
+def build_counted(book: Union[Book, Bytes]) -> Counted:
+    """The table of a book as build gives it, and its counts. Refused and ValueError as of build."""
+    result, table, counts = library.built_counted(_book_bytes(book))
+    if result.refusal:
+        raise Refused(result.refusal)
+    return Counted(table, result.states, result.joins, result.distinct, counts)
 
 
 def rewrite(table: Union[Table, Bytes]) -> Rewritten:

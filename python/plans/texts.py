@@ -143,32 +143,36 @@ class Text:
         counts = Counter(name for day in self.days for name in day)
         return {**dict.fromkeys(self.declared, 0), **counts}
 
-    def book(self, copies: bool = True) -> Book:
-        """The book; BadText over the limits. Without copies each day is taken once where more than 256 are typed."""
-        once = not copies and len(self.days) > BOOK_ROWS
-        problems = limit_problems(self, once)
+    def book(self, copies: bool = True, for_counts: bool = False) -> Book:
+        """The book; BadText over the limits. Without copies each day is taken once where more than 256 are typed. Of a book for its
+        counts, which has every copy, it is not said that copies can be left out."""
+        once = not copies and not for_counts and len(self.days) > BOOK_ROWS
+        problems = limit_problems(self, once, for_counts)
         if problems:
             raise BadText(problems)
         days = tuple(dict.fromkeys(self.days)) if once else self.days
         return Book(tuple(sorted(self.names())), self.named_class, days)
 
 
-def _too_many_days(text: Text, first: Dict[Row, int], once: bool) -> List[Problem]:
+def _too_many_days(text: Text, first: Dict[Row, int], once: bool, for_counts: bool) -> List[Problem]:
     lines = list(first.values()) if once else text.lines
     if len(lines) <= BOOK_ROWS:
         return []
-    copies = "" if len(first) > BOOK_ROWS else f" (only {counted(len(first), 'different day')}: leave copies out)"
+    copies = ""
+    if len(first) <= BOOK_ROWS:
+        advice = ", but copies are counted: none may be left out" if for_counts else ": leave copies out"
+        copies = f" (only {counted(len(first), 'different day')}{advice})"
     what = "different day" if once else "day"
     reason = f"a {BOOK_ROWS + 1}th {what}: at most {BOOK_ROWS} are allowed; give fewer days{copies}"
     return [Problem(lines[BOOK_ROWS], reason)]
 
 
-def limit_problems(text: Text, once: bool) -> List[Problem]:
+def limit_problems(text: Text, once: bool, for_counts: bool) -> List[Problem]:
     """What breaks a limit of the whole book, each at the first line that does. `first` has the first line of each different day."""
     first: Dict[Row, int] = {}
     for day, line in zip(text.days, text.lines):
         first.setdefault(day, line)
-    problems = _too_many_days(text, first, once)
+    problems = _too_many_days(text, first, once, for_counts)
     names, beginnings = set(text.declared), {()}
     if len(names) > NAME_LIMIT:
         problems.append(Problem(1, f"{len(names)} names are declared: at most {NAME_LIMIT} are allowed; {SMALLER}"))

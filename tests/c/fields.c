@@ -109,6 +109,26 @@ static void longest_content(void)
     check("and nothing more", !plans_read_field(&from, &field) && from.at == from.length);
 }
 
+/* The numbers of a counts file of two states, cut at every length: only those of whole fields are there. */
+static void counts_of_states(void)
+{
+    static const uint8_t counts[] = {0x05, 0x00, 0x04, 0x00, 0x00, 0x27, 0x10, 0x05, 0x00, 0x02, 0x01, 0x00};
+    static const uint8_t other[] = {0x04, 0x00, 0x02, 0x00, 0x01};
+
+    for (size_t length = 0; length <= sizeof counts; length++) {
+        uint8_t *bytes = lend_copy(counts, length);
+
+        check("state 0's ends", plans_count_of(bytes, length, 0, 0) == (length >= 7 ? 0 : -1));
+        check("its arc's passes", plans_count_of(bytes, length, 0, 1) == (length >= 7 ? 10000 : -1));
+        check("it has one arc", plans_count_of(bytes, length, 0, 2) == -1);
+        check("state 1's ends", plans_count_of(bytes, length, 1, 0) == (length >= 12 ? 256 : -1));
+        check("it has no arc", plans_count_of(bytes, length, 1, 1) == -1);
+        check("there is no state 2", plans_count_of(bytes, length, 2, 0) == -1);
+        free(bytes);
+    }
+    check("a state of a table has no counts", plans_count_of(other, sizeof other, 0, 0) == -1);
+}
+
 static void words_of_refusals(void)
 {
     check("the words for 0", strcmp(plans_refusal_text(PLANS_OK), "no refusal") == 0);
@@ -128,6 +148,7 @@ int main(void)
     write_into(sizeof book + 2);
     write_into(sizeof book + 3);
     longest_content();
+    counts_of_states();
     words_of_refusals();
     return summed_up() != 0;
 }

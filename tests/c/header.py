@@ -11,6 +11,7 @@ from pathlib import Path
 ROOT = Path(__file__).resolve().parents[2]
 STRUCTS = {
     "plans_built": "Built",
+    "plans_counted": "Counted",
     "plans_rewritten": "Rewritten",
     "plans_walked": "Walked",
     "plans_written": "Written",
@@ -62,20 +63,28 @@ def library_functions(text):
 
 
 def header_constants(text):
-    """Each number defined, or what it is made of, by its name without PLANS_; but for 0, no refusal, and the kinds of classes, which
-    tests/c/tablet.c tries."""
-    numbers = dict(re.findall(r"(?:^#define |^ +)PLANS_(\w+)(?: =)? (\d+)", text, re.M))
-    made = {name: parts.replace("PLANS_", "") for name, parts in re.findall(r"^#define PLANS_(\w+) \((.*)\)$", text, re.M)}
-    return {name: value for name, value in {**numbers, **made}.items() if name not in ("OK", "CONTEXT", "SEEN_SET", "LAST_NAMES")}
+    """Each number defined, by its name without PLANS_; but for 0, no refusal, and the kinds of classes, which tests/c/tablet.c tries."""
+    numbers = re.findall(r"(?:^#define |^ +)PLANS_(\w+)(?: =)? (\d+)", text, re.M)
+    made = re.findall(r"^#define PLANS_(\w+) \((.*)\)$", text, re.M)
+    values = computed([*numbers, *((name, parts.replace("PLANS_", "")) for name, parts in made)])
+    return {name: value for name, value in values.items() if name not in ("OK", "CONTEXT", "SEEN_SET", "LAST_NAMES")}
 
 
 def library_constants(text, names):
-    """The constants with these names; all values where crates differ."""
-    found = {}
-    for name, value in re.findall(r"^pub const (\w+): \w+ = ([^;]+);", text, re.M):
-        if name in names:
-            found.setdefault(name, set()).add(value)
-    return {name: " or ".join(values) for name, values in found.items()}
+    """The constants with these names."""
+    found = re.findall(r"^pub const (\w+): \w+ = ([^;]+);", text, re.M)
+    return computed([(name, value) for name, value in found if name in names])
+
+
+def computed(definitions):
+    """Each constant's number; a list of all where there are several. What one is made of is computed from the others' numbers."""
+    numbers = {name: int(value) for name, value in definitions if value.isdecimal()}
+    values = {}
+    for name, value in definitions:
+        if not re.fullmatch(r"[\w\s+*()]+", value):
+            raise ValueError(f"the constant {name} is made of '{value}', which is not read here")
+        values.setdefault(name, set()).add(eval(value, {"__builtins__": {}}, numbers))
+    return {name: sorted(all_of_it) if len(all_of_it) > 1 else all_of_it.pop() for name, all_of_it in values.items()}
 
 
 def printed(*command):

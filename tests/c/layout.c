@@ -10,6 +10,14 @@ _Static_assert(offsetof(plans_built, states) == 8, "plans_built.states");
 _Static_assert(offsetof(plans_built, joins) == 12, "plans_built.joins");
 _Static_assert(offsetof(plans_built, distinct) == 16, "plans_built.distinct");
 
+_Static_assert(sizeof(plans_counted) == 24, "size of plans_counted");
+_Static_assert(offsetof(plans_counted, refusal) == 0, "plans_counted.refusal");
+_Static_assert(offsetof(plans_counted, length) == 4, "plans_counted.length");
+_Static_assert(offsetof(plans_counted, states) == 8, "plans_counted.states");
+_Static_assert(offsetof(plans_counted, joins) == 12, "plans_counted.joins");
+_Static_assert(offsetof(plans_counted, distinct) == 16, "plans_counted.distinct");
+_Static_assert(offsetof(plans_counted, counts_length) == 20, "plans_counted.counts_length");
+
 _Static_assert(sizeof(plans_rewritten) == 12, "size of plans_rewritten");
 _Static_assert(offsetof(plans_rewritten, refusal) == 0, "plans_rewritten.refusal");
 _Static_assert(offsetof(plans_rewritten, length) == 4, "plans_rewritten.length");

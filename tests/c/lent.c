@@ -79,19 +79,25 @@ static lent lend_all(const writing *from, size_t work_len, size_t out_len)
     return all;
 }
 
-/* A look at every byte lent, of which `length` were written; they go to `to`. */
+/* A look at every byte of an output, of which `length` were written; they go to `to`. */
+static void take_output(uint8_t *out, size_t out_len, size_t length, writing *to)
+{
+    check("what is written fits the output", length <= out_len);
+    check("the output beyond it is as it was", all_are(BEFORE, out, length, out_len));
+    if (length > 0)
+        memcpy(to->bytes, out, length);
+    to->length = length;
+    free(out);
+}
+
+/* A look at every byte lent; `length` of the output's were written, and go to `to`. */
 static void take_back(lent all, const writing *from, size_t length, writing *to)
 {
     check("the working area is zero after the call", all_are(0, all.work, 0, all.work_len));
     check("the input is as it was", same(all.input, from->bytes, from->length));
-    check("what is written fits the output", length <= all.out_len);
-    check("the output beyond it is as it was", all_are(BEFORE, all.out, length, all.out_len));
-    if (length > 0)
-        memcpy(to->bytes, all.out, length);
-    to->length = length;
+    take_output(all.out, all.out_len, length, to);
     free(all.input);
     free(all.work);
-    free(all.out);
 }
 
 plans_built build(const writing *book, size_t work_len, size_t out_len, writing *table)
@@ -105,6 +111,20 @@ plans_built build(const writing *book, size_t work_len, size_t out_len, writing 
         check("an accepted book has 1 to 256 different rows", built.distinct >= 1 && built.distinct <= PLANS_BOOK_ROWS);
     take_back(all, book, built.length, table);
     return built;
+}
+
+plans_counted build_counted(const writing *book, size_t work_len, size_t out_len, size_t counts_len, writing *table, writing *counts)
+{
+    lent all = lend_all(book, work_len, out_len);
+    uint8_t *to = lend(counts_len);
+    plans_counted counted = plans_build_counted(all.input, book->length, all.work, work_len, all.out, out_len, to, counts_len);
+
+    if (counted.refusal != PLANS_OK)
+        check("a refusal gives zeros else",
+              !counted.length && !counted.states && !counted.joins && !counted.distinct && !counted.counts_length);
+    take_back(all, book, counted.length, table);
+    take_output(to, counts_len, counted.counts_length, counts);
+    return counted;
 }
 
 plans_rewritten rewrite(const writing *from, size_t work_len, size_t out_len, writing *table)

@@ -5,7 +5,7 @@
 
 #include "plans.h"
 
-/* A book, a table, a row, a plan, a list of names or a text while it is written. */
+/* A book, a table, a row, a plan, a list of names, counts or a text while it is written. */
 typedef struct {
     uint8_t bytes[PLANS_INPUT_LIMIT + 1];
     size_t length;
@@ -21,8 +21,10 @@ unsigned summed_up(void);
 uint8_t *lend(size_t length);
 uint8_t *lend_copy(const uint8_t *bytes, size_t length);
 
-/* The calls; `work_len`, `out_len` and `text_len` are the lengths lent. What is written goes to `table`, `text` or `rows`. */
+/* The calls; `work_len`, `out_len`, `counts_len` and `text_len` are the lengths lent. What is written goes to `table`, `counts`, `text` or
+ * `rows`. */
 plans_built build(const writing *book, size_t work_len, size_t out_len, writing *table);
+plans_counted build_counted(const writing *book, size_t work_len, size_t out_len, size_t counts_len, writing *table, writing *counts);
 plans_rewritten rewrite(const writing *from, size_t work_len, size_t out_len, writing *table);
 plans_written list(const writing *book, size_t work_len, size_t text_len, writing *text);
 plans_walked walk(const writing *table, const uint8_t *row, size_t row_len, size_t work_len);

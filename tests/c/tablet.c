@@ -1,11 +1,12 @@
-/* The library used as the tablet's program uses it: builds a book, walks rows, offers the names that may come next, lists a book,
- * reads the rows of plans, and meets each refusal. All of it runs in a thread with a stack of STACK_BYTES, which scripts/test-c sets;
- * 0 leaves the system's own. */
+/* The library used as the tablet's program uses it: builds a book, also with its counts, walks rows, offers the names that may come next,
+ * lists a book, reads the rows of plans, and meets each refusal. All of it runs in a thread with a stack of STACK_BYTES, which
+ * scripts/test-c sets; 0 leaves the system's own. */
 #include <pthread.h>
 #include <stdio.h>
 #include <string.h>
 
 #include "lent.h"
+#include "plans_fields.h"
 
 enum { NAMES = 4 };
 
@@ -16,6 +17,7 @@ static const char letters[] = "bdls";
 static writing book;
 static writing table;
 static writing again;
+static writing counts;
 static writing plan;
 static writing listed_names;
 
@@ -50,6 +52,11 @@ static void start_book(uint8_t kind, uint8_t first, uint8_t second)
 static plans_built build_all(void)
 {
     return build(&book, PLANS_WORK_BYTES, PLANS_INPUT_LIMIT, &table);
+}
+
+static plans_counted count_all(void)
+{
+    return build_counted(&book, PLANS_WORK_BYTES, PLANS_TABLE_BYTES, PLANS_COUNTS_BYTES, &table, &counts);
 }
 
 static plans_walked walk_day(const char *day)
@@ -156,6 +163,147 @@ static void tap_a_day(void)
             strncat(day, offered + walked.next_count - 1, 1);
     }
     check("the day tapped", strcmp(day, "dsl") == 0);
+}
+
+/* The field of a state in the table. */
+static plans_field state_of(unsigned number)
+{
+    plans_reader from = plans_read_from(table.bytes, table.length);
+    plans_field field = {0, NULL, 0};
+
+    while (plans_read_field(&from, &field))
+        if (field.mark == PLANS_STATE_MARK && number-- == 0)
+            break;
+    return field;
+}
+
+/* One number of the counts: a state's ends, or the passes of one of its arcs, counted from 0. */
+static unsigned ends_of(unsigned state)
+{
+    return (unsigned)plans_count_of(counts.bytes, counts.length, state, 0);
+}
+
+static unsigned passes_of(unsigned state, size_t arc)
+{
+    return (unsigned)plans_count_of(counts.bytes, counts.length, state, 1 + arc);
+}
+
+/* Whether for each state arrivals, and at the start the rows, are departures and ends; the ends are as many as the rows; those that accept
+ * have ends, and no other; and every arc is passed. */
+static int counts_hold(plans_counted counted, unsigned rows)
+{
+    static unsigned arrivals[PLANS_STATE_LIMIT];
+    unsigned all_ends = 0;
+    int hold = 1;
+
+    memset(arrivals, 0, sizeof arrivals);
+    arrivals[0] = rows;
+    for (unsigned state = 0; state < counted.states; state++) {
+        plans_field field = state_of(state);
+
+        for (size_t arc = 0; arc < field.length / 3; arc++)
+            arrivals[field.content[2 + 3 * arc] << 8 | field.content[3 + 3 * arc]] += passes_of(state, arc);
+    }
+    for (unsigned state = 0; state < counted.states; state++) {
+        plans_field field = state_of(state);
+        unsigned departures = 0;
+
+        for (size_t arc = 0; arc < field.length / 3; arc++) {
+            hold = hold && passes_of(state, arc) > 0;
+            departures += passes_of(state, arc);
+        }
+        hold = hold && arrivals[state] == departures + ends_of(state) && (ends_of(state) > 0) == field.content[0];
+        all_ends += ends_of(state);
+    }
+    return hold && all_ends == rows;
+}
+
+/* Worked day P6 of docs/SCOPE.md, with its first row twice: its counts, byte by byte, and outputs of lengths about them. */
+static void counted_days(void)
+{
+    static const uint8_t fields[] = {5, 0, 6, 0, 0, 0, 3, 0, 1, 5, 0, 4, 0, 0, 0, 3, 5, 0, 4, 0, 0, 0,
+                                     1, 5, 0, 6, 0, 0, 0, 1, 0, 3, 5, 0, 2, 0, 1, 5, 0, 2, 0, 3};
+    size_t length = sizeof fields;
+    plans_built built;
+    plans_counted counted;
+
+    start_book(PLANS_CONTEXT, 2, 1);
+    put_day("bsl");
+    put_day("dsl");
+    put_day("bsb");
+    put_day("bsl");
+    built = build_all();
+    again = table;
+    counted = count_all();
+    check("a book is built with its counts", counted.refusal == PLANS_OK && counted.counts_length == length);
+    check("they are", memcmp(counts.bytes, fields, length) == 0);
+    check("its numbers are those without", counted.length == built.length && counted.states == built.states &&
+                                               counted.joins == built.joins && counted.distinct == built.distinct);
+    check("its table is that without", table.length == again.length && memcmp(table.bytes, again.bytes, table.length) == 0);
+    counted = build_counted(&book, PLANS_WORK_BYTES, built.length, length, &again, &counts);
+    check("outputs just long enough", counted.refusal == PLANS_OK);
+    counted = build_counted(&book, PLANS_WORK_BYTES, built.length, length - 1, &again, &counts);
+    check("13: counts one byte short", counted.refusal == PLANS_OUTPUT_TOO_SHORT);
+    counted = build_counted(&book, PLANS_WORK_BYTES, built.length - 1, length, &again, &counts);
+    check("13: a table one byte short", counted.refusal == PLANS_OUTPUT_TOO_SHORT);
+    counted = build_counted(&book, PLANS_WORK_BYTES, built.length, 0, &again, &counts);
+    check("13: no counts", counted.refusal == PLANS_OUTPUT_TOO_SHORT);
+    counted = build_counted(&book, PLANS_WORK_BYTES, 0, 0, &again, &counts);
+    check("13: no outputs", counted.refusal == PLANS_OUTPUT_TOO_SHORT);
+    counted = build_counted(&book, PLANS_WORK_BYTES - 1, built.length, length, &again, &counts);
+    check("1: a short working area", counted.refusal == PLANS_BAD_SIZES);
+    check("1: no working area", build_counted(&book, 0, 0, 0, &again, &counts).refusal == PLANS_BAD_SIZES);
+}
+
+/* Forty days of which thirty are copies; then as many equal days as there may be. */
+static void counted_copies(void)
+{
+    plans_counted counted;
+
+    start_book(PLANS_CONTEXT, 2, 1);
+    for (unsigned i = 0; i < 40; i++)
+        put_number(i * 7 % 10);
+    counted = count_all();
+    check("copies are counted", counted.refusal == PLANS_OK && counts_hold(counted, 40));
+    start_book(PLANS_CONTEXT, 1, 1);
+    for (unsigned i = 0; i < PLANS_BOOK_ROWS; i++)
+        put_day("sss");
+    counted = count_all();
+    check("256 equal days", counted.distinct == 1 && counted.states == 2 && counts_hold(counted, PLANS_BOOK_ROWS));
+    check("all end in one state", ends_of(0) == 0 && ends_of(1) == 256);
+    check("a day that passes an arc twice counts two", passes_of(0, 0) == 256 && passes_of(1, 0) == 512);
+}
+
+/* The user taps names: those offered come in the order of their passes, ties by number, and the first is taken. */
+static void tap_common_first(void)
+{
+    static const char *const offers[] = {"bds", "s", "lb", ""};
+    static const char *const days[] = {"bsl", "dsl", "bsb", "s", "bsl"};
+    unsigned state = 0;
+
+    start_book(PLANS_CONTEXT, 2, 1);
+    for (size_t i = 0; i < 5; i++)
+        put_day(days[i]);
+    count_all();
+    for (size_t taps = 0; taps < 4; taps++) {
+        plans_field field = state_of(state);
+        size_t order[NAMES];
+        char offered[NAMES + 1] = "";
+
+        for (size_t arc = 0; arc < field.length / 3; arc++) {
+            size_t place = arc;
+
+            for (; place > 0 && passes_of(state, order[place - 1]) < passes_of(state, arc); place--)
+                order[place] = order[place - 1];
+            order[place] = arc;
+        }
+        for (size_t i = 0; i < field.length / 3; i++)
+            strncat(offered, &letters[field.content[1 + 3 * order[i]]], 1);
+        check("the most common name is offered first", strcmp(offered, offers[taps]) == 0);
+        if (field.length > 1)
+            state = (unsigned)(field.content[2 + 3 * order[0]] << 8 | field.content[3 + 3 * order[0]]);
+    }
+    check("the day ends where most days end", ends_of(state) == 3);
 }
 
 static void rewrite_it(void)
@@ -341,6 +489,7 @@ static void most_rows(void)
 static void refused_build(const char *what, uint8_t number)
 {
     check(what, build_all().refusal == number);
+    check(what, count_all().refusal == number);
     check(what, list(&book, PLANS_WORK_BYTES, PLANS_LISTING_BYTES, &again).refusal == number);
 }
 
@@ -424,6 +573,7 @@ static void refused_counts(void)
     thirteen_rows(31);
     built = build_all();
     check("a tree of 512 states", built.refusal == PLANS_OK && built.states + built.joins == 512);
+    check("its counts", counts_hold(count_all(), 13));
     thirteen_rows(32);
     refused_build("10: a tree of 513 states", PLANS_TREE_TOO_LARGE);
 }
@@ -478,6 +628,9 @@ static void *tablet(void *unused)
     copied_days();
     class_kinds();
     tap_a_day();
+    counted_days();
+    counted_copies();
+    tap_common_first();
     rewrite_it();
     list_it();
     refused_lengths();

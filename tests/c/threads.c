@@ -13,9 +13,11 @@ typedef struct {
     uint8_t work[PLANS_WORK_BYTES];
     uint8_t table[PLANS_TABLE_BYTES];
     uint8_t again[PLANS_TABLE_BYTES];
+    uint8_t counts[PLANS_COUNTS_BYTES];
     uint8_t text[PLANS_LISTING_BYTES];
     uint8_t rows[PLANS_ROWS_BYTES];
     size_t table_len;
+    size_t counts_len;
     size_t text_len;
     size_t rows_len;
     uint32_t distinct;
@@ -46,10 +48,13 @@ static void write_book(void)
         plans_write_row(&book, days[i], sizeof days[i]);
 }
 
-/* Every call once. Returns whether none was refused, and the rewritten table is the table. */
+/* Every call once. Returns whether none was refused, and the table rewritten, and that built with counts, is the table. */
 static int call_all(areas *to)
 {
+    plans_counted counted = plans_build_counted(book.bytes, book.length, to->work, sizeof to->work, to->again, sizeof to->again,
+                                                to->counts, sizeof to->counts);
     plans_built built = plans_build(book.bytes, book.length, to->work, sizeof to->work, to->table, sizeof to->table);
+    int same_table = counted.length == built.length && memcmp(to->again, to->table, built.length) == 0;
     plans_rewritten again = plans_rewrite(to->table, built.length, to->work, sizeof to->work, to->again, sizeof to->again);
     plans_written written = plans_list(book.bytes, book.length, to->work, sizeof to->work, to->text, sizeof to->text);
     plans_plan_rows read = plans_read_rows((const uint8_t *)plan, strlen(plan), book.bytes, list_len, 1, to->work, sizeof to->work,
@@ -57,16 +62,19 @@ static int call_all(areas *to)
 
     to->walked = plans_walk(to->table, built.length, day, sizeof day, to->work, sizeof to->work);
     to->table_len = built.length;
+    to->counts_len = counted.counts_length;
     to->text_len = written.length;
     to->rows_len = read.length;
     to->distinct = built.distinct;
-    return built.refusal == PLANS_OK && again.refusal == PLANS_OK && written.refusal == PLANS_OK && to->walked.refusal == PLANS_OK &&
-           read.refusal == PLANS_OK && read.rows == 2 && again.length == built.length && memcmp(to->again, to->table, built.length) == 0;
+    return built.refusal == PLANS_OK && counted.refusal == PLANS_OK && same_table && again.refusal == PLANS_OK &&
+           written.refusal == PLANS_OK && to->walked.refusal == PLANS_OK && read.refusal == PLANS_OK && read.rows == 2 &&
+           again.length == built.length && memcmp(to->again, to->table, built.length) == 0;
 }
 
 static int as_alone(const areas *to)
 {
     return to->table_len == alone.table_len && memcmp(to->table, alone.table, alone.table_len) == 0 &&
+           to->counts_len == alone.counts_len && memcmp(to->counts, alone.counts, alone.counts_len) == 0 &&
            to->text_len == alone.text_len && memcmp(to->text, alone.text, alone.text_len) == 0 &&
            to->rows_len == alone.rows_len && memcmp(to->rows, alone.rows, alone.rows_len) == 0 && to->distinct == alone.distinct &&
            to->walked.outcome == alone.walked.outcome && to->walked.walked == alone.walked.walked &&

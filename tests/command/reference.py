@@ -124,6 +124,23 @@ def table_bytes(sample: Sample, states: list) -> bytes:
     return front + b"".join(field(4, bytes([accepts]) + leaving) for (accepts, _), leaving in zip(states, arcs))
 
 
+def counts_of(sample: Sample, states: list) -> list:
+    """For each state how many rows end there, and for each of its arcs how often the rows pass it: every row walked by itself."""
+    ends = [0] * len(states)
+    passes = [{name: 0 for name, _ in arcs} for _, arcs in states]
+    for row in sample.rows:
+        state = 0
+        for name in row:
+            passes[state][name] += 1
+            state = dict(states[state][1])[name]
+        ends[state] += 1
+    return list(zip(ends, passes))
+
+
+def counts_bytes(counts: list) -> bytes:
+    return b"".join(field(5, b"".join(number.to_bytes(2, "big") for number in (ends, *passes.values()))) for ends, passes in counts)
+
+
 def listing(sample: Sample, states: list, joins: int) -> str:
     lines = [f"states {len(states)} joins {joins} distinct {len(set(sample.rows))}"]
     for number, (accepts, arcs) in enumerate(states):

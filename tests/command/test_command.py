@@ -13,7 +13,7 @@ NOTES = "days.txt: 3 days, 3 different days; 3 names:\n  cake 1, lunch 3, tea 2\
 BOOK = plans.write_book(plans.read_text(TEXT).book())
 TABLE = plans.build(BOOK).table
 LISTED = "0 - lunch>1\n1 + tea>2\n2 + cake>3\n3 +\n"
-COMMANDS = ["list", "build", "walk", "check", "diff", "text", "book", "picture"]  # and rows, which takes plans: test_rows.py
+COMMANDS = ["list", "counts", "build", "walk", "check", "diff", "text", "book", "picture"]  # and rows, which takes plans: test_rows.py
 
 
 class Good(InFolder):
@@ -169,6 +169,9 @@ class WhatPeopleType(InFolder):
             "days.txt: 300 days, 2 different days (298 are copies); 2 names:\n  lunch 300, tea 150\n" + once))
         self.fails("days.txt:257: a 257th day: at most 256 are allowed; give fewer days (only 2 different days: leave copies out)",
                    "book", "days.txt", "-o", "out")
+        self.answers(0, "", "build", "days.txt", "-o", "out", said=(
+            "days.txt: 300 days, 2 different days (298 are copies); 2 names:\n  lunch 300, tea 150\n" + once
+            + "out: 3 states, 0 joins, 2 different rows, 38 bytes\n"))
 
     def test_limits_say_what_to_do(self):
         self.put("days.txt", "\n".join(f"n{i // 26} m{i % 26}" for i in range(257)))
@@ -230,6 +233,8 @@ class Bad(InFolder):
         self.fails("days.table: this is a table; a text is wanted", "book", "days.table")
         self.fails("days.book: this is a book; a text is wanted", "book", "days.book")
         self.fails("days.table: this is a table, which has no days; --tree is for texts and books", "picture", "--tree", "days.table")
+        self.fails("days.table: this is a table, which has no days; --counts is for texts and books", "picture", "--counts", "days.table")
+        self.fails("days.table: this is a table; a text or a book is wanted", "counts", "days.table")
         self.fails("days.table: this is a table, which has its class; --class is for texts and books",
                    "list", "days.table", "--class", "seen")
 
@@ -302,7 +307,7 @@ class Bad(InFolder):
         self.assertLess(len(done.stdout), 200)
 
     def test_usage(self):
-        subs = "list, build, walk, check, diff, text, book, picture, rows"
+        subs = "list, counts, build, walk, check, diff, text, book, picture, rows"
         self.fails(f"plans: say what to do: {subs} ('plans --help' shows how)")
         self.fails(f"plans: there is no sub-command 'wlak'; did you mean walk? there are {subs}", "wlak")
         self.fails(f"plans: there is no sub-command '\\x1b'; there are {subs}", "\x1b")
@@ -362,7 +367,8 @@ class Writing(InFolder):
         self.assertEqual(self.left(), ["days.book", "days.txt", "link", "new.table", "old.table"])
 
     def test_full_device(self):
-        for words in [["list", "-q", "days.txt"], ["build", "days.book"], ["walk", "-q", "days.txt", "lunch"], ["check", "days.book"],
+        for words in [["list", "-q", "days.txt"], ["counts", "days.book"], ["build", "days.book"],
+                      ["walk", "-q", "days.txt", "lunch"], ["check", "days.book"],
                       ["diff", "-q", "days.txt", "days.book"], ["text", "days.book"], ["book", "-q", "days.txt"], ["--help"],
                       ["--version"]]:
             with open("/dev/full", "wb") as full:

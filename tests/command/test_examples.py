@@ -2,6 +2,7 @@
 import itertools
 import re
 import unittest
+from collections import Counter
 from pathlib import Path
 
 import plans
@@ -175,6 +176,23 @@ class Sources(unittest.TestCase):
         self.assertTrue(admits(table, "Headword Inflection Example Example".split()))
         self.assertFalse(admits(table, "Headword Inflection Example".split()))
         self.assertTrue(admits(table_of("sources/entry_2_1"), "Headword Inflection Example".split()))
+
+    def test_passes_beside_the_weights_of_section_5_3_4(self):
+        """Arcs whose passes are not the number of rows that pass them: table, state, name, passes, rows."""
+        found = []
+        for name in ["entry_2_2", "entry_2_1"]:
+            counted = plans.build_counted(book_at(EXAMPLES / "sources" / (name + ".txt")))
+            states = plans.read_table(counted.table).states
+            weights = Counter()
+            for row in book_at(EXAMPLES / "sources" / (name + ".txt")).rows:
+                places = [0]
+                for part in row:
+                    places.append(dict(states[places[-1]].arcs)[part])
+                weights.update(set(zip(places, row)))
+            for number, own in enumerate(plans.read_counts(counted.counts, counted.table)):
+                found += [(name, number, part, count, weights[number, part]) for part, count in own.passes
+                          if count != weights[number, part]]
+        self.assertEqual(found, [("entry_2_1", 5, "Example", 5, 4)])
 
     def test_3_grams_of_example_5_22(self):
         names = ["Headword", "Inflection", "Example", "Parallel_form", "Preferred_form"]

@@ -18,9 +18,23 @@ def block_under(heading: str) -> str:
     return FORMATS.split(f"\n## {heading}\n")[1].split("```\n")[1]
 
 
-def bytes_shown(heading: str) -> bytes:
+def bytes_of(block: str) -> bytes:
     """The bytes at the front of the block's lines; two blanks or more end them."""
-    return b"".join(bytes.fromhex(line.split("  ")[0]) for line in block_under(heading).splitlines())
+    return b"".join(bytes.fromhex(line.split("  ")[0]) for line in block.splitlines())
+
+
+def bytes_shown(heading: str) -> bytes:
+    return bytes_of(block_under(heading))
+
+
+def counts_shown() -> list:
+    """The counts files of the book above them, and of that with two rows more, which the page names."""
+    return [bytes_of(block) for block in FORMATS.split("\n## Its counts\n")[1].split("\n## ")[0].split("```\n")[1::2]]
+
+
+def counted_books() -> list:
+    book = plans.read_book(bytes_shown("A book"))
+    return [book, plans.Book(book.names, book.named_class, (*book.rows, ("lunch",), ("lunch", "snack", "snack", "snack")))]
 
 
 def book_at(path: Path) -> plans.Book:
@@ -40,6 +54,16 @@ class Formats(unittest.TestCase):
         self.assertEqual(plans.list_book(data), block_under("Its listing"))
         self.assertEqual(plans.write_book(plans.read_text(block_under("A book as text")).book()), data)
         self.assertEqual(bytes_shown("Its table"), plans.build(data).table)
+
+    def test_counts(self):
+        counted = [plans.build_counted(book) for book in counted_books()]
+        self.assertEqual([one.counts for one in counted], counts_shown())
+        self.assertEqual([one.table for one in counted], 2 * [bytes_shown("Its table")])
+        words = {"no": 0, "one": 1, "two": 2, "once": 1, "twice": 2, "three times": 3, "four times": 4}
+        section = FORMATS.split("\n## Its counts\n")[1].split("\n## ")[0]
+        said = re.findall(r"(no|one|two) rows? ends? there .*; (?:lunch|snack) is passed (once|twice|three times|four times) ", section)
+        read = [state for one in counted for state in plans.read_counts(one.counts, one.table)]
+        self.assertEqual([(words[ends], words[passed]) for ends, passed in said], [(one.ends, one.passes[0][1]) for one in read])
 
     def test_plan_list_and_rows(self):
         names = bytes_shown("A plan, its list of names and its rows")

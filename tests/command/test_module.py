@@ -15,12 +15,12 @@ import plans
 from plans import fields as limits
 from plans import library
 from plans.plan_files import DEPTH_LIMIT
-from reference import book_bytes, joined, listing, states_of, table_bytes, walked
+from reference import book_bytes, counts_bytes, counts_of, joined, listing, states_of, table_bytes, walked
 from samples import a_sample, a_small_sample, book_of, damaged
 
 ROOT = Path(__file__).resolve().parents[2]
-LAYOUTS = {"plans_built": library.BuiltLayout, "plans_rewritten": library.RewrittenLayout, "plans_walked": library.WalkedLayout,
-           "plans_written": library.WrittenLayout, "plans_plan_rows": library.PlanRowsLayout}
+LAYOUTS = {"plans_built": library.BuiltLayout, "plans_counted": library.CountedLayout, "plans_rewritten": library.RewrittenLayout,
+           "plans_walked": library.WalkedLayout, "plans_written": library.WrittenLayout, "plans_plan_rows": library.PlanRowsLayout}
 
 
 def number_of(read, data: bytes) -> int:
@@ -40,6 +40,12 @@ class AgainstTheReference(unittest.TestCase):
         built = plans.build(book_of(sample))
         self.assertEqual(built, plans.Built(table_bytes(sample, states), len(states), joins, len(set(sample.rows))), sample)
         self.assertEqual(plans.build(book_bytes(sample)), built)
+        counts = counts_of(sample, states)
+        counted = plans.Counted(built.table, len(states), joins, built.distinct, counts_bytes(counts))
+        self.assertEqual(plans.build_counted(book_of(sample)), counted, sample)
+        self.assertEqual(plans.build_counted(book_bytes(sample)), counted)
+        read = [plans.StateCounts(ends, tuple((sample.names[name], count) for name, count in passes.items())) for ends, passes in counts]
+        self.assertEqual(plans.read_counts(counted.counts, counted.table), tuple(read))
         self.assertEqual(plans.list_book(book_of(sample)), listing(sample, states, joins))
         self.assertEqual(plans.rewrite(built.table), plans.Rewritten(built.table, len(states)))
         self.assertEqual(plans.write_table(plans.read_table(built.table)), built.table)
@@ -82,7 +88,8 @@ class Documented(unittest.TestCase):
             self.assertTrue(given.strip().startswith(repr(result)), (code, result))
             told.append(result)
         self.assertEqual(told[0], (5, 2, 2))
-        self.assertEqual(len(told), 2)
+        self.assertEqual(told[2], plans.StateCounts(0, (("lunch", 1), ("snack", 1))))
+        self.assertEqual(len(told), 3)
 
     def test_the_examples_run(self):
         names = {"plans": plans}
@@ -92,7 +99,8 @@ class Documented(unittest.TestCase):
             exec("\n".join(lines), names)
             results.append(eval(last, names))
         self.assertEqual(results, [plans.Walked(plans.Outcome.ON_THE_WAY, ("breakfast", "lunch"), ("dinner",)),
-                                   "states 3 joins 0 distinct 1\n0 - breakfast>1\n1 - lunch>2\n2 +\n"])
+                                   "states 3 joins 0 distinct 1\n0 - breakfast>1\n1 - lunch>2\n2 +\n",
+                                   plans.StateCounts(0, (("breakfast", 2),))])
 
     def test_all_that_is_offered_says_what_it_is(self):
         for name in plans.__all__:
@@ -118,8 +126,9 @@ class WrongArguments(unittest.TestCase):
     TABLE = plans.build(BOOK).table
 
     def test_neither_a_book_nor_bytes(self):
-        for call in (plans.build, plans.list_book, plans.rewrite, plans.list_table, plans.judged_book, plans.read_book, plans.read_table,
-                     lambda given: plans.walk(given, ["lunch"])):
+        for call in (plans.build, plans.build_counted, plans.list_book, plans.rewrite, plans.list_table, plans.judged_book,
+                     plans.read_book, plans.read_table, lambda given: plans.walk(given, ["lunch"]),
+                     lambda given: plans.read_counts(given, self.TABLE), lambda given: plans.read_counts(b"", given)):
             for given in (5, "lunch", [1, 2], None, plans.read_text("lunch")):
                 with self.assertRaisesRegex(TypeError, f"bytes must be given, not {type(given).__name__}$"):
                     call(given)
@@ -155,6 +164,9 @@ class WrongArguments(unittest.TestCase):
             again = pickle.loads(pickle.dumps(problem))
             self.assertEqual((again.number, again.offset, again.words, str(again)),
                              (problem.number, problem.offset, problem.words, str(problem)))
+        problem = plans.BadCounts(7, "a field runs past the end")
+        again = pickle.loads(pickle.dumps(problem))
+        self.assertEqual((again.offset, again.reason, str(again)), (7, problem.reason, "offset 7: a field runs past the end"))
 
 
 class Layouts(unittest.TestCase):
@@ -182,7 +194,8 @@ class Layouts(unittest.TestCase):
         self.assertEqual(fields, {name: [part for part, _ in layout._fields_] for name, layout in LAYOUTS.items()})
         calls = {name: result for result, name in re.findall(r"^(plans_\w+) (plans_\w+)\(", header, re.M)}
         self.assertEqual({name: LAYOUTS[result] for name, result in calls.items()}, library.RESULTS)
-        sizes = {"WORK_BYTES": library.WORK_BYTES, "LISTING_BYTES": library.LISTING_BYTES, "PLAN_DEPTH": DEPTH_LIMIT}
+        sizes = {"WORK_BYTES": library.WORK_BYTES, "LISTING_BYTES": library.LISTING_BYTES, "COUNTS_BYTES": library.COUNTS_BYTES,
+                 "PLAN_DEPTH": DEPTH_LIMIT}
         for name in ("INPUT_LIMIT", "NAME_LIMIT", "NAME_BYTES", "BOOK_ROWS", "ROW_LIMIT", "STATE_LIMIT", "SETTING_LIMIT"):
             sizes[name] = getattr(limits, name)
         for name, size in sizes.items():

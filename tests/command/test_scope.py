@@ -46,7 +46,7 @@ class Scope(unittest.TestCase):
 
     def test_fields_shown(self):
         shown = re.findall(r"^\| (0\d) \| .* \| `([0-9A-F ]+)`: ", section("3. Fields"), re.MULTILINE)
-        self.assertEqual([mark for mark, _ in shown], ["01", "02", "03", "04"])
+        self.assertEqual([mark for mark, _ in shown], ["01", "02", "03", "04", "05"])
         for mark, field in shown:
             data = bytes.fromhex(field)
             self.assertEqual((data[0], int.from_bytes(data[1:3], "big")), (int(mark), len(data) - 3))
@@ -61,6 +61,19 @@ class Scope(unittest.TestCase):
                 plans.read_rows(plan.encode(), ("day",), "day")
             self.assertEqual((caught.exception.number, plan[caught.exception.offset]), (number, letter))
 
+    def test_counts(self):
+        book, table = map(bytes.fromhex, re.findall(r"^    ([0-9A-F ]+)$", section("8. The listing"), re.MULTILINE))
+        text = section("12. How often each way is used")
+        self.assertIn("The rows ss and, twice, sss, with context, k = 1, h = 1:", text)
+        rows = tuple(("snack",) * length for length in (2, 3, 3))
+        counted = [plans.build_counted(book), plans.build_counted(plans.Book(("snack",), plans.Class(0, 1, 1), rows))]
+        self.assertEqual([bytes.fromhex(shown) for shown in re.findall(r"^    ([0-9A-F ]+)$", text, re.MULTILINE)],
+                         [one.counts for one in counted])
+        self.assertEqual([one.table for one in counted], [table, table])
+        state = r"state \d has ends (\d+),\s(?:[^;:.]*?)passed (?:.*?, )?(\d+) times"
+        told = [tuple(map(int, numbers)) for numbers in re.findall(state, text)]
+        self.assertEqual(told, [(one.ends, one.passes[0][1]) for one in plans.read_counts(counted[1].counts, table)])
+
     def test_limits(self):
         limits = "".join(path.read_text() for path in ROOT.glob("crates/*/specs/Limits.antt"))
         shown = re.findall(r"^\| [^|]* \| ([\d,]+) \| `([a-z-]+)` \|$", section("9. Limits"), re.MULTILINE)
@@ -68,10 +81,12 @@ class Scope(unittest.TestCase):
         self.assertEqual(len(shown), 9)
         number_of = {name: int(number.replace(",", "")) for number, name in shown}
         bounds = re.findall(r"([\d,]+)\s(?:bytes\s)?\(`([a-z-]+)`\)", section("9. Limits"))
-        self.assertEqual([name for _, name in bounds], ["table-bytes", "listing-bytes", "rows-bytes"])
+        self.assertEqual([name for _, name in bounds], ["table-bytes", "listing-bytes", "rows-bytes", "counts-bytes"])
         self.assertEqual([name for number, name in bounds[:2] if f"\n{name} = {number.replace(',', '')}\n" not in limits], [])
         self.assertIn("\nrows-bytes = book-rows * (3 + row-limit)\n", limits)
         self.assertEqual(bounds[2][0], f"{number_of['book-rows'] * (3 + number_of['row-limit']):,}")
+        self.assertIn("\ncounts-bytes = 5 * state-limit + 2 * state-limit\n", limits)
+        self.assertEqual(bounds[3][0], f"{7 * number_of['state-limit']:,}")
 
     def test_refusals(self):
         numbers = re.findall(r"^\| (\d+) \|", section("4. What a call gives back"), re.MULTILINE)

@@ -92,6 +92,8 @@ class Copies(unittest.TestCase):
         self.assertEqual(text.book(copies=False), Book(("cake", "tea"), None, (("tea",), ("cake",))))
         with self.assertRaises(BadText):
             text.book()
+        with self.assertRaises(BadText):
+            text.book(copies=False, for_counts=True)
         few = read_text(128 * "tea\ncake\n")
         self.assertEqual(few.book(copies=False), few.book())
         self.assertEqual(len(few.book().rows), 256)
@@ -102,9 +104,9 @@ def words(count: int, first: int = 0) -> str:
 
 
 class Faults(unittest.TestCase):
-    def says(self, data, *problems, copies: bool = True):
+    def says(self, data, *problems, **settings):
         with self.assertRaises(BadText) as caught:
-            read_text(data).book(copies)
+            read_text(data).book(**settings)
         self.assertEqual([(problem.line, problem.reason) for problem in caught.exception.problems], list(problems))
 
     def test_all_faulty_lines_are_told(self):
@@ -177,9 +179,13 @@ class Faults(unittest.TestCase):
     def test_257th_day(self):
         read_text(256 * "lunch\n").book()
         self.says(256 * "lunch\n" + "# more\nlunch\n",
-                  (258, "a 257th day: at most 256 are allowed; give fewer days (only 1 different day: leave copies out)"))
+                  (258, "a 257th day: at most 256 are allowed; give fewer days "
+                        "(only 1 different day: leave copies out)"))
+        self.says(257 * "lunch\n", (257, "a 257th day: at most 256 are allowed; give fewer days "
+                                         "(only 1 different day, but copies are counted: none may be left out)"), for_counts=True)
         different = "\n".join(f"n{i // 26} m{i % 26}" for i in range(257))
         self.says(different, (257, "a 257th different day: at most 256 are allowed; give fewer days"), copies=False)
+        self.says(different, (257, "a 257th day: at most 256 are allowed; give fewer days"), for_counts=True)
 
     def test_no_day_or_no_name(self):
         none = "the text ends without a day (a single - is the empty day)"

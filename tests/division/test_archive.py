@@ -7,7 +7,7 @@ import unittest
 from pathlib import Path
 
 from archive import Archive, findings, objdump
-from entries import DIVIDING, LIBRARY, ROOT
+from entries import BUILDS, DIVIDING, LIBRARY, ROOT
 from sources import Sources, read_modules
 
 HERE = Path(__file__).resolve().parent
@@ -33,8 +33,10 @@ class Entries(unittest.TestCase):
             with self.subTest(name):
                 self.assertEqual(findings(PLANS, name), [])
 
-    def test_calls_of_build_are_followed(self):
-        self.assertGreater(len(PLANS.reached("plans_build") & set(PLANS.functions)), 1)
+    def test_calls_of_builds_are_followed(self):
+        for name in BUILDS:
+            with self.subTest(name):
+                self.assertGreater(len(PLANS.reached(name) & set(PLANS.functions)), 1)
 
 
 class Seeds(unittest.TestCase):
@@ -55,12 +57,14 @@ class Seeds(unittest.TestCase):
         return Archive(self.object)
 
     def test_division_in_any_function(self):
-        reached = PLANS.reached("plans_build")
-        anyway = set(findings(PLANS, "plans_build"))
+        reached = {name: PLANS.reached(name) for name in BUILDS}
+        anyway = {name: set(findings(PLANS, name)) for name in BUILDS}
         for function in PLANS.functions:
-            with self.subTest(function):
-                told = {f"{function} divides: div    %rcx"} if function in reached else set()
-                self.assertEqual(set(findings(self.with_division_in(function), "plans_build")) - anyway, told)
+            changed = self.with_division_in(function)
+            for name in BUILDS:
+                with self.subTest(function, entry=name):
+                    told = {f"{function} divides: div    %rcx"} if function in reached[name] else set()
+                    self.assertEqual(set(findings(changed, name)) - anyway[name], told)
 
     def test_what_gcc_makes(self):
         """Told exactly where each function has a section, as in the archive; in one section a jump table counts as naming all of it."""

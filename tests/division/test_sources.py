@@ -5,7 +5,7 @@ import subprocess
 import unittest
 from typing import Dict, List, Set
 
-from entries import DIVIDING, ROOT
+from entries import BUILDS, DIVIDING, ROOT
 from sources import Module, Sources, divisions, findings, read_modules
 
 TREE = Sources(read_modules(ROOT))
@@ -14,7 +14,7 @@ BUILD = ENTRIES["plans_build"]
 # a function that many calls lead to, with numbers `row` and `column`
 DEEP = TREE.functions["base::cells::cell"]
 # what is wrong without a seed, but for its lines
-ANYWAY = {found.split(": ")[1] for found in findings(TREE, BUILD)}
+ANYWAY = {found.split(": ")[1] for name in BUILDS for found in findings(TREE, ENTRIES[name])}
 
 FOUND = {
     "let seed = row / 3;": "divides by 3",
@@ -93,11 +93,11 @@ def compiled_reach(functions: Dict[str, str], root: str) -> Set[str]:
     return found
 
 
-def found_with(file: str, place: int, seed: str) -> List[str]:
-    """What is found of build, beside what is found anyway, where a file has a text more."""
+def found_with(file: str, place: int, seed: str, entry: str = BUILD) -> List[str]:
+    """What is found of a build, beside what is found anyway, where a file has a text more."""
     text = (ROOT / file).read_text()
     changed = Module(file, f"{text[:place]} {seed}\n{text[place:]}")
-    found = findings(Sources([changed if module.file == file else module for module in TREE.modules]), BUILD)
+    found = findings(Sources([changed if module.file == file else module for module in TREE.modules]), entry)
     return [line for line in found if line.split(": ")[1] not in ANYWAY]
 
 
@@ -131,11 +131,12 @@ class Entries(unittest.TestCase):
 
 
 class Seeds(unittest.TestCase):
-    def test_division_in_any_function_that_build_reaches(self):
-        for path, function in TREE.reached(BUILD).functions.items():
-            with self.subTest(path):
-                (found,) = found_with(function.module.file, function.body + 1, "let seed = 7 / 3;")
-                self.assertTrue(found.endswith(f": {path} divides by 3"), found)
+    def test_division_in_any_function_that_a_build_reaches(self):
+        for name in BUILDS:
+            for path, function in TREE.reached(ENTRIES[name]).functions.items():
+                with self.subTest(path, entry=name):
+                    (found,) = found_with(function.module.file, function.body + 1, "let seed = 7 / 3;", ENTRIES[name])
+                    self.assertTrue(found.endswith(f": {path} divides by 3"), found)
 
     def test_each_form_of_division_and_call(self):
         for seed, told in FOUND.items():

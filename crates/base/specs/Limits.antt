@@ -49,6 +49,11 @@ table-bytes = 5830
 abbrev pub listing-bytes : ℕ
 listing-bytes = 32768
 
+-- a book's counts have at most so many bytes: 512 states and as many arcs. It follows from the limits: `book-counts-length` of
+-- counts/proofs/Written.antt
+abbrev pub counts-bytes : ℕ
+counts-bytes = 5 * state-limit + 2 * state-limit
+
 -- elements of a plan are nested at most so deep
 abbrev pub plan-depth : ℕ
 plan-depth = 16
@@ -62,7 +67,7 @@ rows-bytes = book-rows * (3 + row-limit)
 abbrev pub number-limit : ℕ
 number-limit = 65536
 
--- the marks of fields: 01 name, 02 class, 03 row, 04 state
+-- the marks of fields: 01 name, 02 class, 03 row, 04 state, 05 the counts of a state
 abbrev pub name-mark : ℕ
 name-mark = 1
 
@@ -74,6 +79,9 @@ row-mark = 3
 
 abbrev pub state-mark : ℕ
 state-mark = 4
+
+abbrev pub count-mark : ℕ
+count-mark = 5
 
 -- the stages of reading: a name is due, names met, the class met, rows or states met
 abbrev pub name-due : ℕ

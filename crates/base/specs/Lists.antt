@@ -1,9 +1,10 @@
--- Tests and choices over lists that the definitions share, and what it is for no element to stand twice. What lib.ListN and mathlib
+-- Tests, choices and sums over lists that the definitions share, and what it is for no element to stand twice. What lib.ListN and mathlib
 -- have (length, getD, take, drop, map, flatMap, dropLast, cond) is taken from there. Assumes nothing.
 use mathlib.Core.Bool.{Bool, true, false, _&&_, _||_, cond}
 use mathlib.Core.List.{List, [], _∷_, List·Memᴰ as In}
-use Prim.Native.Nat.{ℕ, zero, suc}
+use Prim.Native.Nat.{ℕ, zero, suc, _+_}
 use lib.Dec.{eqb, ltb}
+use Rattle.base.specs.Limits.{when}
 
 -- some element passes the test
 unfoldable pub any : {A : Type 0} → (A → Bool) → List A → Bool
@@ -65,3 +66,21 @@ before (x ∷ xs) (y ∷ ys) = ltb x y || (eqb x y && before xs ys)
 unfoldable pub lastOr : {A : Type 0} → A → List A → A
 lastOr d [] = d
 lastOr d (x ∷ xs) = lastOr x xs
+
+-- the sum of a number for each element
+unfoldable pub total : {A : Type 0} → (A → ℕ) → List A → ℕ
+total number [] = 0
+total number (x ∷ xs) = number x + total number xs
+
+-- how many elements pass the test, one that stands twice counted twice
+abbrev pub howMany : {A : Type 0} → (A → Bool) → List A → ℕ
+howMany {A} test xs = total (λ (x : A). when (test x) 1) xs
+
+-- how often the row is in the list of rows
+abbrev pub copies : List ℕ → List (List ℕ) → ℕ
+copies x ys = howMany (same x) ys
+
+-- the sum of a number for each place below n
+unfoldable pub sumBelow : ℕ → (ℕ → ℕ) → ℕ
+sumBelow zero number = 0
+sumBelow (suc n) number = sumBelow n number + number n

@@ -24,12 +24,14 @@ pub const INPUT_LIMIT: usize = 65535;
 
 pub const WORK_BYTES: usize = 65536;
 
-// A class field has so many bytes; a book's table at most so many, and its listing.
+// A class field has so many bytes; a book's table at most so many, and its listing, and its counts.
 pub const CLASS_BYTES: usize = 6;
 
 pub const TABLE_BYTES: usize = 5830;
 
 pub const LISTING_BYTES: usize = 32768;
+
+pub const COUNTS_BYTES: usize = 5 * STATE_LIMIT + 2 * STATE_LIMIT;
 
 // Elements of a plan are nested at most so deep; the rows of a plan have at most so many bytes.
 pub const PLAN_DEPTH: usize = 16;
@@ -44,6 +46,8 @@ pub const CLASS_MARK: u8 = 2;
 pub const ROW_MARK: u8 = 3;
 
 pub const STATE_MARK: u8 = 4;
+
+pub const COUNT_MARK: u8 = 5;
 
 // The stages of reading.
 pub const NAME_DUE: u8 = 0;

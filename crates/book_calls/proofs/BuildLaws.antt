@@ -1,12 +1,13 @@
--- What a build gives back: refused for the lent sizes, by the book's own refusals, or as inference gives it; and that its numbers
--- are small. Then what a build that is not refused left in the output. Assumes nothing.
+-- What a build gives back, with counts where they are wanted: refused for the lent sizes, by the book's own refusals, or as inference gives
+-- it; and that its numbers are small. Then the same for the table alone, and what a build that is not refused left in the output. Assumes
+-- nothing.
 use mathlib.Core.Path.{_≡_, refl, sym, ap, _∙_, subst}
-use mathlib.Core.Bool.{true, false}
+use mathlib.Core.Bool.{Bool, true, false}
 use mathlib.Core.List.{List, [], _∷_}
 use Prim.Native.Nat.{ℕ, _≤_, _<_}
 use native.Mathlib.Omega.{arith}
 use lib.ListN.{length}
-use Rattle.base.specs.Limits.{firstOf, input-limit, state-limit, bad-sizes}
+use Rattle.base.specs.Limits.{firstOf, input-limit, state-limit, counts-bytes, bad-sizes}
 use Rattle.model.specs.Fields.{Settings, Allowed, readBook}
 use Rattle.model.specs.Fields as fields
 use Rattle.model.specs.Quotients.{bookStates, bookTable}
@@ -14,9 +15,11 @@ use Rattle.model.specs.Calls.{Gives, faultWith, bookOf, treeFault, bookFault, b
 use Rattle.model.specs.Claims.{Accepted}
 use Rattle.model.proofs.FieldLaws.{first-of}
 use Rattle.model.proofs.CallLaws.{refuses-first, refuses-then, refuses-none, call-refused, seen-as, refusal-is, answer-by, answered}
-use Rattle.model.proofs.CallLaws.{SizesBad, sizes-refuse, sizes-pass, one-wrote, FrontOf, front-of}
+use Rattle.model.proofs.CallLaws.{SizesBad, sizes-refuse, sizes-pass, one-wrote, first-alone, FrontOf, front-of}
 use Rattle.model.proofs.DifferentRows.{different-nodes}
 use Rattle.model.proofs.Demands.{accepted-tree, states-few, table-length}
+use Rattle.counts.specs.Counts.{countsIf, bookCounts}
+use Rattle.counts.proofs.Written.{book-counts-length}
 use Rattle.fields.specs.Places.{fileOf, ReadAs}
 use Rattle.fields.specs.declared.Place.{Place}
 use Rattle.fields.specs.declared.Fields.the-variants as answer
@@ -24,7 +27,8 @@ use Rattle.fields.proofs.Parts.{accepted-number, accepted-file-is}
 use Rattle.inference.specs.Results.{inferring, Infers}
 use Rattle.inference.specs.declared.Inferred.{Inferred}
 use Rattle.results.specs.declared.Built.{Built}
-use Rattle.results.specs.Says.{built, not-built, building}
+use Rattle.results.specs.declared.Counted.{Counted}
+use Rattle.results.specs.Says.{building, counted, not-counted, uncounted, buildingCounted}
 
 -- ---- how large the numbers of an accepted book are
 
@@ -54,8 +58,8 @@ book-read-as settings s p read =
 -- ---- what a build gives back
 
 -- what inference gives back, as a build's result
-abbrev pub asBuilt : Inferred → Built
-asBuilt i = built (i .refusal) (i .length) (i .states) (i .joins) (i .distinct)
+abbrev pub asCounted : Inferred → Counted
+asCounted i = counted (i .refusal) (i .length) (i .states) (i .joins) (i .distinct) (i .counts)
 
 -- its numbers are at most what they are for an accepted book
 pub record Small (i : Inferred) : Type 0 where
@@ -63,53 +67,71 @@ pub record Small (i : Inferred) : Type 0 where
   pub states-small : i .states ≤ state-limit
   pub joins-small : i .joins ≤ state-limit
   pub distinct-small : i .distinct ≤ state-limit
+  pub counts-small : i .counts ≤ counts-bytes
 
-module _ (settings : Settings) (book work out : List ℕ) where
+module _ (settings : Settings) (wanted : Bool) (book work : List ℕ) (outs : List (List ℕ)) where
   pub build-sizes-refused :
-      SizesBad book work ≡ true → Gives (building settings book work) (out ∷ []) (out ∷ []) (not-built bad-sizes)
-  unfolding building buildFault
-  build-sizes-refused bad = call-refused (building settings book work) (out ∷ []) (refuses-first _ (sizes-refuse book work bad))
+      SizesBad book work ≡ true → Gives (buildingCounted settings wanted book work) outs outs (not-counted bad-sizes)
+  unfolding buildingCounted buildFault
+  build-sizes-refused bad =
+      call-refused (buildingCounted settings wanted book work) outs (refuses-first _ (sizes-refuse book work bad))
 
   pub build-fields-refused :
       (k : ℕ) → SizesBad book work ≡ false → readBook settings book .number ≡ k → 0 < k →
-      Gives (building settings book work) (out ∷ []) (out ∷ []) (not-built k)
-  unfolding building buildFault bookFault
+      Gives (buildingCounted settings wanted book work) outs outs (not-counted k)
+  unfolding buildingCounted buildFault bookFault
   build-fields-refused k fit e some =
-      call-refused (building settings book work) (out ∷ [])
+      call-refused (buildingCounted settings wanted book work) outs
       (refuses-then (sizes-pass book work fit) (refuses-first _ (record { is = e; some = some })))
 
   -- a book that is read comes to what inference refuses
   refusal-inferred :
       SizesBad book work ≡ false → readBook settings book .number ≡ 0 →
-      inferring (bookOf settings book) .refusal ≡ buildFault settings book work
+      inferring wanted (bookOf settings book) .refusal ≡ buildFault settings book work
   unfolding inferring buildFault bookFault
   refusal-inferred fit e =
       sym (ap (λ (n : ℕ). firstOf n (bookFault settings book)) (sizes-pass book work fit)
       ∙ ap (λ (n : ℕ). firstOf n (treeFault (bookOf settings book .items))) e)
 
   pub build-inferred :
-      (out′ : List ℕ) (i : Inferred) → SizesBad book work ≡ false → readBook settings book .number ≡ 0 →
-      Infers (bookOf settings book) out out′ i → Gives (building settings book work) (out ∷ []) (out′ ∷ []) (asBuilt i)
-  unfolding building inferring
-  build-inferred out′ i fit e gives =
+      (outs′ : List (List ℕ)) (i : Inferred) → SizesBad book work ≡ false → readBook settings book .number ≡ 0 →
+      Infers wanted (bookOf settings book) outs outs′ i →
+      Gives (buildingCounted settings wanted book work) outs outs′ (asCounted i)
+  unfolding buildingCounted inferring
+  build-inferred outs′ i fit e gives =
       let f = bookOf settings book in
+      let counts = countsIf wanted (bookStates f) (f .items) in
       subst (λ (k : ℕ).
       Gives
       (record {
         refusal = k;
-        none = not-built;
-        answer = built 0 (length (bookTable f)) (length (bookStates f)) (joinsOf f) (distinctOf f);
-        writes = bookTable f ∷ [];
+        none = not-counted;
+        answer = counted 0 (length (bookTable f)) (length (bookStates f)) (joinsOf f) (distinctOf f) (length counts);
+        writes = bookTable f ∷ (counts ∷ []);
       })
-      (out ∷ []) (out′ ∷ []) (asBuilt i))
+      outs outs′ (asCounted i))
       (refusal-inferred fit e)
-      (seen-as asBuilt (inferring f) (out ∷ []) (out′ ∷ []) i gives)
+      (seen-as asCounted (inferring wanted f) outs outs′ i gives)
+
+  -- the counts are few, wanted or not
+  counts-few :
+      Allowed settings → Accepted settings book →
+      length (countsIf wanted (bookStates (bookOf settings book)) (bookOf settings book .items)) ≤ counts-bytes
+  unfolding bookCounts
+  counts-few allowed ok = go wanted
+    where
+      all : length (bookCounts (bookOf settings book)) ≤ counts-bytes
+      all = book-counts-length settings allowed book ok
+
+      go : (b : Bool) → length (countsIf b (bookStates (bookOf settings book)) (bookOf settings book .items)) ≤ counts-bytes
+      go true = all
+      go false = omega arith
 
   pub inferred-small :
-      (out′ : List ℕ) (i : Inferred) → Allowed settings → readBook settings book .number ≡ 0 →
-      Infers (bookOf settings book) out out′ i → Small i
+      (outs′ : List (List ℕ)) (i : Inferred) → Allowed settings → readBook settings book .number ≡ 0 →
+      Infers wanted (bookOf settings book) outs outs′ i → Small i
   unfolding inferring bookFault
-  inferred-small out′ i allowed e gives =
+  inferred-small outs′ i allowed e gives =
       answer-by gives Small
       (λ k.
       record {
@@ -117,6 +139,7 @@ module _ (settings : Settings) (book work out : List ℕ) where
         states-small = omega arith;
         joins-small = omega arith;
         distinct-small = omega arith;
+        counts-small = omega arith;
       })
       (λ none.
       let few : treeFault (bookOf settings book .items) ≡ 0 = first-of _ _ none .0 in
@@ -126,7 +149,23 @@ module _ (settings : Settings) (book work out : List ℕ) where
         states-small = omega (arith, states-few (bookOf settings book), accepted-tree settings book ok);
         joins-small = joins-few settings book ok;
         distinct-small = distinct-few settings book ok;
+        counts-small = counts-few allowed ok;
       })
+
+-- ---- the table alone
+
+-- where the other output is long enough for the counts that are wanted, a build with counts is the build that has none
+pub as-built :
+    (settings : Settings) (wanted : Bool) (book work out out′ counts counts′ : List ℕ) (r : Counted) →
+    (buildFault settings book work ≡ 0 →
+    length (countsIf wanted (bookStates (bookOf settings book)) (bookOf settings book .items)) ≤ length counts) →
+    Gives (buildingCounted settings wanted book work) (out ∷ (counts ∷ [])) (out′ ∷ (counts′ ∷ [])) r →
+    Gives (building settings book work) (out ∷ []) (out′ ∷ []) (uncounted r)
+unfolding building buildingCounted
+as-built settings wanted book work out out′ counts counts′ r room gives =
+    first-alone (buildingCounted settings wanted book work) (bookTable (bookOf settings book))
+    (countsIf wanted (bookStates (bookOf settings book)) (bookOf settings book .items)) out counts refl uncounted out′ counts′ r room
+    gives
 
 -- ---- what a build that is not refused left in the output
 

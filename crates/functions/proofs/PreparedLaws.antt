@@ -28,23 +28,23 @@ module _ (seen : Bool) (n j : ℕ) (parents names unused values keys more : List
 
 -- both rules have a value and two keys for each state
 pub prepared-ready :
-    (seen : Bool) (n j : ℕ) (parents names accepts unused values keys more : List ℕ) → JoinReady n parents names accepts →
+    (seen : Bool) (n j : ℕ) (parents names ends unused values keys more : List ℕ) → JoinReady n parents names ends →
     length unused ≡ n → ValuesAndKeys seen n j parents names unused values keys more →
-    FinishReady n parents names accepts values keys more
-prepared-ready true n j parents names accepts unused values keys more ready size told =
+    FinishReady n parents names ends values keys more
+prepared-ready true n j parents names ends unused values keys more ready size told =
     let by = told .of-seen refl in
     record {
       arrays = ready .arrays;
-      accepts-size = ready .accepts-size;
+      ends-size = ready .ends-size;
       values-size = by .sets .size;
       keys-size = by .enlarging .size;
       more-size = by .others .size;
     }
-prepared-ready false n j parents names accepts unused values keys more ready size told =
+prepared-ready false n j parents names ends unused values keys more ready size told =
     let by = told .of-last refl in
     record {
       arrays = ready .arrays;
-      accepts-size = ready .accepts-size;
+      ends-size = ready .ends-size;
       values-size = by .coded .size;
       keys-size = by .above .size;
       more-size = ap length (by .same-more) ∙ size;
@@ -61,19 +61,19 @@ last-keys seen n j parents names unused values keys more none told is v h =
 
 -- joined with them until closed is joined by the rule of f
 pub joined-by-f :
-    (seen : Bool) (n j : ℕ) (parents names accepts unused values keys more groups : List ℕ) →
-    JoinReady n parents names accepts → ((v : ℕ) → v < n → getD unused v 0 ≡ name-limit) →
-    ValuesAndKeys seen n j parents names unused values keys more → Finished n parents names accepts values keys more groups →
-    JoinedByF seen n j parents names accepts groups
-joined-by-f seen n j parents names accepts unused values keys more groups ready none told finished =
+    (seen : Bool) (n j : ℕ) (parents names ends unused values keys more groups : List ℕ) →
+    JoinReady n parents names ends → ((v : ℕ) → v < n → getD unused v 0 ≡ name-limit) →
+    ValuesAndKeys seen n j parents names unused values keys more → Finished n parents names ends values keys more groups →
+    JoinedByF seen n j parents names ends groups
+joined-by-f seen n j parents names ends unused values keys more groups ready none told finished =
     record {
       by-seen = λ e.
           let by = told .of-seen e in
-          joined-by-seen n parents names accepts values keys more groups (ready .arrays) (by .sets) (by .enlarging) (by .others)
+          joined-by-seen n parents names ends values keys more groups (ready .arrays) (by .sets) (by .enlarging) (by .others)
           finished;
       by-last = λ e.
           let by = told .of-last e in
-          joined-by-last n j parents names accepts values keys more groups (ready .arrays)
+          joined-by-last n j parents names ends values keys more groups (ready .arrays)
           (codes-alike n j parents names values (ready .arrays) (by .coded)) (by .above)
           (subst (λ (l : List ℕ). (v : ℕ) → v < n → getD l v 0 ≡ name-limit) (sym (by .same-more)) none) finished;
     }

@@ -17,11 +17,11 @@ use Rattle.functions.specs.Rounds.{FinishReady, Finished}
 
 -- it is ready after the parts before it
 pub finish-ready :
-    (n : ℕ) (parents names accepts values keys more numbers ends : List ℕ) →
-    FinishReady n parents names accepts values keys more → numbers ≡ numbersFrom n 0 → Labelled n ends →
-    RoundReady (length ends) parents names numbers keys more ends
-finish-ready n parents names accepts values keys more numbers ends ready own labelled =
-    subst (λ (m : ℕ). RoundReady m parents names numbers keys more ends) (sym (labelled .size))
+    (n : ℕ) (parents names ends values keys more numbers start : List ℕ) →
+    FinishReady n parents names ends values keys more → numbers ≡ numbersFrom n 0 → Labelled n start →
+    RoundReady (length start) parents names numbers keys more start
+finish-ready n parents names ends values keys more numbers start ready own labelled =
+    subst (λ (m : ℕ). RoundReady m parents names numbers keys more start) (sym (labelled .size))
     (record {
       few = ready .arrays .few-states;
       parents-size = ready .arrays .parents-size;
@@ -34,16 +34,16 @@ finish-ready n parents names accepts values keys more numbers ends ready own lab
     })
 
 pub finished :
-    (n : ℕ) (parents names accepts values keys more numbers ends groups : List ℕ) → numbers ≡ numbersFrom n 0 →
-    ByEnds n accepts values ends →
-    JoinedUntil (RoundClosed (length ends) parents names numbers keys more) (length ends) ends groups →
-    Finished n parents names accepts values keys more groups
-finished n parents names accepts values keys more numbers ends groups own by until =
+    (n : ℕ) (parents names ends values keys more numbers start groups : List ℕ) → numbers ≡ numbersFrom n 0 →
+    ByEnds n ends values start →
+    JoinedUntil (RoundClosed (length start) parents names numbers keys more) (length start) start groups →
+    Finished n parents names ends values keys more groups
+finished n parents names ends values keys more numbers start groups own by until =
     record {
-      ends = ends;
+      start = start;
       by-ends = by;
       until =
-          subst₂ (λ (m : ℕ) (l : List ℕ). JoinedUntil (RoundClosed m parents names l keys more) m ends groups)
+          subst₂ (λ (m : ℕ) (l : List ℕ). JoinedUntil (RoundClosed m parents names l keys more) m start groups)
           (by .labelled .size) own until;
     }
 
@@ -66,11 +66,11 @@ alone-closed n parents names keys more groups arrays alone =
 
 -- so where the ends join nothing, it is finished
 pub finished-alone :
-    (n : ℕ) (parents names accepts values keys more groups : List ℕ) → FinishReady n parents names accepts values keys more →
-    ByEnds n accepts values groups → Alone n groups → Finished n parents names accepts values keys more groups
-finished-alone n parents names accepts values keys more groups ready by alone =
+    (n : ℕ) (parents names ends values keys more groups : List ℕ) → FinishReady n parents names ends values keys more →
+    ByEnds n ends values groups → Alone n groups → Finished n parents names ends values keys more groups
+finished-alone n parents names ends values keys more groups ready by alone =
     record {
-      ends = groups;
+      start = groups;
       by-ends = by;
       until =
           record {

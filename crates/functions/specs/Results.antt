@@ -8,24 +8,24 @@ use lib.ListN.{length}
 use Rattle.indexed.specs.Trees.{Arrays}
 use Rattle.indexed.specs.Passes.{SuffixAlike, SeenSets, FJoined}
 
--- the tree's arrays and an array of accepting states
-pub record JoinReady (n : ℕ) (parents names accepts : List ℕ) : Type 0 where
+-- the tree's arrays, and one of how many rows end in each state: those accept in which any do
+pub record JoinReady (n : ℕ) (parents names ends : List ℕ) : Type 0 where
   pub arrays : Arrays n parents names
-  pub accepts-size : length accepts ≡ n
+  pub ends-size : length ends ≡ n
 
 -- f is the last j names
-pub record JoinedByLast (n j : ℕ) (parents names accepts groups : List ℕ) : Type 0 where
+pub record JoinedByLast (n j : ℕ) (parents names ends groups : List ℕ) : Type 0 where
   pub codes : List ℕ
   pub by-codes : SuffixAlike n j parents names codes
-  pub joined : FJoined n parents names accepts codes groups
+  pub joined : FJoined n parents names ends codes groups
 
 -- f is the set of names seen
-pub record JoinedBySeen (n : ℕ) (parents names accepts groups : List ℕ) : Type 0 where
+pub record JoinedBySeen (n : ℕ) (parents names ends groups : List ℕ) : Type 0 where
   pub seen : List ℕ
   pub sets : SeenSets n parents names seen
-  pub joined : FJoined n parents names accepts seen groups
+  pub joined : FJoined n parents names ends seen groups
 
 -- f is the one or the other
-pub record JoinedByF (seen : Bool) (n j : ℕ) (parents names accepts groups : List ℕ) : Type 0 where
-  pub by-seen : seen ≡ true → JoinedBySeen n parents names accepts groups
-  pub by-last : seen ≡ false → JoinedByLast n j parents names accepts groups
+pub record JoinedByF (seen : Bool) (n j : ℕ) (parents names ends groups : List ℕ) : Type 0 where
+  pub by-seen : seen ≡ true → JoinedBySeen n parents names ends groups
+  pub by-last : seen ≡ false → JoinedByLast n j parents names ends groups

@@ -47,7 +47,7 @@ fn join_in(
     j: usize,
     parents: &[u16],
     names: &[u8],
-    accepts: &[u8],
+    ends: &[u16],
     values: &mut [u64],
     keys: &mut [u8],
     more: &mut [u8],
@@ -55,14 +55,14 @@ fn join_in(
     groups: &mut [u16],
 )
     requires few { ⌜ j ≤ setting-limit ⌝ }
-    requires ready { ⌜ JoinReady (length (now groups)) (now parents) (now names) (now accepts) ⌝ }
+    requires ready { ⌜ JoinReady (length (now groups)) (now parents) (now names) (now ends) ⌝ }
     requires values_size { ⌜ length (now values) ≡ length (now groups) ⌝ }
     requires keys_size { ⌜ length (now keys) ≡ length (now groups) ⌝ }
     requires more_size { ⌜ length (now more) ≡ length (now groups) ⌝ }
     requires no_more { ⌜ ((v : ℕ) → v < length (now groups) → getD (now more) v 0 ≡ name-limit) ⌝ }
     requires numbers_size { ⌜ length (now numbers) ≡ length (now groups) ⌝ }
     ensures { λ _.
-        ⌜ JoinedByF seen (length (now (groups .entry))) j (now (parents .entry)) (now (names .entry)) (now (accepts .entry))
+        ⌜ JoinedByF seen (length (now (groups .entry))) j (now (parents .entry)) (now (names .entry)) (now (ends .entry))
         (now (groups .exit)) ⌝ }
 {
     prepare(seen, j, parents, names, values, keys, more);
@@ -70,7 +70,7 @@ fn join_in(
         seen,
         parents,
         names,
-        accepts,
+        ends,
         values,
         keys,
         more,
@@ -86,13 +86,13 @@ pub fn join_by_function(
     j: usize,
     parents: &[u16],
     names: &[u8],
-    accepts: &[u8],
+    ends: &[u16],
     groups: &mut [u16],
 )
     requires few { ⌜ j ≤ setting-limit ⌝ }
-    requires ready { ⌜ JoinReady (length (now groups)) (now parents) (now names) (now accepts) ⌝ }
+    requires ready { ⌜ JoinReady (length (now groups)) (now parents) (now names) (now ends) ⌝ }
     ensures { λ _.
-        ⌜ JoinedByF seen (length (now (groups .entry))) j (now (parents .entry)) (now (names .entry)) (now (accepts .entry))
+        ⌜ JoinedByF seen (length (now (groups .entry))) j (now (parents .entry)) (now (names .entry)) (now (ends .entry))
         (now (groups .exit)) ⌝ }
 {
     let n = groups.len();
@@ -105,7 +105,7 @@ pub fn join_by_function(
         j,
         parents,
         names,
-        accepts,
+        ends,
         &mut values[..n],
         &mut keys[..n],
         &mut more[..n],

@@ -12,22 +12,22 @@ pub fn finish(
     both: bool,
     parents: &[u16],
     names: &[u8],
-    accepts: &[u8],
+    ends: &[u16],
     values: &[u64],
     keys: &[u8],
     more: &[u8],
     numbers: &mut [u16],
     groups: &mut [u16],
 )
-    requires ready { ⌜ FinishReady (length (now groups)) (now parents) (now names) (now accepts) (now values) (now keys) (now more) ⌝ }
+    requires ready { ⌜ FinishReady (length (now groups)) (now parents) (now names) (now ends) (now values) (now keys) (now more) ⌝ }
     requires numbers_size { ⌜ length (now numbers) ≡ length (now groups) ⌝ }
     requires one_set { ⌜ (both ≡ false → NoKeys (length (now groups)) (now more)) ⌝ }
     ensures { λ _.
-        ⌜ Finished (length (now (groups .entry))) (now (parents .entry)) (now (names .entry)) (now (accepts .entry))
+        ⌜ Finished (length (now (groups .entry))) (now (parents .entry)) (now (names .entry)) (now (ends .entry))
         (now (values .entry)) (now (keys .entry)) (now (more .entry)) (now (groups .exit)) ⌝ }
 {
     partition::own(numbers);
-    let joined = values::by_ends(accepts, values, groups);
+    let joined = values::by_ends(ends, values, groups);
     if !joined {
         return;
     }

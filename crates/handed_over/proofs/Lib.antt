@@ -1,2 +1,3 @@
--- Why demand 3 holds of the bytes that calls of build wrote. Assumes nothing.
+-- Why demand 3 holds of the bytes that calls of build wrote, and why the counts that calls wrote are those of the rows. Assumes nothing.
 pub mod Handed
+pub mod Counted

@@ -1,3 +1,5 @@
--- What is handed over with build: demand 3, whole, said of the bytes that calls of build wrote. The definitions that it cites are
--- those of the crates `model` and `results`. Assumes nothing.
+-- What is handed over with build: demand 3, whole, said of the bytes that calls of build wrote; and with builds that have counts,
+-- what holds of the counts that they wrote. The definitions that it cites are those of the crates `model`, `counts` and `results`.
+-- Assumes nothing.
 pub mod Handed
+pub mod Counted

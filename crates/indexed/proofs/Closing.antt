@@ -15,9 +15,10 @@ use Rattle.model.specs.Quotients.{statesOf}
 use Rattle.model.proofs.Notions.{Fits, Ways, OneContext, Closed, Inside, Ker, SameF, _▸_}
 use Rattle.model.proofs.Trees.{treeOf-tree}
 use Rattle.model.proofs.Joined.{joinedGroups-joined, members-agree, joining-law}
-use Rattle.indexed.specs.Trees.{wordAt, TreeArrays, AcceptsArray, SameSuffix}
+use Rattle.indexed.specs.Trees.{wordAt, TreeArrays, EndsArray, SameSuffix}
 use Rattle.indexed.specs.Partitions.{Refines, ForkClosed, ContextClosed, EndsClosed, BackClosed}
 use Rattle.indexed.specs.Passes.{ContextJoined, FJoined}
+use Rattle.indexed.proofs.Ends.{ended-row}
 use Rattle.indexed.proofs.Words.{number-of, refines-inside, suffix-words, SameLast}
 use Rattle.indexed.proofs.Kernels.{arc-number, ker-numbers, numbers-ker, ways-share}
 use Rattle.indexed.proofs.KernelWays.{ker-refl, ker-sym, ker-trans, ker-fork, ker-along}
@@ -130,8 +131,8 @@ context-states c rows parents names groups tree kind pos low joined =
 
 -- ---- the rule of f
 
-module _ (c : Class) (rows : List Word) (parents names accepts classes groups : List ℕ) (tree : TreeArrays rows parents names)
-    (accepting : AcceptsArray rows accepts) (told : ClassesOfF c rows classes) (fits : Fits (treeOf rows) groups)
+module _ (c : Class) (rows : List Word) (parents names ends classes groups : List ℕ) (tree : TreeArrays rows parents names)
+    (ended : EndsArray rows ends) (told : ClassesOfF c rows classes) (fits : Fits (treeOf rows) groups)
     (agree : (u w : Word) → Ker (treeOf rows) groups u w → SameF c u w) where
   -- nodes related to nodes with equal f have equal f
   same-f-beside :
@@ -153,17 +154,17 @@ module _ (c : Class) (rows : List Word) (parents names accepts classes groups : 
   one-class v w x y hv hw e f g = told .told v w hv hw .1 (ap (fOf c) e ∙ g ∙ sym (ap (fOf c) f))
 
   ker-ends :
-      EndsClosed (length (treeOf rows)) accepts classes groups → (u w r s : Word) → fOf c u ≡ fOf c w →
+      EndsClosed (length (treeOf rows)) ends classes groups → (u w r s : Word) → fOf c u ≡ fOf c w →
       In r (treeOf rows) → In s (treeOf rows) → Ker (treeOf rows) groups u r → Ker (treeOf rows) groups w s →
       In r rows → In s rows → Ker (treeOf rows) groups u w
-  ker-ends ends u w r s e m n ur ws row-r row-s =
+  ker-ends closed u w r s e m n ur ws row-r row-s =
       let i = number-of rows r m in
       let j = number-of rows s n in
       one-group-beside u w r s ur ws
       (numbers-ker rows groups fits (i .0) (j .0) r s (i .1) (j .1) (i .2) (j .2)
-      (ends (i .0) (j .0) (i .1) (j .1)
-      (accepting .accepting (i .0) (i .1) .1 (Memᴰ·cast (i .2) row-r))
-      (accepting .accepting (j .0) (j .1) .1 (Memᴰ·cast (j .2) row-s))
+      (closed (i .0) (j .0) (i .1) (j .1)
+      (ended-row rows ends ended (i .0) (i .1) .1 (Memᴰ·cast (i .2) row-r))
+      (ended-row rows ends ended (j .0) (j .1) .1 (Memᴰ·cast (j .2) row-s))
       (one-class (i .0) (j .0) r s (i .1) (j .1) (i .2) (j .2) (same-f-beside u w r s e ur ws))))
 
   ker-back :
@@ -182,11 +183,11 @@ module _ (c : Class) (rows : List Word) (parents names accepts classes groups : 
       (ker-numbers rows groups fits (i .number) (j .number) (r ▸ a) (s ▸ a) (i .low) (j .low) (i .is-word) (j .is-word) after)))
 
 pub f-states :
-    (c : Class) (rows : List Word) (parents names accepts classes groups : List ℕ) → TreeArrays rows parents names →
-    AcceptsArray rows accepts → ClassesOfF c rows classes → eqb (c .kind) 0 ≡ false →
-    FJoined (length (treeOf rows)) parents names accepts classes groups →
+    (c : Class) (rows : List Word) (parents names ends classes groups : List ℕ) → TreeArrays rows parents names →
+    EndsArray rows ends → ClassesOfF c rows classes → eqb (c .kind) 0 ≡ false →
+    FJoined (length (treeOf rows)) parents names ends classes groups →
     statesOf rows (treeOf rows) groups ≡ statesOf rows (treeOf rows) (joinedGroups c rows)
-f-states c rows parents names accepts classes groups tree accepting told kind joined =
+f-states c rows parents names ends classes groups tree ended told kind joined =
     states-of-closed c rows groups fits refines
     (record {
       reflexive = ker-refl (treeOf rows) groups;
@@ -195,10 +196,10 @@ f-states c rows parents names accepts classes groups tree accepting told kind jo
       fork = ker-fork rows parents names groups tree fits (joined .fork-closed);
       context = λ other u w one. absurd (true≢false (sym other ∙ kind));
       ends = λ k u w r s e m n o q ur ws i j.
-          ker-ends c rows parents names accepts classes groups tree accepting told fits agree (joined .ends-closed)
+          ker-ends c rows parents names ends classes groups tree ended told fits agree (joined .ends-closed)
           u w r s e o q ur ws i j;
       back = λ k u w r s a e m n o q ur ws i j after.
-          ker-back c rows parents names accepts classes groups tree accepting told fits agree (joined .back-closed)
+          ker-back c rows parents names ends classes groups tree ended told fits agree (joined .back-closed)
           u w r s a e ur ws i j after;
     })
   where
@@ -209,7 +210,7 @@ f-states c rows parents names accepts classes groups tree accepting told kind jo
     refines =
         joined .sound (joinedGroups c rows) (joined-refines-classes c rows parents names tree kind classes told)
         (joined-fork-closed c rows parents names tree)
-        (joined-ends-closed c rows parents names tree kind accepts classes accepting told)
+        (joined-ends-closed c rows parents names tree kind ends classes ended told)
         (joined-back-closed c rows parents names tree kind classes told)
 
     agree : (u w : Word) → Ker (treeOf rows) groups u w → SameF c u w

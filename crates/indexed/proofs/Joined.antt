@@ -16,8 +16,9 @@ use Rattle.model.proofs.Trees.{treeOf-tree}
 use Rattle.model.proofs.Transitions.{beginning-in, walks-down}
 use Rattle.model.proofs.Sound.{walks-ways}
 use Rattle.model.proofs.Joined.{joinedGroups-joined, joined-closed, members-agree}
-use Rattle.indexed.specs.Trees.{wordAt, TreeArrays, AcceptsArray, SameSuffix}
+use Rattle.indexed.specs.Trees.{wordAt, TreeArrays, EndsArray, SameSuffix}
 use Rattle.indexed.specs.Partitions.{Refines, ForkClosed, Share, ContextClosed, EndsClosed, BackClosed}
+use Rattle.indexed.proofs.Ends.{ended-row}
 use Rattle.indexed.proofs.Words.{wordAt-in, suffix-words}
 use Rattle.indexed.proofs.Kernels.{parent-below, arc-into, number-ker, ker-number, share-ways}
 
@@ -131,16 +132,16 @@ module _ (c : Class) (rows : List Word) (parents names : List ℕ) (tree : TreeA
       told-one v w hv hw (closed .context kind (wordAt rows v) (wordAt rows w) (one-context m v w e hv hw s share))
 
   pub joined-ends-closed :
-      eqb (c .kind) 0 ≡ false → (accepts classes : List ℕ) → AcceptsArray rows accepts → ClassesOfF c rows classes →
-      EndsClosed (length (treeOf rows)) accepts classes (joinedGroups c rows)
-  joined-ends-closed kind accepts classes accepting told v w hv hw av aw e =
+      eqb (c .kind) 0 ≡ false → (ends classes : List ℕ) → EndsArray rows ends → ClassesOfF c rows classes →
+      EndsClosed (length (treeOf rows)) ends classes (joinedGroups c rows)
+  joined-ends-closed kind ends classes ended told v w hv hw av aw e =
       let u = wordAt rows v in
       let z = wordAt rows w in
       let node-u = wordAt-in rows v hv in
       let node-z = wordAt-in rows w hw in
       told-one v w hv hw
       (closed .ends kind u z u z (told .told v w hv hw .0 e) node-u node-z node-u node-z (one v v hv hv refl) (one w w hw hw refl)
-      (accepting .accepting v hv .0 av) (accepting .accepting w hw .0 aw))
+      (ended-row rows ends ended v hv .0 av) (ended-row rows ends ended w hw .0 aw))
 
   pub joined-back-closed :
       eqb (c .kind) 0 ≡ false → (classes : List ℕ) → ClassesOfF c rows classes →

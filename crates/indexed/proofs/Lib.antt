@@ -13,6 +13,9 @@ pub mod Sets
 pub mod Values
 pub mod ArcKeys
 pub mod Functions
+pub mod Ends
 pub mod Closing
 pub mod Chains
 pub mod Rounds
+pub mod ArcSets
+pub mod TreeArcs

@@ -5,3 +5,4 @@ pub mod Trees
 pub mod Partitions
 pub mod Passes
 pub mod Chains
+pub mod ArcCells

@@ -5,8 +5,10 @@ use mathlib.Core.Logic.{_⊎_}
 use mathlib.Core.List.{List, [], _∷_}
 use Prim.Native.Nat.{ℕ, zero, suc, _+_, _<_, _≤_}
 use lib.ListN.{length, getD}
-use Rattle.base.specs.Limits.{name-limit}
-use Rattle.indexed.specs.Trees.{SameSuffix}
+use Rattle.base.specs.Limits.{name-limit, state-limit}
+use Rattle.model.specs.Classes.{Word}
+use Rattle.model.specs.Joinings.{treeOf}
+use Rattle.indexed.specs.Trees.{TreeArrays, SameSuffix}
 
 -- states of one group in the first partition are in one group in the second
 abbrev pub Refines : ℕ → List ℕ → List ℕ → Type 0
@@ -35,6 +37,13 @@ ForkClosed n parents names groups =
     (v w : ℕ) → 0 < v → 0 < w → v < n → w < n → getD names v 0 ≡ getD names w 0 →
     getD groups (getD parents v 0) 0 ≡ getD groups (getD parents w 0) 0 → getD groups v 0 ≡ getD groups w 0
 
+-- the rows' tree in arrays, of at most 512 states, and a partition of it that no fork is open in
+pub record Joined (rows : List Word) (parents names groups : List ℕ) : Type 0 where
+  pub tree : TreeArrays rows parents names
+  pub few : length (treeOf rows) ≤ state-limit
+  pub labels : Labelled (length (treeOf rows)) groups
+  pub forks : ForkClosed (length (treeOf rows)) parents names groups
+
 -- j names in succession lead out of the groups of both states
 abbrev pub Share : ℕ → List ℕ → List ℕ → List ℕ → ℕ → ℕ → ℕ → Type 0
 Share n parents names groups zero v w = Unit {0}
@@ -54,10 +63,10 @@ abbrev pub SuffixAgree : ℕ → ℕ → List ℕ → List ℕ → List ℕ → 
 SuffixAgree n h parents names groups =
     (v w : ℕ) → v < n → w < n → getD groups v 0 ≡ getD groups w 0 → (v ≡ w) ⊎ SameSuffix parents names h v w
 
--- accepting states of one class of f are in one group
+-- states in which rows end, of one class of f, are in one group
 abbrev pub EndsClosed : ℕ → List ℕ → List ℕ → List ℕ → Type 0
-EndsClosed n accepts classes groups =
-    (v w : ℕ) → v < n → w < n → getD accepts v 0 ≡ 1 → getD accepts w 0 ≡ 1 → getD classes v 0 ≡ getD classes w 0 →
+EndsClosed n ends classes groups =
+    (v w : ℕ) → v < n → w < n → 0 < getD ends v 0 → 0 < getD ends w 0 → getD classes v 0 ≡ getD classes w 0 →
     getD groups v 0 ≡ getD groups w 0
 
 -- states of one class of f from which one name leads into one group are in one group

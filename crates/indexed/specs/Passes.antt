@@ -51,13 +51,13 @@ pub record BySuffix (n k : ℕ) (parents names groups : List ℕ) : Type 0 where
       (v w : ℕ) → v < n → w < n →
       (getD groups v 0 ≡ getD groups w 0) ↔ ((v ≡ w) ⊎ SameSuffix parents names k v w)
 
--- the partition in which only accepting states of one class of f are joined
-pub record ByEnds (n : ℕ) (accepts classes groups : List ℕ) : Type 0 where
+-- the partition in which only states in which rows end, of one class of f, are joined
+pub record ByEnds (n : ℕ) (ends classes groups : List ℕ) : Type 0 where
   pub labelled : Labelled n groups
   pub alike :
       (v w : ℕ) → v < n → w < n →
       (getD groups v 0 ≡ getD groups w 0)
-      ↔ ((v ≡ w) ⊎ ((getD accepts v 0 ≡ 1) × (getD accepts w 0 ≡ 1) × (getD classes v 0 ≡ getD classes w 0)))
+      ↔ ((v ≡ w) ⊎ ((0 < getD ends v 0) × (0 < getD ends w 0) × (getD classes v 0 ≡ getD classes w 0)))
 
 -- joined by the context rule until none applies
 pub record ContextJoined (n k h : ℕ) (parents names groups : List ℕ) : Type 0 where
@@ -70,13 +70,13 @@ pub record ContextJoined (n k h : ℕ) (parents names groups : List ℕ) : Type 
   pub context-closed : (m : ℕ) → h + m ≡ k → ContextClosed n h m parents names groups
 
 -- joined by the rule of f until none applies
-pub record FJoined (n : ℕ) (parents names accepts classes groups : List ℕ) : Type 0 where
+pub record FJoined (n : ℕ) (parents names ends classes groups : List ℕ) : Type 0 where
   pub labelled : Labelled n groups
   pub sound :
       (others : List ℕ) → Refines n others classes → ForkClosed n parents names others →
-      EndsClosed n accepts classes others → BackClosed n parents names classes others → Refines n groups others
+      EndsClosed n ends classes others → BackClosed n parents names classes others → Refines n groups others
   pub fork-closed : ForkClosed n parents names groups
-  pub ends-closed : EndsClosed n accepts classes groups
+  pub ends-closed : EndsClosed n ends classes groups
   pub back-closed : BackClosed n parents names classes groups
 
 -- the j-th name before the last of each state, the name of its j-th ancestor; `name-limit` where there is none

@@ -1,11 +1,11 @@
 -- The prefix tree as arrays by state number, in the order in which states are met; ancestors and last names by number.
 -- Assumes nothing.
 use mathlib.Core.Path.{_≡_}
-use mathlib.Core.Logic.{_↔_}
-use mathlib.Core.List.{List, [], _∷_, _++_, List·Memᴰ as In}
+use mathlib.Core.List.{List, [], _∷_, _++_}
 use Prim.Native.Nat.{ℕ, zero, suc, _<_, _≤_}
 use lib.ListN.{length, getD}
-use Rattle.base.specs.Limits.{name-limit, state-limit}
+use Rattle.base.specs.Limits.{name-limit, book-rows, state-limit}
+use Rattle.base.specs.Lists.{copies}
 use Rattle.model.specs.Classes.{Word}
 use Rattle.model.specs.Joinings.{treeOf}
 
@@ -21,7 +21,8 @@ pub record TreeArrays (rows : List Word) (parents names : List ℕ) : Type 0 whe
   pub root-name : getD names 0 0 ≡ name-limit
   pub parent-before : (v : ℕ) → 0 < v → v < length (treeOf rows) → getD parents v 0 < v
   pub name-below : (v : ℕ) → 0 < v → v < length (treeOf rows) → getD names v 0 < name-limit
-  pub word : (v : ℕ) → 0 < v → v < length (treeOf rows) → wordAt rows v ≡ wordAt rows (getD parents v 0) ++ (getD names v 0 ∷ [])
+  pub word :
+      (v : ℕ) → 0 < v → v < length (treeOf rows) → wordAt rows v ≡ wordAt rows (getD parents v 0) ++ (getD names v 0 ∷ [])
 
 -- what the passes need of such arrays for n states, whatever the rows: parents come first, and no two states have both the
 -- parent and the name in common
@@ -35,12 +36,15 @@ pub record Arrays (n : ℕ) (parents names : List ℕ) : Type 0 where
   pub parent-before : (v : ℕ) → 0 < v → v < n → getD parents v 0 < v
   pub name-below : (v : ℕ) → 0 < v → v < n → getD names v 0 < name-limit
   pub one-child :
-      (v w : ℕ) → 0 < v → 0 < w → v < n → w < n → getD parents v 0 ≡ getD parents w 0 → getD names v 0 ≡ getD names w 0 → v ≡ w
+      (v w : ℕ) → 0 < v → 0 < w → v < n → w < n → getD parents v 0 ≡ getD parents w 0 →
+      getD names v 0 ≡ getD names w 0 → v ≡ w
 
--- 1 for each state that is a row, 0 for the others
-pub record AcceptsArray (rows : List Word) (accepts : List ℕ) : Type 0 where
-  pub accepts-size : length accepts ≡ length (treeOf rows)
-  pub accepting : (v : ℕ) → v < length (treeOf rows) → (getD accepts v 0 ≡ 1) ↔ In (wordAt rows v) rows
+-- for each state how many rows end there: how often its word is among the rows, so that those accept where the number is not 0. There
+-- are at most as many rows as a book may have
+pub record EndsArray (rows : List Word) (ends : List ℕ) : Type 0 where
+  pub few-rows : length rows ≤ book-rows
+  pub ends-size : length ends ≡ length (treeOf rows)
+  pub ends-at : (v : ℕ) → v < length (treeOf rows) → getD ends v 0 ≡ copies (wordAt rows v) rows
 
 -- the i-th ancestor
 unfoldable pub up : List ℕ → ℕ → ℕ → ℕ

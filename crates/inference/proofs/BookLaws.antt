@@ -10,21 +10,22 @@ use native.Mathlib.Omega.{arith}
 use lib.Dec.{leb}
 use lib.ListN.{length, getD, take, length-append}
 use lib.Seq.{take-at}
-use Rattle.base.specs.Limits.{row-limit, name-mark}
+use Rattle.base.specs.Limits.{row-limit, name-mark, book-rows}
 use Rattle.model.specs.Fields.{Class, ClassOk, File, unread, book, readWith, withField, classOk, settingsOk, allBelow}
 use Rattle.model.specs.Tables.{fieldBytes, nameFields}
 use Rattle.model.proofs.FieldLaws.{RowFits, Fitting, a-name, a-class, a-row, a-state, fitting, class-parts}
 use Rattle.model.proofs.Turns.{read-keeps}
 use Rattle.model.proofs.StateBodies.{Bytes}
 use Rattle.model.proofs.Rewriting.{bytes-of, field-again, fields-more, at-mark}
-use Rattle.model.proofs.Books.{tells-allBelow}
+use Rattle.model.proofs.Books.{BookOk, read-book, tells-allBelow, tells-rowOk}
 use Rattle.base.proofs.Places.{nth-in}
 use Rattle.judging.specs.Offsets.{bodyAt, nextAt, offsetAt, fieldsAt}
 use Rattle.fields.specs.Places.{fileOf}
 use Rattle.fields.specs.declared.Place.{Place}
-use Rattle.judging.proofs.OffsetLaws.{length-body, offset-above}
+use Rattle.judging.proofs.OffsetLaws.{length-body, offset-above, length-fields}
 use Rattle.fields.proofs.Parts.{accepted-number, accepted-file-is, length-names}
 use Rattle.prefix_tree.specs.Growth.{RowsBelow}
+use Rattle.counting.specs.PassCells.{RowsShort}
 use Rattle.inference.specs.Books.{BookAt, rowsAt, namesEnd}
 
 -- ---- names' fields one after the other
@@ -112,7 +113,8 @@ module _ (s : List ℕ) (f : File) (a b : ℕ) (body rest : List ℕ) (size : le
       }
 
   book-step :
-      (mark : ℕ) → Fitting book f mark body → Keeps s f (mark ∷ (a ∷ (b ∷ (body ++ rest)))) → Keeps s (withField f mark body) rest
+      (mark : ℕ) → Fitting book f mark body → Keeps s f (mark ∷ (a ∷ (b ∷ (body ++ rest)))) →
+      Keeps s (withField f mark body) rest
   book-step mark (a-name e low fits) h = at-mark (Keeps s) f a b body rest mark 1 e (with-name low) h
   book-step mark (a-class k e at fits) h = at-mark (Keeps s) f a b body rest mark 2 e (with-class at fits) h
   book-step mark (a-row k e high fits) h = at-mark (Keeps s) f a b body rest mark 3 e (with-row fits) h
@@ -139,6 +141,20 @@ module _ (s : List ℕ) (p : Place) (at : BookAt s p) where
 
   pub rows-within : offsetAt s (p .start) (p .items) ≤ length s
   rows-within = let sound = at .read .kept .sound in omega (arith, sound .items-end, sound .within)
+
+  -- it is sound
+  book-ok : BookOk (fileOf s p)
+  book-ok =
+      subst BookOk (accepted-file-is (at .settings) book s p (at .read))
+      (read-book (at .settings) (at .allowed) s (accepted-number (at .settings) book s p (at .read)) .1)
+
+  -- its rows are short and few
+  pub rows-short : RowsShort (rowsAt s p)
+  rows-short =
+      record { short = λ row m. tells-rowOk (length (fileOf s p .names)) row .fact (book-ok .rows-ok row m) .0 }
+
+  pub items-few : p .items ≤ book-rows
+  items-few = omega (arith, length-fields s (p .start) (p .items), book-ok .few-rows)
 
 -- what holds at its end, its bytes being bytes
 module _ (s : List ℕ) (p : Place) (at : BookAt s p) (bytes : (i : ℕ) → i < length s → getD s i 0 < 256) where

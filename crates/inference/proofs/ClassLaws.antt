@@ -51,8 +51,8 @@ function-setting kind j y ok not-context =
     let last = tells-and (tells-eqb kind 2) (tells-and (tells-leb j setting-limit) (tells-eqb y 0)) in
     ⊎-elim (λ p. omega (arith, p .1 .0)) (λ q. q .1 .0) (tells-or seen last .fact rest)
 
-module _ (kind first second n : ℕ) (rows : List Word) (parents names accepts groups : List ℕ)
-    (tree : TreeIn rows parents names accepts) (size : length parents ≡ n) where
+module _ (kind first second n : ℕ) (rows : List Word) (parents names ends groups : List ℕ)
+    (tree : TreeIn rows parents names ends) (size : length parents ≡ n) where
   all-states : n ≡ length (treeOf rows)
   all-states = sym size ∙ tree .tree .parents-size
 
@@ -73,38 +73,38 @@ module _ (kind first second n : ℕ) (rows : List Word) (parents names accepts g
 
   by-f :
       (kind ≡ 0 → ⊥) → (classes : List ℕ) → ClassesOfF (class-of kind first second) rows classes →
-      FJoined (length (treeOf rows)) parents names accepts classes groups → JoinedBy (class-of kind first second) rows parents names groups
+      FJoined (length (treeOf rows)) parents names ends classes groups → JoinedBy (class-of kind first second) rows parents names groups
   by-f e classes told at =
       record {
         labels = at .labelled;
         forks = at .fork-closed;
         states =
-            f-states (class-of kind first second) rows parents names accepts classes groups (tree .tree) (tree .accepting) told
+            f-states (class-of kind first second) rows parents names ends classes groups (tree .tree) (tree .ends-are) told
             (ne-eqb kind 0 e) at;
       }
 
   by-seen :
-      (kind ≡ 0 → ⊥) → eqb kind 1 ≡ true → JoinedBySeen n parents names accepts groups →
+      (kind ≡ 0 → ⊥) → eqb kind 1 ≡ true → JoinedBySeen n parents names ends groups →
       JoinedBy (class-of kind first second) rows parents names groups
   by-seen not-context is joined =
-      let at : JoinedBySeen (length (treeOf rows)) parents names accepts groups =
-      subst (λ (m : ℕ). JoinedBySeen m parents names accepts groups) all-states joined in
+      let at : JoinedBySeen (length (treeOf rows)) parents names ends groups =
+      subst (λ (m : ℕ). JoinedBySeen m parents names ends groups) all-states joined in
       by-f not-context (at .seen)
       (seen-classes (class-of kind first second) rows parents names (at .seen) (tree .tree) is (at .sets))
       (at .joined)
 
   by-last :
-      (kind ≡ 0 → ⊥) → eqb kind 1 ≡ false → JoinedByLast n first parents names accepts groups →
+      (kind ≡ 0 → ⊥) → eqb kind 1 ≡ false → JoinedByLast n first parents names ends groups →
       JoinedBy (class-of kind first second) rows parents names groups
   by-last not-context is joined =
-      let at : JoinedByLast (length (treeOf rows)) first parents names accepts groups =
-      subst (λ (m : ℕ). JoinedByLast m first parents names accepts groups) all-states joined in
+      let at : JoinedByLast (length (treeOf rows)) first parents names ends groups =
+      subst (λ (m : ℕ). JoinedByLast m first parents names ends groups) all-states joined in
       by-f not-context (at .codes)
       (last-classes (class-of kind first second) rows parents names (at .codes) (tree .tree) is (at .by-codes))
       (at .joined)
 
   pub by-function :
-      (kind ≡ 0 → ⊥) → JoinedByF (eqb kind 1) n first parents names accepts groups →
+      (kind ≡ 0 → ⊥) → JoinedByF (eqb kind 1) n first parents names ends groups →
       JoinedBy (class-of kind first second) rows parents names groups
   by-function not-context joined = go (eqb kind 1) refl
     where

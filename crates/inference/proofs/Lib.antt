@@ -4,4 +4,5 @@ pub mod BookLaws
 pub mod FrontLaws
 pub mod ClassLaws
 pub mod ResultLaws
+pub mod StateLaws
 pub mod TableLaws

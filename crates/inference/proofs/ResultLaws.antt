@@ -1,64 +1,61 @@
--- What is given back: refusal 10, refusal 13, and the table written. Assumes nothing.
-use mathlib.Core.Path.{_≡_, refl, sym, ap, subst}
+-- What is given back: refusal 10, refusal 13, and the table written, with its counts where they are wanted. Assumes nothing.
+use mathlib.Core.Path.{_≡_, sym, ap, _∙_, subst}
 use mathlib.Core.Bool.{Bool}
-use mathlib.Core.List.{List, [], _∷_}
-use Prim.Native.Nat.{ℕ, _+_, _-_, _≤_}
+use mathlib.Core.List.{List}
+use Prim.Native.Nat.{ℕ, _-_, _≤_}
 use native.Mathlib.Omega.{arith}
 use borrow.Author.Tests.{le-ltb}
-use lib.Dec.{leb}
 use lib.ListN.{length}
 use Rattle.base.specs.Limits.{state-limit, tree-too-large, output-too-short, when}
 use Rattle.model.specs.Fields.{File}
 use Rattle.model.specs.Joinings.{treeOf}
-use Rattle.model.specs.Quotients.{bookTable}
 use Rattle.model.specs.Calls.{treeFault, joinsOf, distinctOf}
 use Rattle.model.proofs.Demands.{states-few}
-use Rattle.model.proofs.CallLaws.{call-refused, call-one-short, call-one-wrote}
-use Rattle.base.proofs.Tests.{same-tests, tells-leb}
-use Rattle.inference.specs.Results.{WritesTable, statesTold, refused-with, resultOf, inferring, Infers}
+use Rattle.model.proofs.CallLaws.{call-refused, call-short, call-accepted}
+use Rattle.inference.specs.Results.{WritesBook, statesTold, refused-with, resultOf, inferring, Infers}
 use Rattle.inference.specs.declared.Table.{Table}
 use Rattle.inference.specs.declared.Table.the-variants as table
 
--- the second part fits after the first
-pub fits-after : (room front rest : ℕ) → front ≤ room → leb rest (room - front) ≡ leb (front + rest) room
-fits-after room front rest h =
-    same-tests (tells-leb rest (room - front)) (tells-leb (front + rest) room) (λ g. omega arith) (λ g. omega arith)
-
-module _ (f : File) (out : List ℕ) where
-  pub gives-too-large : tree-too-large ≡ treeFault (f .items) → Infers f out out (refused-with tree-too-large)
+module _ (wanted : Bool) (f : File) (outs : List (List ℕ)) where
+  pub gives-too-large : tree-too-large ≡ treeFault (f .items) → Infers wanted f outs outs (refused-with tree-too-large)
   unfolding inferring
-  gives-too-large e = call-refused (inferring f) (out ∷ []) (record { is = sym e; some = omega arith })
+  gives-too-large e = call-refused (inferring wanted f) outs (record { is = sym e; some = omega arith })
 
-  not-too-large : length (treeOf (f .items)) ≤ state-limit → inferring f .refusal ≡ 0
+  not-too-large : length (treeOf (f .items)) ≤ state-limit → inferring wanted f .refusal ≡ 0
   unfolding inferring
   not-too-large few = ap (λ (b : Bool). when b tree-too-large) (le-ltb state-limit (length (treeOf (f .items))) few)
 
-  module _ (out′ : List ℕ) where
+  module _ (outs′ : List (List ℕ)) where
     -- the states that an answer tells are at most those of the tree
     pub told-few :
-        (answer : Table) (tree : ℕ) → tree ≡ length (treeOf (f .items)) → WritesTable f out out′ answer →
+        (answer : Table) (tree : ℕ) → tree ≡ length (treeOf (f .items)) → WritesBook wanted f outs outs′ answer →
         statesTold answer ≤ tree
-    told-few (table.Written bytes states) tree size h = omega (arith, size, h .states-are, states-few f)
-    told-few table.TooLong tree size h = omega arith
+    told-few (table.Written bytes states size) tree all h = omega (arith, all, h .states-are, states-few f)
+    told-few table.TooLong tree all h = omega arith
 
     -- an answer with the tree's states and the different rows is what is given back
     pub gives-result :
         (answer : Table) (tree distinct : ℕ) → length (treeOf (f .items)) ≤ state-limit → tree ≡ length (treeOf (f .items)) →
-        distinct ≡ distinctOf f → WritesTable f out out′ answer → Infers f out out′ (resultOf answer tree distinct)
+        distinct ≡ distinctOf f → WritesBook wanted f outs outs′ answer →
+        Infers wanted f outs outs′ (resultOf answer tree distinct)
     unfolding inferring joinsOf
-    gives-result (table.Written bytes states) tree distinct few size different h =
-        call-one-wrote (inferring f) (bookTable f) out refl out′ _ (not-too-large few) (h .fits) (h .out-is)
-        (λ i.
-        record {
-          refusal = 0;
-          length = h .bytes-are i;
-          states = h .states-are i;
-          joins = joined i;
-          distinct = different i;
-        })
+    gives-result (table.Written bytes states size) tree distinct few all different h =
+        let accepted = call-accepted (inferring wanted f) outs (not-too-large few) (h .room) in
+        record { answer-is = answer ∙ accepted .answer-is; outputs-are = h .outs-are ∙ accepted .outputs-are }
       where
         joined : tree - states ≡ joinsOf f
-        joined = omega (arith, size, h .states-are)
-    gives-result table.TooLong tree distinct few size different h =
-        subst (λ (after : List ℕ). Infers f out after (refused-with output-too-short)) (sym (h .out-kept))
-        (call-one-short (inferring f) (bookTable f) out refl (not-too-large few) (h .short))
+        joined = omega (arith, all, h .states-are)
+
+        answer : resultOf (table.Written bytes states size) tree distinct ≡ inferring wanted f .answer
+        answer i =
+            record {
+              refusal = 0;
+              length = h .bytes-are i;
+              states = h .states-are i;
+              joins = joined i;
+              distinct = different i;
+              counts = h .size-is i;
+            }
+    gives-result table.TooLong tree distinct few all different h =
+        subst (λ (after : List (List ℕ)). Infers wanted f outs after (refused-with output-too-short)) (sym (h .outs-kept))
+        (call-short (inferring wanted f) outs (not-too-large few) (h .short))

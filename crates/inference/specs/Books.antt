@@ -6,6 +6,7 @@ use Prim.Native.Nat.{ℕ, _+_, _≤_}
 use lib.ListN.{length}
 use Rattle.base.specs.Limits.{state-limit}
 use Rattle.model.specs.Fields.{Class, class-of, Settings, Allowed, book}
+use Rattle.model.specs.Tables.{State}
 use Rattle.model.specs.Classes.{Word}
 use Rattle.model.specs.Joinings.{treeOf, joinedGroups}
 use Rattle.model.specs.Quotients.{statesOf}
@@ -13,8 +14,9 @@ use Rattle.judging.specs.Offsets.{fieldsAt}
 use Rattle.fields.specs.Places.{ReadAs}
 use Rattle.fields.specs.declared.Place.{Place}
 use Rattle.fields.specs.declared.Fields.the-variants.{Accepted}
-use Rattle.indexed.specs.Trees.{TreeArrays, AcceptsArray}
-use Rattle.indexed.specs.Partitions.{Labelled, ForkClosed}
+use Rattle.indexed.specs.Trees.{TreeArrays, EndsArray}
+use Rattle.indexed.specs.Partitions.{Labelled, ForkClosed, Joined}
+use Rattle.counting.specs.PassCells.{RowsShort}
 
 -- the place of a book that was read without a fault, with whichever allowed settings
 pub record BookAt (s : List ℕ) (p : Place) : Type 0 where
@@ -33,14 +35,24 @@ classAt p = class-of (p .kind) (p .first) (p .second)
 abbrev pub namesEnd : Place → ℕ
 namesEnd p = p .last + p .width
 
--- the prefix tree of the rows in arrays, of at most 512 states
-pub record TreeIn (rows : List Word) (parents names accepts : List ℕ) : Type 0 where
+-- the prefix tree of the rows in arrays, of at most 512 states, with how many rows end in each
+pub record TreeIn (rows : List Word) (parents names ends : List ℕ) : Type 0 where
   pub few : length (treeOf rows) ≤ state-limit
   pub tree : TreeArrays rows parents names
-  pub accepting : AcceptsArray rows accepts
+  pub ends-are : EndsArray rows ends
 
 -- a partition of the tree's states that no fork is open in, and whose automaton is that of the full joining
 pub record JoinedBy (c : Class) (rows : List Word) (parents names groups : List ℕ) : Type 0 where
   pub labels : Labelled (length (treeOf rows)) groups
   pub forks : ForkClosed (length (treeOf rows)) parents names groups
   pub states : statesOf rows (treeOf rows) groups ≡ statesOf rows (treeOf rows) (joinedGroups c rows)
+
+-- the states of a partition's automaton
+abbrev pub madeOf : List Word → List ℕ → List State
+madeOf rows groups = statesOf rows (treeOf rows) groups
+
+-- the tree in arrays with a partition that no fork is open in, of rows that are no longer than a book's
+pub record JoinedTree (rows : List Word) (parents names ends groups : List ℕ) : Type 0 where
+  pub joined : Joined rows parents names groups
+  pub ends-are : EndsArray rows ends
+  pub short : RowsShort rows

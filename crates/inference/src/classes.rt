@@ -20,12 +20,12 @@ pub fn join_by_class(
     second: u8,
     parents: &[u16],
     names: &[u8],
-    accepts: &[u8],
+    ends: &[u16],
     groups: &mut [u16],
 )
     requires { ⌜ settingsOk kind first second ≡ true ⌝ }
-    requires { ⌜ JoinReady (length (now groups)) (now parents) (now names) (now accepts) ⌝ }
-    ensures { λ _. ⌜ ((rows : List Word) → TreeIn rows (now (parents .entry)) (now (names .entry)) (now (accepts .entry)) →
+    requires { ⌜ JoinReady (length (now groups)) (now parents) (now names) (now ends) ⌝ }
+    ensures { λ _. ⌜ ((rows : List Word) → TreeIn rows (now (parents .entry)) (now (names .entry)) (now (ends .entry)) →
         JoinedBy (class-of kind first second) rows (now (parents .entry)) (now (names .entry)) (now (groups .exit))) ⌝ }
 {
     match kind {
@@ -35,7 +35,7 @@ pub fn join_by_class(
             wide8(first),
             parents,
             names,
-            accepts,
+            ends,
             groups,
         ),
     }

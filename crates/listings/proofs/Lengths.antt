@@ -6,13 +6,14 @@ use native.Mathlib.Omega.{arith}
 use lib.ListN.{length, getD, length-append}
 use Rattle.base.specs.Limits.{name-bytes, listing-bytes}
 use Rattle.model.specs.Fields.{Settings, Allowed}
-use Rattle.model.specs.Tables.{Arc, State}
+use Rattle.base.specs.Lists.{total}
+use Rattle.model.specs.Tables.{Arc, State, arcCount}
 use Rattle.model.specs.Listing.{decimal, arcText, stateLine, stateLines, firstLine, listing, refusalText}
 use Rattle.model.specs.Calls.{bookOf}
 use Rattle.model.specs.Claims.{Accepted}
 use Rattle.model.proofs.Books.{NamesOk, accepted-book}
 use Rattle.model.proofs.WrittenLengths.{name-length}
-use Rattle.model.proofs.Writable.{Writable, arcCount}
+use Rattle.model.proofs.Writable.{Writable}
 use Rattle.writing.proofs.Digits.{decimal-length}
 
 -- every name is within its limit
@@ -57,7 +58,7 @@ module _ (names : List (List ℕ)) (short : NamesShort names) where
 
   state-lines-length :
       (i : ℕ) (states : List State) → length (stateLines names i states) ≤ 8 * length states + 39 * arcCount states
-  unfolding stateLines arcCount
+  unfolding stateLines arcCount total
   state-lines-length i [] = omega arith
   state-lines-length i (s ∷ states) =
       omega (

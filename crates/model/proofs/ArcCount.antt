@@ -9,11 +9,10 @@ use lib.Dec.{eqb, ltb}
 use lib.ListN.{length, length-map}
 use borrow.Author.Tests.{eqb-true, ne-eqb}
 use Rattle.model.specs.Classes.{Word}
-use Rattle.base.specs.Lists.{indexIn, Distinct}
-use Rattle.model.specs.Tables.{Arc, arc}
+use Rattle.base.specs.Lists.{indexIn, Distinct, total}
+use Rattle.model.specs.Tables.{Arc, arc, arcCount}
 use Rattle.model.specs.Joinings.{Transition, transitionsInto, transitionsOf}
 use Rattle.model.specs.Quotients.{putArc, arcsOutOf, renumbered, stateOf}
-use Rattle.model.proofs.Writable.{arcCount}
 
 -- the arcs out of these groups
 outCount : List Transition → List ℕ → ℕ
@@ -91,7 +90,7 @@ transitions-few nodes groups ((x ∷ w) ∷ ws) =
 arcCount-states :
     (rows nodes : List Word) (groups met gs : List ℕ) →
     arcCount (map (stateOf rows nodes groups met) gs) ≡ outCount (transitionsOf nodes groups) gs
-unfolding arcCount outCount stateOf renumbered
+unfolding arcCount total outCount stateOf renumbered
 arcCount-states rows nodes groups met [] = refl
 arcCount-states rows nodes groups met (g ∷ gs) =
     ap₂ (λ (x y : ℕ). x + y)

@@ -1,5 +1,5 @@
 -- What an accepted book satisfies, by induction over its reading: names allowed one after the other, a class allowed, rows
--- allowed, and at least one of them. Assumes nothing.
+-- allowed, at least one of them and not too many. Assumes nothing.
 use mathlib.Core.Path.{_≡_, refl, sym, _∙_, subst}
 use mathlib.Core.Logic.{⊎-elim}
 use mathlib.Core.Bool.{true, false, false≢true}
@@ -9,7 +9,7 @@ use mathlib.Core.List.{List·Memᴰ·not-nil, List·Memᴰ·cases-cons, List·Me
 use Prim.Native.Nat.{ℕ, suc, _≤_, _<_}
 use native.Mathlib.Omega.{arith}
 use lib.ListN.{length, length-append}
-use Rattle.base.specs.Limits.{row-limit}
+use Rattle.base.specs.Limits.{row-limit, book-rows}
 use Rattle.model.specs.Fields.{Class, ClassOk, Settings, Allowed, File, FileKind, book, takesStates, unread, readBook, readWith}
 use Rattle.model.specs.Fields.{withField, classOk, allBelow, rowOk}
 use Rattle.model.specs.Calls.{bookOf, treeFault, bookFault}
@@ -55,6 +55,7 @@ pub record BookOk (f : File) : Type 0 where
   pub class-ok : ClassOk (f .class-is)
   pub no-rows : f .stage ≤ 2 → f .items ≡ []
   pub some-row : 3 ≤ f .stage → 1 ≤ length (f .items)
+  pub few-rows : length (f .items) ≤ book-rows
   pub rows-ok : (r : List ℕ) → In r (f .items) → rowOk (length (f .names)) r ≡ true
 
 -- before the first field
@@ -66,6 +67,7 @@ nothing-read c ok =
       class-ok = ok;
       no-rows = λ h. refl;
       some-row = λ h. let z : ⊥ = omega arith in absurd z;
+      few-rows = omega arith;
       rows-ok = λ r m. absurd (List·Memᴰ·not-nil m);
     }
 
@@ -79,6 +81,7 @@ with-name f body low fits ok =
       class-ok = ok .class-ok;
       no-rows = λ h. ok .no-rows (omega arith);
       some-row = λ h. let z : ⊥ = omega arith in absurd z;
+      few-rows = ok .few-rows;
       rows-ok = λ r m. absurd (List·Memᴰ·not-nil (subst (λ (z : List (List ℕ)). In r z) (ok .no-rows (omega arith)) m));
     }
 
@@ -91,6 +94,7 @@ with-class f body at fits ok =
       class-ok = class-parts body fits .1;
       no-rows = λ h. ok .no-rows (omega arith);
       some-row = λ h. let z : ⊥ = omega arith in absurd z;
+      few-rows = ok .few-rows;
       rows-ok = ok .rows-ok;
     }
 
@@ -105,6 +109,7 @@ with-row f body high fits ok =
       class-ok = ok .class-ok;
       no-rows = λ h. let z : ⊥ = omega arith in absurd z;
       some-row = λ h. omega (arith, length-append (f .items) (body ∷ []));
+      few-rows = omega (arith, length-append (f .items) (body ∷ []), fits .few);
       rows-ok = λ r m.
           ⊎-elim (λ n. ok .rows-ok r n)
           (λ n. subst (λ (z : List ℕ). rowOk (length (f .names)) z ≡ true) (sym (List·Memᴰ·eq-of-singleton n)) (fits .row-ok))
@@ -123,13 +128,20 @@ book-step kind none f mark body (a-row k e high fits) ok =
     subst (λ (m : ℕ). BookOk (withField f m body)) (sym e) (with-row f body high fits ok)
 book-step kind none f mark body (a-state k e high fits) ok = absurd (false≢true (sym none ∙ k))
 
--- an accepted book is read to the end, and is sound
+-- a book read without a fault is read to the end, and is sound
+pub read-book :
+    (settings : Settings) → Allowed settings → (s : List ℕ) → readBook settings s .number ≡ 0 →
+    (readBook settings s .file-is .stage ≡ 3) × BookOk (readBook settings s .file-is)
+unfolding readWith
+read-book settings allowed s ok =
+    read-keeps book (λ f rest. BookOk f)
+    (λ f mark a b body rest size fit h. book-step book refl f mark body (fitting book f mark body fit) h)
+    (suc (length s)) (unread (settings .default-class)) s (nothing-read (settings .default-class) allowed) ok
+
+-- so is an accepted book
 pub accepted-book :
     (settings : Settings) → Allowed settings → (s : List ℕ) → Accepted settings s →
     (bookOf settings s .stage ≡ 3) × BookOk (bookOf settings s)
-unfolding bookOf bookFault readWith
+unfolding bookOf bookFault
 accepted-book settings allowed s ok =
-    read-keeps book (λ f rest. BookOk f)
-    (λ f mark a b body rest size fit h. book-step book refl f mark body (fitting book f mark body fit) h)
-    (suc (length s)) (unread (settings .default-class)) s (nothing-read (settings .default-class) allowed)
-    (first-of (readBook settings s .number) (treeFault (bookOf settings s .items)) ok .0)
+    read-book settings allowed s (first-of (readBook settings s .number) (treeFault (bookOf settings s .items)) ok .0)

@@ -79,18 +79,18 @@ module _ {A : Type 0} (c : Call A) (outs : List (List ℕ)) where
 
 -- ---- the answer seen as another
 
+seen-either : {A B : Type 0} (f : A → B) (x y : A) (b : Bool) → f (cond b x y) ≡ cond b (f x) (f y)
+seen-either f x y true = refl
+seen-either f x y false = refl
+
 pub seen-as :
     {A B : Type 0} (f : A → B) (c : Call A) (outs outs′ : List (List ℕ)) (r : A) → Gives c outs outs′ r →
     Gives (seenAs f c) outs outs′ (f r)
 seen-as f c outs outs′ r gives =
     record {
-      answer-is = ap f (gives .answer-is) ∙ go (eqb (faultWith c outs) 0);
+      answer-is = ap f (gives .answer-is) ∙ seen-either f (c .answer) (c .none (faultWith c outs)) (eqb (faultWith c outs) 0);
       outputs-are = gives .outputs-are;
     }
-  where
-    go : (b : Bool) → f (cond b (c .answer) (c .none (faultWith c outs))) ≡ cond b (f (c .answer)) (f (c .none (faultWith c outs)))
-    go true = refl
-    go false = refl
 
 -- ---- what callers see
 
@@ -231,6 +231,61 @@ module _ {A : Type 0} (c : Call A) (bytes out : List ℕ) (one : c .writes ≡ b
   unfolding fronts
   one-wrote out′ r gives accepted =
       ap (λ (l : List (List ℕ)). getD l 0 []) (wrote gives accepted ∙ ap (λ (ws : List (List ℕ)). fronts ws (out ∷ [])) one)
+
+-- ---- a call with two outputs
+
+module _ {A : Type 0} (c : Call A) (first second out other : List ℕ) (two : c .writes ≡ first ∷ (second ∷ [])) where
+  -- the call by its first output alone, its answer seen as another
+  abbrev pub byFirst : {B : Type 0} → (A → B) → Call B
+  byFirst see = record { refusal = c .refusal; none = λ k. see (c .none k); answer = see (c .answer); writes = first ∷ [] }
+
+  -- an output that is long enough does not make the call refused
+  short-by-first : length second ≤ length other → tooShort (c .writes) (out ∷ (other ∷ [])) ≡ tooShort (first ∷ []) (out ∷ [])
+  unfolding tooShort
+  short-by-first room =
+      ap (λ (ws : List (List ℕ)). tooShort ws (out ∷ (other ∷ []))) two
+      ∙ ap (λ (b : Bool). ltb (length out) (length first) || (b || false)) (le-ltb (length other) (length second) room)
+
+  fault-by-first :
+      {B : Type 0} (see : A → B) → (c .refusal ≡ 0 → length second ≤ length other) →
+      faultWith c (out ∷ (other ∷ [])) ≡ faultWith (byFirst see) (out ∷ [])
+  fault-by-first see room = go (c .refusal) (λ e. short-by-first (room e))
+    where
+      go :
+          (k : ℕ) → (k ≡ 0 → tooShort (c .writes) (out ∷ (other ∷ [])) ≡ tooShort (first ∷ []) (out ∷ [])) →
+          firstOf k (when (tooShort (c .writes) (out ∷ (other ∷ []))) output-too-short)
+          ≡ firstOf k (when (tooShort (first ∷ []) (out ∷ [])) output-too-short)
+      go zero same = ap (λ (b : Bool). when b output-too-short) (same refl)
+      go (suc k) same = refl
+
+  -- where the second output is long enough, the call is what it is without it
+  pub first-alone :
+      {B : Type 0} (see : A → B) (out′ other′ : List ℕ) (r : A) → (c .refusal ≡ 0 → length second ≤ length other) →
+      Gives c (out ∷ (other ∷ [])) (out′ ∷ (other′ ∷ [])) r → Gives (byFirst see) (out ∷ []) (out′ ∷ []) (see r)
+  unfolding fronts
+  first-alone see out′ other′ r room gives =
+      record {
+        answer-is =
+            ap see (gives .answer-is)
+            ∙ seen-either see (c .answer) (c .none fault) (eqb fault 0)
+            ∙ ap (λ (k : ℕ). unless k (see (c .none k)) (see (c .answer))) same;
+        outputs-are =
+            ap alone (gives .outputs-are ∙ ap (λ (ws : List (List ℕ)). unless fault outs (fronts ws outs)) two)
+            ∙ seen-either alone (over first out ∷ (over second other ∷ [])) outs (eqb fault 0)
+            ∙ ap (λ (k : ℕ). unless k (out ∷ []) (over first out ∷ [])) same;
+      }
+    where
+      outs : List (List ℕ)
+      outs = out ∷ (other ∷ [])
+
+      fault : ℕ
+      fault = faultWith c outs
+
+      same : fault ≡ faultWith (byFirst see) (out ∷ [])
+      same = fault-by-first see room
+
+      alone : List (List ℕ) → List (List ℕ)
+      alone l = getD l 0 [] ∷ []
 
 -- bytes that stand at the front of an output
 pub record FrontOf (bytes out′ : List ℕ) (n : ℕ) : Type 0 where

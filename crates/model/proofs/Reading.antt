@@ -9,10 +9,10 @@ use lib.ListN.{length, length-append}
 use Rattle.base.specs.Limits.{name-limit, row-limit, state-limit, table-bytes, when, firstOf, bad-numbering}
 use Rattle.model.specs.Fields.{Settings, Allowed, standard, file, readTable, readWith, accepted-file}
 use Rattle.model.specs.Tables.{State, fieldBytes, nameFields, classField, stateFields, stateBody, tableBytes}
-use Rattle.model.specs.Tables.{isFirstMet}
+use Rattle.model.specs.Tables.{arcCount, isFirstMet}
 use Rattle.model.specs.Calls.{bookOf, sizesFault, tableStates, tableFault, rewritten}
 use Rattle.model.specs.Claims.{Accepted, AllBytes}
-use Rattle.model.proofs.Writable.{Writable, arcCount}
+use Rattle.model.proofs.Writable.{Writable}
 use Rattle.model.proofs.FieldLaws.{first-of}
 use Rattle.model.proofs.StateBodies.{body-ok}
 use Rattle.model.proofs.Books.{accepted-book, tells-rowOk}

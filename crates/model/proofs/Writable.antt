@@ -2,16 +2,11 @@
 -- names, numbered first-met. Assumes nothing.
 use mathlib.Core.Path.{_≡_}
 use mathlib.Core.Bool.{true}
-use mathlib.Core.List.{List, [], _∷_, List·Memᴰ as In}
-use Prim.Native.Nat.{ℕ, _+_, _≤_, _<_}
+use mathlib.Core.List.{List, List·Memᴰ as In}
+use Prim.Native.Nat.{ℕ, _≤_, _<_}
 use lib.ListN.{length}
 use Rattle.base.specs.Limits.{state-limit}
-use Rattle.model.specs.Tables.{Arc, State, isFirstMet, Ascending}
-
--- the arcs of all states
-unfoldable pub arcCount : List State → ℕ
-arcCount [] = 0
-arcCount (s ∷ states) = length (s .arcs) + arcCount states
+use Rattle.model.specs.Tables.{Arc, State, arcCount, isFirstMet, Ascending}
 
 -- states for n names that can be written and read back
 pub record Writable (n : ℕ) (states : List State) : Type 0 where

@@ -10,7 +10,7 @@ use borrow.Author.Tests.{eq-eqb}
 use Rattle.base.specs.Limits.{state-limit}
 use Rattle.base.specs.Lists.{indexIn}
 use Rattle.model.specs.Classes.{Word}
-use Rattle.model.specs.Tables.{Arc, arc, State, metByStates, isFirstMet, Ascending}
+use Rattle.model.specs.Tables.{Arc, arc, State, arcCount, metByStates, isFirstMet, Ascending}
 use Rattle.model.specs.Joinings.{transition, transitionsOf, groupAt, Deterministic}
 use Rattle.model.specs.Quotients.{arcsOutOf, metGroups, renumbered, stateOf, statesOf}
 use Rattle.base.proofs.Lists.{map-in}
@@ -21,7 +21,7 @@ use Rattle.model.proofs.Arcs.{arcsOutOf-ascending, arcsOutOf-in}
 use Rattle.model.proofs.FirstMet.{met-distinct, root-met, met-few, met-closed, states-length}
 use Rattle.model.proofs.MetOrder.{metByStates-follows}
 use Rattle.model.proofs.ArcCount.{arcs-few}
-use Rattle.model.proofs.Writable.{Writable, arcCount}
+use Rattle.model.proofs.Writable.{Writable}
 
 -- renumbered arcs keep their names
 renumbered-ascending : (next : ℕ) (met : List ℕ) (arcs : List Arc) → Ascending next arcs → Ascending next (renumbered met arcs)

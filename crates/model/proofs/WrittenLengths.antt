@@ -8,11 +8,10 @@ use native.Mathlib.Omega.{arith}
 use lib.Dec.{leb}
 use lib.ListN.{length, length-append}
 use borrow.Author.Tests.{leb-true}
-use Rattle.base.specs.Lists.{all}
+use Rattle.base.specs.Lists.{all, total}
 use Rattle.base.specs.Limits.{name-limit, name-bytes}
 use Rattle.model.specs.Fields.{nameOk, startsName, continuesName}
-use Rattle.model.specs.Tables.{State, fieldBytes, nameFields, stateFields, stateBody}
-use Rattle.model.proofs.Writable.{arcCount}
+use Rattle.model.specs.Tables.{State, arcCount, fieldBytes, nameFields, stateFields, stateBody}
 use Rattle.model.proofs.StateBodies.{body-length}
 use Rattle.model.proofs.Books.{NamesOk}
 
@@ -56,7 +55,7 @@ names-few names (n ∷ more) ok few =
 
 -- the fields of states take 4 bytes each, and 3 for each arc
 pub state-fields-length : (states : List State) → length (stateFields states) ≡ 4 * length states + 3 * arcCount states
-unfolding stateFields flatMap arcCount
+unfolding stateFields flatMap arcCount total
 state-fields-length [] = refl
 state-fields-length (s ∷ states) =
     omega (

@@ -6,6 +6,7 @@ use Prim.Native.Nat.{ℕ, zero, suc, _+_, _-_, _*_, _/_, _%_, _^_, _≤_}
 use lib.Dec.{eqb, ltb}
 use lib.ListN.{length, getD, take, drop}
 use Rattle.base.specs.Limits.{when, name-mark, class-mark, row-mark, state-mark, admitted, on-the-way, stops}
+use Rattle.base.specs.Lists.{total}
 use Rattle.model.specs.Fields.{Class}
 
 -- an arc out of a state: a name's number and the number of the target state
@@ -30,6 +31,10 @@ pub record State : Type 0 where
 -- a state by its parts
 abbrev pub state : Bool → List Arc → State
 state accepts arcs = record { accepts = accepts; arcs = arcs }
+
+-- how many arcs the states have
+unfoldable pub arcCount : List State → ℕ
+arcCount states = total (λ (s : State). length (s .arcs)) states
 
 -- ---- written
 

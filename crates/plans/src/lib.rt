@@ -1,6 +1,6 @@
-// The public entries: a book's table built, a table rewritten, a row walked over a table, a book listed as text, a plan's rows read. Any
-// bytes may be lent; each call ends with a result or one numbered refusal, leaves every byte of the working area zero, and leaves the
-// output as it was where it refuses.
+// The public entries: a book's table built, alone or with its counts, a table rewritten, a row walked over a table, a book listed as
+// text, a plan's rows read. Any bytes may be lent; each call ends with a result or one numbered refusal, leaves every byte of the working
+// area zero, and leaves each output as it was where it refuses.
 pub mod printing;
 
 use base::cells::clear;
@@ -9,6 +9,7 @@ use book_calls::listing;
 use fields::STANDARD;
 use plan_calls::reading;
 use results::Built;
+use results::Counted;
 use results::PlanRows;
 use results::Rewritten;
 use results::Walked;
@@ -16,7 +17,7 @@ use results::Written;
 use table_calls::rewriting;
 use table_calls::walking;
 ghost use Rattle.model.specs.Fields.{standard};
-ghost use Rattle.results.specs.Says.{BuildSays, RewriteSays, WalkSays, WalkedSays, ListSays, RowsSays};
+ghost use Rattle.results.specs.Says.{BuildSays, CountedSays, RewriteSays, WalkSays, WalkedSays, ListSays, RowsSays};
 
 // Builds the table of a book: the prefix tree of its rows, joined by the rules of its class until none applies, numbered
 // first-met. `build-handed-over` of the crate handed_over says what holds of the table that is written: demand 3, whole.
@@ -27,6 +28,17 @@ pub fn build_table(book: &[u8], work: &mut [u8], out: &mut [u8]) -> Built
     let built = building::build(STANDARD, book, work, out);
     clear(work);
     built
+}
+
+// Builds the table of a book as build_table does, and writes how often the book's rows use each state and each arc of it to a second
+// output. `counted-handed-over` of the crate handed_over says what holds of the table and of the counts that are written.
+pub fn build_counted(book: &[u8], work: &mut [u8], out: &mut [u8], counts: &mut [u8]) -> Counted
+    ensures { λ r. ⌜ CountedSays standard (now (book .entry)) (now (work .entry)) (now (work .exit))
+        (now (out .entry)) (now (out .exit)) (now (counts .entry)) (now (counts .exit)) r ⌝ }
+{
+    let counted = building::build_with(STANDARD, true, book, work, out, counts);
+    clear(work);
+    counted
 }
 
 // Reads a table and writes it again, to the same bytes.
@@ -104,6 +116,20 @@ pub extern "C" fn plans_build(book: &[u8], work: &mut [u8], out: &mut [u8]) -> B
         (now (out .entry)) (now (out .exit)) r ⌝ }
 {
     build_table(book, work, out)
+}
+
+// build_counted for C.
+#[no_mangle]
+pub extern "C" fn plans_build_counted(
+    book: &[u8],
+    work: &mut [u8],
+    out: &mut [u8],
+    counts: &mut [u8],
+) -> Counted
+    ensures { λ r. ⌜ CountedSays standard (now (book .entry)) (now (work .entry)) (now (work .exit))
+        (now (out .entry)) (now (out .exit)) (now (counts .entry)) (now (counts .exit)) r ⌝ }
+{
+    build_counted(book, work, out, counts)
 }
 
 // rewrite_table for C.

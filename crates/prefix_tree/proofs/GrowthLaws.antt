@@ -1,14 +1,15 @@
 -- The tree so far, one turn at a time: a child found is the state of the longer word; where there is none that word is new; the
--- arrays with one state more; a row that was there; a row marked; the tree of no rows; and what the whole comes to. Assumes nothing.
+-- arrays with one state more; a row that was there; a row counted; the tree of no rows; and what the whole comes to. Assumes nothing.
 use mathlib.Core.Path.{_≡_, refl, sym, ap, _∙_}
-use mathlib.Core.Logic.{⊎-elim, _↔_}
-use mathlib.Core.List.{List, [], _∷_, _++_, List·Memᴰ as In, List·Memᴰ·head as here, List·Memᴰ·not-nil}
-use mathlib.Core.List.{Memᴰ·cast, Memᴰ·append-left, Memᴰ·append-right, List·Memᴰ·append-cases, List·Memᴰ·eq-of-singleton}
+use mathlib.Core.Logic.{⊎-elim}
+use mathlib.Core.List.{List, [], _∷_, _++_, List·Memᴰ as In, List·Memᴰ·not-nil}
+use mathlib.Core.List.{Memᴰ·cast, Memᴰ·append-left, List·Memᴰ·append-cases, List·Memᴰ·eq-of-singleton}
 use Prim.Native.Nat.{ℕ, zero, suc, _+_, _<_, _≤_}
 use native.Mathlib.Omega.{arith}
 use lib.ListN.{length, getD, set}
 use lib.Seq.{getD-set-same, getD-set-other, getD-take, length-take-le}
-use Rattle.base.specs.Limits.{name-limit, state-limit}
+use Rattle.base.specs.Limits.{name-limit, book-rows, state-limit}
+use Rattle.base.specs.Lists.{total, copies}
 use Rattle.model.specs.Classes.{Word}
 use Rattle.model.specs.Joinings.{beginnings, withStates, treeOf}
 use Rattle.model.specs.Calls.{differentRows}
@@ -19,7 +20,7 @@ use Rattle.prefix_tree.specs.Growth.{Store, store, Sized, Grown, IsChild
 use Rattle.base.proofs.Places.{nth-in, place-of}
 use Rattle.indexed.proofs.Words.{snoc-word}
 use Rattle.prefix_tree.proofs.WordLaws.{snoc-not-nil, below-or-last, snoc-old, snoc-new}
-use Rattle.prefix_tree.proofs.WordLaws.{snoc-length}
+use Rattle.prefix_tree.proofs.WordLaws.{snoc-length, copies-none, copies-again, copies-other}
 use Rattle.prefix_tree.proofs.TreeLaws.{row-there}
 
 -- ---- a child looked up
@@ -82,7 +83,7 @@ module _ {nodes rows : List Word} {count : ℕ} {s : Store} (g : Grown nodes row
 -- ---- one state more
 
 module _ {nodes rows : List Word} {count : ℕ} {s : Store} (g : Grown nodes rows count s) (state name : ℕ) (low : state < count)
-    (small : name < name-limit) (room : count < state-limit) (sizes : Sized (s .parents) (s .names) (s .accepts) (s .work))
+    (small : name < name-limit) (room : count < state-limit) (sizes : Sized (s .parents) (s .names) (s .ends) (s .work))
     (out : In (longer nodes state name) nodes → ⊥) where
   old-parent : (v : ℕ) → v < count → getD (set (s .parents) count state) v 0 ≡ getD (s .parents) v 0
   old-parent v h = getD-set-other (s .parents) count v state 0 (λ e. omega arith)
@@ -90,8 +91,8 @@ module _ {nodes rows : List Word} {count : ℕ} {s : Store} (g : Grown nodes row
   old-name : (v : ℕ) → v < count → getD (set (s .names) count name) v 0 ≡ getD (s .names) v 0
   old-name v h = getD-set-other (s .names) count v name 0 (λ e. omega arith)
 
-  old-accepts : (v : ℕ) → v < count → getD (set (s .accepts) count 0) v 0 ≡ getD (s .accepts) v 0
-  old-accepts v h = getD-set-other (s .accepts) count v 0 0 (λ e. omega arith)
+  old-ends : (v : ℕ) → v < count → getD (set (s .ends) count 0) v 0 ≡ getD (s .ends) v 0
+  old-ends v h = getD-set-other (s .ends) count v 0 0 (λ e. omega arith)
 
   new-parent : getD (set (s .parents) count state) count 0 ≡ state
   new-parent = getD-set-same (s .parents) count state 0 (omega (arith, sizes .parents-size))
@@ -99,8 +100,8 @@ module _ {nodes rows : List Word} {count : ℕ} {s : Store} (g : Grown nodes row
   new-name : getD (set (s .names) count name) count 0 ≡ name
   new-name = getD-set-same (s .names) count name 0 (omega (arith, sizes .names-size))
 
-  new-accepts : getD (set (s .accepts) count 0) count 0 ≡ 0
-  new-accepts = getD-set-same (s .accepts) count 0 0 (omega (arith, sizes .accepts-size))
+  new-ends : getD (set (s .ends) count 0) count 0 ≡ 0
+  new-ends = getD-set-same (s .ends) count 0 0 (omega (arith, sizes .ends-size))
 
   old-word : (v : ℕ) → v < count → getD (nodes ++ (longer nodes state name ∷ [])) v [] ≡ getD nodes v []
   old-word v h = snoc-old nodes (longer nodes state name) v count (g .size) h
@@ -169,13 +170,13 @@ module _ {nodes rows : List Word} {count : ℕ} {s : Store} (g : Grown nodes row
       (below-or-last w count k))
       (below-or-last v count h)
 
-  appended-accepting : (v : ℕ) → v < count + 1
-      → (getD (set (s .accepts) count 0) v 0 ≡ 1) ↔ In (getD (nodes ++ (longer nodes state name ∷ [])) v []) rows
-  appended-accepting v h =
-      ⊎-elim (λ (l : v < count). rw (old-accepts v l, old-word v l) (g .accepting v l))
+  appended-ends : (v : ℕ) → v < count + 1
+      → getD (set (s .ends) count 0) v 0 ≡ copies (getD (nodes ++ (longer nodes state name ∷ [])) v []) rows
+  appended-ends v h =
+      ⊎-elim (λ (l : v < count). rw (old-ends v l, old-word v l) (g .ends-at v l))
       (λ (e : v ≡ count).
-      rw (e, new-accepts, new-word-at)
-      (λ z. absurd (let f : ⊥ = omega (arith, z) in f), λ m. absurd (out (g .rows-met (longer nodes state name) m))))
+      rw (e, new-ends, new-word-at)
+      (sym (copies-none (longer nodes state name) rows (λ m. out (g .rows-met (longer nodes state name) m)))))
       (below-or-last v count h)
 
   pub appended-grown : Grown (nodes ++ (longer nodes state name ∷ [])) rows (count + 1) (appended count state name s)
@@ -191,7 +192,7 @@ module _ {nodes rows : List Word} {count : ℕ} {s : Store} (g : Grown nodes row
         cell = appended-cell;
         single = appended-single;
         rows-met = λ r m. Memᴰ·append-left (longer nodes state name ∷ []) (g .rows-met r m);
-        accepting = appended-accepting;
+        ends-at = appended-ends;
       }
 
 -- ---- a row that was there
@@ -218,28 +219,28 @@ module _ {nodes rows : List Word} {count : ℕ} {s : Store} (g : Grown nodes row
   pub row-met : (row : Word) → In row rows → withStates nodes (beginnings row) ≡ nodes
   row-met row m = row-there nodes parent-met row (g .rows-met row m)
 
--- ---- a row marked
+-- ---- a row counted
 
 module _ {nodes rows : List Word} {count : ℕ} {s : Store} (g : Grown nodes rows count s) (state : ℕ) (row : Word) (low : state < count)
-    (is-row : getD nodes state [] ≡ row) (fits : state < length (s .accepts)) where
-  marked-accepting : (v : ℕ) → v < count → (getD (set (s .accepts) state 1) v 0 ≡ 1) ↔ In (getD nodes v []) (rows ++ (row ∷ []))
-  marked-accepting v h =
+    (is-row : getD nodes state [] ≡ row) (fits : state < length (s .ends)) where
+  -- the ends with the row's
+  abbrev ends-more : List ℕ
+  ends-more = set (s .ends) state (getD (s .ends) state 0 + 1)
+
+  ended-ends : (v : ℕ) → v < count → getD ends-more v 0 ≡ copies (getD nodes v []) (rows ++ (row ∷ []))
+  ended-ends v h =
       ⊎-elim
       (λ (e : v ≡ state).
-      rw (e, getD-set-same (s .accepts) state 1 0 fits) (λ z. Memᴰ·append-right rows (here is-row), λ m. refl))
+      rw (e, getD-set-same (s .ends) state (getD (s .ends) state 0 + 1) 0 fits, g .ends-at state low, is-row)
+      (sym (copies-again rows row)))
       (λ (d : v ≡ state → ⊥).
-      rw (getD-set-other (s .accepts) state v 1 0 d) (
-        λ z. Memᴰ·append-left (row ∷ []) (g .accepting v h .0 z),
-        λ m.
-            g .accepting v h .1
-            (⊎-elim (λ k. k)
-            (λ k. absurd (d (g .single v state h low (List·Memᴰ·eq-of-singleton k ∙ sym is-row))))
-            (List·Memᴰ·append-cases rows m)),
-      ))
+      getD-set-other (s .ends) state v (getD (s .ends) state 0 + 1) 0 d
+      ∙ g .ends-at v h
+      ∙ sym (copies-other (getD nodes v []) rows row (λ e. d (g .single v state h low (e ∙ sym is-row)))))
       (eq-dec v state)
 
-  pub marked-grown : Grown nodes (rows ++ (row ∷ [])) count (store (s .parents) (s .names) (set (s .accepts) state 1) (s .work))
-  marked-grown =
+  pub ended-grown : Grown nodes (rows ++ (row ∷ [])) count (store (s .parents) (s .names) ends-more (s .work))
+  ended-grown =
       record {
         size = g .size;
         root = g .root;
@@ -256,14 +257,15 @@ module _ {nodes rows : List Word} {count : ℕ} {s : Store} (g : Grown nodes row
             (λ k.
             Memᴰ·cast (List·Memᴰ·eq-of-singleton k ∙ sym is-row) (nth-in [] nodes state (omega (arith, g .size))))
             (List·Memᴰ·append-cases rows m);
-        accepting = marked-accepting;
+        ends-at = ended-ends;
       }
 
 -- ---- the tree of no rows, and the whole
 
-pub begun-grown : (parents names accepts work : List ℕ) → Sized parents names accepts work
-    → Grown ([] ∷ []) [] 1 (store (set parents 0 0) (set names 0 64) (set accepts 0 0) work)
-begun-grown parents names accepts work sizes =
+pub begun-grown : (parents names ends work : List ℕ) → Sized parents names ends work
+    → Grown ([] ∷ []) [] 1 (store (set parents 0 0) (set names 0 64) (set ends 0 0) work)
+unfolding total
+begun-grown parents names ends work sizes =
     record {
       size = refl;
       root = refl;
@@ -275,18 +277,18 @@ begun-grown parents names accepts work sizes =
       cell = λ v pos h. let z : ⊥ = omega arith in absurd z;
       single = λ v w h k e. omega arith;
       rows-met = λ r m. absurd (List·Memᴰ·not-nil m);
-      accepting =
+      ends-at =
           λ v h.
           let zero-v : v ≡ 0 = omega arith in
-          rw (zero-v, getD-set-same accepts 0 0 0 (omega (arith, sizes .accepts-size)))
-          (λ z. absurd (let f : ⊥ = omega (arith, z) in f), λ m. absurd (List·Memᴰ·not-nil m));
+          rw (zero-v) (getD-set-same ends 0 0 0 (omega (arith, sizes .ends-size)));
     }
 
 pub grown-built : (rows : List Word) (n distinct : ℕ) (s : Store) → Grown (treeOf rows) rows n s → 0 < n → n ≤ state-limit
+    → length rows ≤ book-rows
     → distinct ≡ length (differentRows rows)
-    → Sized (s .parents) (s .names) (s .accepts) (s .work)
+    → Sized (s .parents) (s .names) (s .ends) (s .work)
     → TreeBuilt rows s n distinct
-grown-built rows n distinct s g some few different sizes =
+grown-built rows n distinct s g some few few-rows different sizes =
     record {
       size = sym (g .size);
       different = different;
@@ -310,12 +312,13 @@ grown-built rows n distinct s g some few different sizes =
                 let l : v < n = omega (arith, g .size) in
                 rw (getD-take n (s .parents) v 0 l, getD-take n (s .names) v 0 l) (g .word v pos l);
           };
-      accepts =
+      ends =
           record {
-            accepts-size = length-take-le n (s .accepts) (omega (arith, sizes .accepts-size)) ∙ sym (g .size);
-            accepting =
+            few-rows = few-rows;
+            ends-size = length-take-le n (s .ends) (omega (arith, sizes .ends-size)) ∙ sym (g .size);
+            ends-at =
                 λ v h.
                 let l : v < n = omega (arith, g .size) in
-                rw (getD-take n (s .accepts) v 0 l) (g .accepting v l);
+                getD-take n (s .ends) v 0 l ∙ g .ends-at v l;
           };
     }

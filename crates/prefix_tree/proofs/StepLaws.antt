@@ -10,40 +10,42 @@ use native.Mathlib.Omega.{arith}
 use borrow.Author.Tests.{lt-ltb, le-ltb}
 use lib.ListN.{length, getD, take, set, length-set}
 use lib.Seq.{take-suc, take-all}
-use Rattle.base.specs.Limits.{name-limit, state-limit, tree-too-large, when}
-use Rattle.base.specs.Lists.{hasRow}
+use Rattle.base.specs.Limits.{name-limit, book-rows, state-limit, tree-too-large, when}
+use Rattle.base.specs.Lists.{same, hasRow, copies}
 use Rattle.model.specs.Classes.{Word}
 use Rattle.model.specs.Joinings.{beginnings, withStates, withRows, treeOf}
 use Rattle.model.specs.Calls.{treeFault, differentRows}
 use Rattle.judging.specs.Offsets.{bodyAt, nextAt, offsetAt, fieldsAt}
 use Rattle.judging.proofs.OffsetLaws.{fields-more, offset-suc, field-within, field-at, length-fields}
 use Rattle.prefix_tree.specs.Growth.{Store, store, Sized, Grown, IsChild, NoChild, appended, longer, withState}
-use Rattle.prefix_tree.specs.Growth.{Stepped, StepTooMany, Marked, wasThere, RowAdded, RowTooMany, RowOf, RowBelow, RowsBelow}
-use Rattle.prefix_tree.specs.Growth.{numberOf, countOf, differentIn, TreeBuilt, TreeOf}
+use Rattle.prefix_tree.specs.Growth.{Stepped, StepTooMany, Ended, FewRows, wasThere, RowAdded, RowTooMany, RowOf, RowBelow}
+use Rattle.prefix_tree.specs.Growth.{RowsBelow, numberOf, countOf, differentIn, TreeBuilt, TreeOf}
 use Rattle.prefix_tree.specs.declared.Added.{Added}
 use Rattle.prefix_tree.specs.declared.Tree.{Tree}
 use Rattle.prefix_tree.specs.declared.Added.the-variants as added
-use Rattle.base.proofs.Tests.{not-told, told-false, same-tests, tells-eqb, tells-hasRow}
+use Rattle.base.proofs.Tests.{not-told, told-false, same-tests, tells-eqb, tells-not, tells-hasRow}
+use Rattle.base.proofs.Totals.{many-few}
 use Rattle.base.proofs.Places.{nth-in}
+use Rattle.indexed.proofs.Ends.{row-copies}
 use Rattle.model.proofs.DifferentRows.{different-few, different-again, different-new}
 use Rattle.prefix_tree.proofs.WordLaws.{snoc-new, snoc-length}
 use Rattle.prefix_tree.proofs.TreeLaws.{withState-there, withState-new, walked, walked-none, walked-more, walked-longer}
 use Rattle.prefix_tree.proofs.TreeLaws.{treeOf-more, treeOf-longer}
-use Rattle.prefix_tree.proofs.GrowthLaws.{child-word, child-met, child-new, appended-grown, row-met, marked-grown, begun-grown}
+use Rattle.prefix_tree.proofs.GrowthLaws.{child-word, child-met, child-new, appended-grown, row-met, ended-grown, begun-grown}
 use Rattle.prefix_tree.proofs.GrowthLaws.{grown-built}
 
 -- arrays that kept their lengths have the room that they had
-pub sized-kept : (s s′ : Store) → Sized (s .parents) (s .names) (s .accepts) (s .work)
+pub sized-kept : (s s′ : Store) → Sized (s .parents) (s .names) (s .ends) (s .work)
     → length (s′ .parents) ≡ length (s .parents)
     → length (s′ .names) ≡ length (s .names)
-    → length (s′ .accepts) ≡ length (s .accepts)
+    → length (s′ .ends) ≡ length (s .ends)
     → length (s′ .work) ≡ length (s .work)
-    → Sized (s′ .parents) (s′ .names) (s′ .accepts) (s′ .work)
+    → Sized (s′ .parents) (s′ .names) (s′ .ends) (s′ .work)
 sized-kept s s′ sizes p n a w =
     record {
       parents-size = p ∙ sizes .parents-size;
       names-size = n ∙ sizes .names-size;
-      accepts-size = a ∙ sizes .accepts-size;
+      ends-size = a ∙ sizes .ends-size;
       work-size = omega (arith, sizes .work-size);
     }
 
@@ -62,7 +64,7 @@ module _ (count state name : ℕ) (s : Store) (low : state < count) (small : nam
             (g, child-word g state name low small c is);
       }
 
-  pub step-appended : (s′ : Store) → count < state-limit → Sized (s .parents) (s .names) (s .accepts) (s .work)
+  pub step-appended : (s′ : Store) → count < state-limit → Sized (s .parents) (s .names) (s .ends) (s .work)
       → NoChild count state name (s .parents) (s .names) (s .work)
       → s′ ≡ appended count state name s
       → Stepped count state name s s′ count (count + 1)
@@ -96,14 +98,14 @@ pub record Walking (row : Word) (count : ℕ) (s₀ s : Store) (n state i : ℕ)
   pub within : i ≤ length row
   pub low : state < n
   pub few : n ≤ state-limit
-  pub sizes : Sized (s .parents) (s .names) (s .accepts) (s .work)
+  pub sizes : Sized (s .parents) (s .names) (s .ends) (s .work)
   pub work-kept : length (s .work) ≡ length (s₀ .work)
   pub grown :
       (nodes rows : List Word) → Grown nodes rows count s₀ →
       Grown (walked nodes row i) rows n s × (getD (walked nodes row i) state [] ≡ take i row)
 
 pub walking-begins : (row : Word) (count : ℕ) (s : Store) → 0 < count → count ≤ state-limit
-    → Sized (s .parents) (s .names) (s .accepts) (s .work)
+    → Sized (s .parents) (s .names) (s .ends) (s .work)
     → Walking row count s s count 0 0
 walking-begins row count s some few sizes =
     record {
@@ -129,7 +131,7 @@ module _ {row : Word} {count : ℕ} {s₀ s : Store} {n state i : ℕ}
   next-walked nodes rows g = ap (withState (walked nodes row i)) (next-word nodes rows g) ∙ sym (walked-more nodes row i more)
 
   walking-next : {s′ : Store} {v m : ℕ} → Stepped n state (getD row i 0) s s′ v m
-      → Sized (s′ .parents) (s′ .names) (s′ .accepts) (s′ .work)
+      → Sized (s′ .parents) (s′ .names) (s′ .ends) (s′ .work)
       → length (s′ .work) ≡ length (s .work)
       → Walking row count s₀ s′ m v (suc i)
   walking-next {s′} {v} {m} is sizes kept =
@@ -151,7 +153,7 @@ module _ {row : Word} {count : ℕ} {s₀ s : Store} {n state i : ℕ}
       }
 
   pub walking-goes : {s′ : Store} {v m : ℕ} → Stepped n state (getD row i 0) s s′ v m
-      → Sized (s′ .parents) (s′ .names) (s′ .accepts) (s′ .work)
+      → Sized (s′ .parents) (s′ .names) (s′ .ends) (s′ .work)
       → length (s′ .work) ≡ length (s .work)
       → Walking row count s₀ s′ m v (i + 1)
   walking-goes {s′} {v} {m} is sizes kept =
@@ -178,9 +180,21 @@ row-full {row} {count} {s} {s′} few full =
       tree = full;
     }
 
--- the whole row is walked, and its state marked
-module _ {row : Word} {count : ℕ} {s₀ s : Store} {n state i : ℕ} {accepts′ : List ℕ} {before : Bool}
-    (w : Walking row count s₀ s n state i) (done : length row ≤ i) (mark : Marked (s .accepts) accepts′ state before) where
+-- in every state fewer rows end than a book may have
+pub walking-few :
+    {row : Word} {count : ℕ} {s₀ s : Store} {n state i : ℕ} →
+    Walking row count s₀ s n state i → FewRows count s₀ → getD (s .ends) state 0 < book-rows
+walking-few {row} {count} {s₀} {s} {n} {state} {i} w f =
+    omega (
+      arith,
+      f .few,
+      w .grown (f .nodes) (f .rows) (f .grown) .0 .ends-at state (w .low),
+      many-few (same (getD (walked (f .nodes) row i) state [])) (f .rows),
+    )
+
+-- the whole row is walked, and its end counted
+module _ {row : Word} {count : ℕ} {s₀ s : Store} {n state i : ℕ} {ends′ : List ℕ} {before : Bool}
+    (w : Walking row count s₀ s n state i) (done : length row ≤ i) (end : Ended (s .ends) ends′ state before) where
   -- the arrays hold the tree with the row's beginnings, and the state is the row
   whole-walked : (nodes rows : List Word) → Grown nodes rows count s₀
       → Grown (withStates nodes (beginnings row)) rows n s × (getD (withStates nodes (beginnings row)) state [] ≡ row)
@@ -189,31 +203,32 @@ module _ {row : Word} {count : ℕ} {s₀ s : Store} {n state i : ℕ} {accepts�
       subst (λ (u : Word). Grown (withStates nodes (beginnings u)) rows n s × (getD (withStates nodes (beginnings u)) state [] ≡ u))
       (take-all i row done) (w .grown nodes rows g)
 
-  -- the row was there exactly if its state accepted
+  -- the row was there exactly if one ended in its state
   walked-told : (nodes rows : List Word) → Grown nodes rows count s₀ → hasRow row rows ≡ before
   walked-told nodes rows g =
       let walk = whole-walked nodes rows g in
-      let accepting = walk .0 .accepting state (w .low) in
-      same-tests (tells-hasRow row rows) (tells-eqb (getD (s .accepts) state 0) 1)
-      (λ m. accepting .1 (Memᴰ·cast (walk .1) m))
-      (λ e. Memᴰ·cast (sym (walk .1)) (accepting .0 e))
-      ∙ sym (mark .was)
+      let many : getD (s .ends) state 0 ≡ copies row rows =
+      walk .0 .ends-at state (w .low) ∙ ap (λ (u : Word). copies u rows) (walk .1) in
+      same-tests (tells-hasRow row rows) (tells-not (tells-eqb (getD (s .ends) state 0) 0))
+      (λ m e. omega (arith, row-copies row rows .1 m, e))
+      (λ (some : getD (s .ends) state 0 ≡ 0 → ⊥). row-copies row rows .0 (omega arith))
+      ∙ sym (end .was)
 
-  walked-marked : (nodes rows : List Word) → Grown nodes rows count s₀
-      → Grown (withStates nodes (beginnings row)) (rows ++ (row ∷ [])) n (store (s .parents) (s .names) accepts′ (s .work))
-  walked-marked nodes rows g =
+  walked-ended : (nodes rows : List Word) → Grown nodes rows count s₀
+      → Grown (withStates nodes (beginnings row)) (rows ++ (row ∷ [])) n (store (s .parents) (s .names) ends′ (s .work))
+  walked-ended nodes rows g =
       let walk = whole-walked nodes rows g in
       subst
       (λ (a : List ℕ).
       Grown (withStates nodes (beginnings row)) (rows ++ (row ∷ [])) n (store (s .parents) (s .names) a (s .work)))
-      (sym (mark .set-is))
-      (marked-grown (walk .0) state row (w .low) (walk .1) (omega (arith, w .low, w .few, w .sizes .accepts-size)))
+      (sym (end .set-is))
+      (ended-grown (walk .0) state row (w .low) (walk .1) (omega (arith, w .low, w .few, w .sizes .ends-size)))
 
-  pub walking-new : before ≡ false → RowOf row count s₀ (store (s .parents) (s .names) accepts′ (s .work)) (added.New n)
+  pub walking-new : before ≡ false → RowOf row count s₀ (store (s .parents) (s .names) ends′ (s .work)) (added.New n)
   walking-new not-before =
       record {
         told = λ nodes rows g. walked-told nodes rows g ∙ not-before;
-        tree = record { some = omega (arith, w .low); few = w .few; grown = walked-marked };
+        tree = record { some = omega (arith, w .low); few = w .few; grown = walked-ended };
       }
 
   -- where the row was there, there are as many states as before
@@ -224,7 +239,7 @@ module _ {row : Word} {count : ℕ} {s₀ s : Store} {n state i : ℕ} {accepts�
       ∙ g .size
 
   pub walking-again : 0 < count → count ≤ state-limit → before ≡ true
-      → RowOf row count s₀ (store (s .parents) (s .names) accepts′ (s .work)) added.Again
+      → RowOf row count s₀ (store (s .parents) (s .names) ends′ (s .work)) added.Again
   walking-again some few was =
       record {
         told = λ nodes rows g. walked-told nodes rows g ∙ was;
@@ -237,9 +252,9 @@ module _ {row : Word} {count : ℕ} {s₀ s : Store} {n state i : ℕ} {accepts�
                   subst
                   (λ (k : ℕ).
                   Grown (withStates nodes (beginnings row)) (rows ++ (row ∷ [])) k
-                  (store (s .parents) (s .names) accepts′ (s .work)))
+                  (store (s .parents) (s .names) ends′ (s .work)))
                   (again-size was nodes rows g)
-                  (walked-marked nodes rows g);
+                  (walked-ended nodes rows g);
             };
       }
 
@@ -251,25 +266,25 @@ pub record Adding (book : List ℕ) (start items : ℕ) (work₀ : List ℕ) (s 
   pub at-is : at ≡ offsetAt book start i
   pub some : 0 < n
   pub few : n ≤ state-limit
-  pub sizes : Sized (s .parents) (s .names) (s .accepts) (s .work)
+  pub sizes : Sized (s .parents) (s .names) (s .ends) (s .work)
   pub work-kept : length (s .work) ≡ length work₀
   pub grown : Grown (treeOf (fieldsAt book start i)) (fieldsAt book start i) n s
   pub different : distinct ≡ length (differentRows (fieldsAt book start i))
 
-pub adding-begins : (book : List ℕ) (start items : ℕ) (parents names accepts work : List ℕ) → Sized parents names accepts work
-    → Adding book start items work (store (set parents 0 0) (set names 0 64) (set accepts 0 0) work) 1 0 start 0
+pub adding-begins : (book : List ℕ) (start items : ℕ) (parents names ends work : List ℕ) → Sized parents names ends work
+    → Adding book start items work (store (set parents 0 0) (set names 0 64) (set ends 0 0) work) 1 0 start 0
 unfolding treeOf withRows fieldsAt offsetAt differentRows
-adding-begins book start items parents names accepts work sizes =
+adding-begins book start items parents names ends work sizes =
     record {
       within = omega arith;
       at-is = refl;
       some = omega arith;
       few = omega arith;
       sizes =
-          sized-kept (store parents names accepts work) (store (set parents 0 0) (set names 0 64) (set accepts 0 0) work) sizes
-          (length-set parents 0 0) (length-set names 0 64) (length-set accepts 0 0) refl;
+          sized-kept (store parents names ends work) (store (set parents 0 0) (set names 0 64) (set ends 0 0) work) sizes
+          (length-set parents 0 0) (length-set names 0 64) (length-set ends 0 0) refl;
       work-kept = refl;
-      grown = begun-grown parents names accepts work sizes;
+      grown = begun-grown parents names ends work sizes;
       different = refl;
     }
 
@@ -293,6 +308,16 @@ module _ {book : List ℕ} {start items : ℕ} {work₀ : List ℕ} {s : Store} 
       (below (getD (fieldsAt book start items) i [])
       (nth-in [] (fieldsAt book start items) i (omega (arith, length-fields book start items))))
 
+  -- fewer rows are added than a book may have
+  pub adding-few-rows : items ≤ book-rows → FewRows n s
+  adding-few-rows few =
+      record {
+        nodes = treeOf (fieldsAt book start i);
+        rows = fieldsAt book start i;
+        few = omega (arith, few, length-fields book start i);
+        grown = a .grown;
+      }
+
   tree-next : treeOf (fieldsAt book start (suc i)) ≡ withStates (treeOf (fieldsAt book start i)) (beginnings (bodyAt book at))
   tree-next =
       treeOf-more book start i
@@ -303,7 +328,7 @@ module _ {book : List ℕ} {start items : ℕ} {work₀ : List ℕ} {s : Store} 
 
   adding-next : {s′ : Store} {n′ distinct′ next : ℕ} → RowAdded (bodyAt book at) n s s′ n′
       → distinct′ ≡ length (differentRows (fieldsAt book start i ++ (bodyAt book at ∷ [])))
-      → Sized (s′ .parents) (s′ .names) (s′ .accepts) (s′ .work)
+      → Sized (s′ .parents) (s′ .names) (s′ .ends) (s′ .work)
       → length (s′ .work) ≡ length (s .work)
       → next ≡ nextAt book at
       → Adding book start items work₀ s′ n′ distinct′ next (i + 1)
@@ -328,7 +353,7 @@ module _ {book : List ℕ} {start items : ℕ} {work₀ : List ℕ} {s : Store} 
   pub adding-new : {s′ : Store} {m n′ distinct′ next : ℕ} → RowOf (bodyAt book at) n s s′ (added.New m)
       → n′ ≡ m
       → distinct′ ≡ distinct + 1
-      → Sized (s′ .parents) (s′ .names) (s′ .accepts) (s′ .work)
+      → Sized (s′ .parents) (s′ .names) (s′ .ends) (s′ .work)
       → length (s′ .work) ≡ length (s .work)
       → next ≡ nextAt book at
       → Adding book start items work₀ s′ n′ distinct′ next (i + 1)
@@ -340,7 +365,7 @@ module _ {book : List ℕ} {start items : ℕ} {work₀ : List ℕ} {s : Store} 
   pub adding-again : {s′ : Store} {n′ distinct′ next : ℕ} → RowOf (bodyAt book at) n s s′ added.Again
       → n′ ≡ n
       → distinct′ ≡ distinct
-      → Sized (s′ .parents) (s′ .names) (s′ .accepts) (s′ .work)
+      → Sized (s′ .parents) (s′ .names) (s′ .ends) (s′ .work)
       → length (s′ .work) ≡ length (s .work)
       → next ≡ nextAt book at
       → Adding book start items work₀ s′ n′ distinct′ next (i + 1)
@@ -358,16 +383,20 @@ module _ {book : List ℕ} {start items : ℕ} {work₀ : List ℕ} {s : Store} 
 
 pub adding-ends :
     {book : List ℕ} {start items : ℕ} {work₀ : List ℕ} {s : Store} {n distinct at i : ℕ} →
-    Adding book start items work₀ s n distinct at i → items ≤ i → TreeBuilt (fieldsAt book start items) s n distinct
-adding-ends {book} {start} {items} {work₀} {s} {n} {distinct} {at} {i} a done =
+    Adding book start items work₀ s n distinct at i → items ≤ i → items ≤ book-rows →
+    TreeBuilt (fieldsAt book start items) s n distinct
+adding-ends {book} {start} {items} {work₀} {s} {n} {distinct} {at} {i} a done few =
     let all : i ≡ items = omega (arith, a .within) in
     subst (λ (k : ℕ). TreeBuilt (fieldsAt book start k) s n distinct) all
-    (grown-built (fieldsAt book start i) n distinct s (a .grown) (a .some) (a .few) (a .different) (a .sizes))
+    (grown-built (fieldsAt book start i) n distinct s (a .grown) (a .some) (a .few)
+    (omega (arith, few, length-fields book start i))
+    (a .different)
+    (a .sizes))
 
 pub tree-answer : (rows : List Word) (s s′ : Store) (answer : Tree) → numberOf answer ≡ treeFault rows
     → (numberOf answer ≡ 0 → TreeBuilt rows s′ (countOf answer) (differentIn answer))
-    → Sized (s .parents) (s .names) (s .accepts) (s .work)
-    → Sized (s′ .parents) (s′ .names) (s′ .accepts) (s′ .work)
+    → Sized (s .parents) (s .names) (s .ends) (s .work)
+    → Sized (s′ .parents) (s′ .names) (s′ .ends) (s′ .work)
     → length (s′ .work) ≡ length (s .work)
     → TreeOf rows s s′ answer
 tree-answer rows s s′ answer number built sizes sizes′ kept =
@@ -376,7 +405,7 @@ tree-answer rows s s′ answer number built sizes sizes′ kept =
       built = built;
       parents-kept = sizes′ .parents-size ∙ sym (sizes .parents-size);
       names-kept = sizes′ .names-size ∙ sym (sizes .names-size);
-      accepts-kept = sizes′ .accepts-size ∙ sym (sizes .accepts-size);
+      ends-kept = sizes′ .ends-size ∙ sym (sizes .ends-size);
       work-kept = kept;
     }
 

@@ -1,20 +1,19 @@
 -- The prefix tree as it grows in lent arrays. In order: the arrays, the tree that they hold so far, and what each function
--- promises: a child looked up, a state appended, one step, a state marked, one row, with whether it was there, and all rows, with the
+-- promises: a child looked up, a state appended, one step, an end counted, one row, with whether it was there, and all rows, with the
 -- refusal's number for the answer. Assumes nothing.
 use mathlib.Core.Path.{_≡_}
-use mathlib.Core.Logic.{_↔_}
-use mathlib.Core.Bool.{Bool, true, false, cond}
+use mathlib.Core.Bool.{Bool, true, false, not, cond}
 use mathlib.Core.List.{List, [], _∷_, _++_, List·Memᴰ as In}
-use Prim.Native.Nat.{ℕ, _<_, _≤_}
+use Prim.Native.Nat.{ℕ, _+_, _<_, _≤_}
 use lib.Dec.{eqb}
 use lib.ListN.{length, getD, take, set}
-use Rattle.base.specs.Lists.{hasRow}
-use Rattle.base.specs.Limits.{name-limit, state-limit, work-bytes, tree-too-large}
+use Rattle.base.specs.Lists.{hasRow, copies}
+use Rattle.base.specs.Limits.{name-limit, book-rows, state-limit, work-bytes, tree-too-large}
 use Rattle.model.specs.Classes.{Word}
 use Rattle.model.specs.Joinings.{beginnings, withStates, treeOf}
 use Rattle.model.specs.Calls.{treeFault, differentRows}
 use Rattle.base.specs.Cells.{cellAt, withCell}
-use Rattle.indexed.specs.Trees.{TreeArrays, AcceptsArray}
+use Rattle.indexed.specs.Trees.{TreeArrays, EndsArray}
 use Rattle.prefix_tree.specs.declared.Found.{Found}
 use Rattle.prefix_tree.specs.declared.Went.{Went}
 use Rattle.prefix_tree.specs.declared.Added.{Added}
@@ -26,21 +25,21 @@ use Rattle.prefix_tree.specs.declared.Tree.the-variants as tree
 
 -- ---- the arrays
 
--- what the caller lends: for each state its parent, its name, whether it accepts; and the area of cells [state][name]
+-- what the caller lends: for each state its parent, its name, how many rows end there; and the area of cells [state][name]
 pub record Store : Type 0 where
   pub parents : List ℕ
   pub names : List ℕ
-  pub accepts : List ℕ
+  pub ends : List ℕ
   pub work : List ℕ
 
 abbrev pub store : List ℕ → List ℕ → List ℕ → List ℕ → Store
-store parents names accepts work = record { parents = parents; names = names; accepts = accepts; work = work }
+store parents names ends work = record { parents = parents; names = names; ends = ends; work = work }
 
 -- the arrays have room for every state, and the area for every cell
-pub record Sized (parents names accepts work : List ℕ) : Type 0 where
+pub record Sized (parents names ends work : List ℕ) : Type 0 where
   pub parents-size : length parents ≡ state-limit
   pub names-size : length names ≡ state-limit
-  pub accepts-size : length accepts ≡ state-limit
+  pub ends-size : length ends ≡ state-limit
   pub work-size : work-bytes ≤ length work
 
 -- what finding a child needs of them
@@ -56,7 +55,7 @@ unfoldable pub withState : List Word → Word → List Word
 withState nodes w = cond (hasRow w nodes) nodes (nodes ++ (w ∷ []))
 
 -- the first `count` places hold the tree of these nodes: each state but the root with its parent, its name and its cell; no
--- word twice; the states that accept are the rows so far, and every row so far is a state
+-- word twice; in each state as many rows end as there are of its word so far, and every row so far is a state
 pub record Grown (nodes rows : List Word) (count : ℕ) (s : Store) : Type 0 where
   pub size : length nodes ≡ count
   pub root : getD nodes 0 [] ≡ []
@@ -69,7 +68,7 @@ pub record Grown (nodes rows : List Word) (count : ℕ) (s : Store) : Type 0 whe
   pub cell : (v : ℕ) → 0 < v → v < count → cellAt (s .work) (getD (s .parents) v 0) (getD (s .names) v 0) ≡ v
   pub single : (v w : ℕ) → v < count → w < count → getD nodes v [] ≡ getD nodes w [] → v ≡ w
   pub rows-met : (r : Word) → In r rows → In r nodes
-  pub accepting : (v : ℕ) → v < count → (getD (s .accepts) v 0 ≡ 1) ↔ In (getD nodes v []) rows
+  pub ends-at : (v : ℕ) → v < count → getD (s .ends) v 0 ≡ copies (getD nodes v []) rows
 
 -- ---- a child looked up
 
@@ -94,7 +93,7 @@ appended count state name s =
     store
     (set (s .parents) count state)
     (set (s .names) count name)
-    (set (s .accepts) count 0)
+    (set (s .ends) count 0)
     (withCell (s .work) state name count)
 
 -- ---- one step along a row
@@ -121,13 +120,20 @@ abbrev pub StepOf : ℕ → ℕ → ℕ → Store → Store → Went → Type 0
 StepOf count state name s s′ (went.To v n) = Stepped count state name s s′ v n
 StepOf count state name s s′ went.Full = StepTooMany count state name s
 
--- ---- a state marked: it accepts, and it is told whether it did before
+-- ---- an end counted: one more row ends in a state, and it is told whether one did before
 
-pub record Marked (accepts accepts′ : List ℕ) (state : ℕ) (before : Bool) : Type 0 where
-  pub was : before ≡ eqb (getD accepts state 0) 1
-  pub set-is : accepts′ ≡ set accepts state 1
+pub record Ended (ends ends′ : List ℕ) (state : ℕ) (before : Bool) : Type 0 where
+  pub was : before ≡ not (eqb (getD ends state 0) 0)
+  pub set-is : ends′ ≡ set ends state (getD ends state 0 + 1)
 
 -- ---- one row
+
+-- the arrays hold the tree of fewer rows than a book may have
+pub record FewRows (count : ℕ) (s : Store) : Type 0 where
+  pub nodes : List Word
+  pub rows : List Word
+  pub few : length rows < book-rows
+  pub grown : Grown nodes rows count s
 
 -- whether an answer says that the row was there already; what needs a state more was not
 abbrev pub wasThere : Added → Bool
@@ -135,7 +141,7 @@ wasThere (added.New n) = false
 wasThere added.Again = true
 wasThere added.Full = false
 
--- the arrays hold the tree with the row's beginnings, and the row accepts
+-- the arrays hold the tree with the row's beginnings, and the row is counted
 pub record RowAdded (row : Word) (count : ℕ) (s s′ : Store) (n : ℕ) : Type 0 where
   pub some : 0 < n
   pub few : n ≤ state-limit
@@ -189,7 +195,7 @@ pub record TreeBuilt (rows : List Word) (s : Store) (n distinct : ℕ) : Type 0 
   pub different : distinct ≡ length (differentRows rows)
   pub few : n ≤ state-limit
   pub arrays : TreeArrays rows (take n (s .parents)) (take n (s .names))
-  pub accepts : AcceptsArray rows (take n (s .accepts))
+  pub ends : EndsArray rows (take n (s .ends))
 
 -- the whole: the answer's number is the refusal of the rows' tree; where that is none, the arrays hold the tree, of as many states and
 -- different rows as the answer says; and every array is as long as it was
@@ -198,5 +204,5 @@ pub record TreeOf (rows : List Word) (s s′ : Store) (answer : Tree) : Type 0 w
   pub built : numberOf answer ≡ 0 → TreeBuilt rows s′ (countOf answer) (differentIn answer)
   pub parents-kept : length (s′ .parents) ≡ length (s .parents)
   pub names-kept : length (s′ .names) ≡ length (s .names)
-  pub accepts-kept : length (s′ .accepts) ≡ length (s .accepts)
+  pub ends-kept : length (s′ .ends) ≡ length (s .ends)
   pub work-kept : length (s′ .work) ≡ length (s .work)

@@ -1,5 +1,5 @@
 // The prefix tree of a book's rows, in arrays that the caller lends: for each state, in the order met, its parent, its name and
-// whether it accepts. A child is found by its cell [state][name] of the working area, which counts only where the state that it
+// how many rows end there. A child is found by its cell [state][name] of the working area, which counts only where the state that it
 // names has that parent and that name; so the area may hold anything at the start.
 use base::cells::cell;
 use base::cells::set_cell;
@@ -12,11 +12,11 @@ use judging::offsets::body;
 use judging::offsets::next_field;
 ghost use mathlib.Core.Path.{_≡_};
 ghost use Prim.Native.Nat.{_+_, _<_, _≤_};
-ghost use lib.ListN.{length};
-ghost use Rattle.base.specs.Limits.{name-limit, state-limit};
+ghost use lib.ListN.{length, getD};
+ghost use Rattle.base.specs.Limits.{name-limit, book-rows, state-limit};
 ghost use Rattle.judging.specs.Offsets.{offsetAt, fieldsAt};
-ghost use Rattle.prefix_tree.specs.Growth.{Roomy, store, Sized, ChildOf, appended, StepOf, Marked, RowBelow, RowOf, RowsBelow};
-ghost use Rattle.prefix_tree.specs.Growth.{TreeOf};
+ghost use Rattle.prefix_tree.specs.Growth.{Roomy, store, Sized, ChildOf, appended, StepOf, Ended, FewRows, RowBelow, RowOf};
+ghost use Rattle.prefix_tree.specs.Growth.{RowsBelow, TreeOf};
 
 // The state that a state goes on to by a name, if there is one.
 pub enum Found {
@@ -30,8 +30,7 @@ pub enum Went {
     Full,
 }
 
-// The row is new, and how many states there are with it; or it was there already, and the tree is as it was; or a 513th state would be
-// needed.
+// The row is new, and how many states there are with it; or it was there already, and no state is new; or a 513th state would be needed.
 pub enum Added {
     New(usize),
     Again,
@@ -70,24 +69,24 @@ pub fn child(
     Found::Nothing
 }
 
-// Appends a state that goes on from a state by a name, does not accept, and is found in its cell.
+// Appends a state that goes on from a state by a name, in which no row ends, and that is found in its cell.
 fn append(
     parents: &mut [u16],
     names: &mut [u8],
-    accepts: &mut [u8],
+    ends: &mut [u16],
     work: &mut [u8],
     count: usize,
     state: usize,
     name: u8,
 )
     requires { ⌜ (count < state-limit) × (state < count) × (name < name-limit) ⌝ }
-    requires { ⌜ Sized (now parents) (now names) (now accepts) (now work) ⌝ }
-    ensures { λ _. ⌜ store (now (parents .exit)) (now (names .exit)) (now (accepts .exit)) (now (work .exit))
-        ≡ appended count state name (store (now (parents .entry)) (now (names .entry)) (now (accepts .entry)) (now (work .entry))) ⌝ }
+    requires { ⌜ Sized (now parents) (now names) (now ends) (now work) ⌝ }
+    ensures { λ _. ⌜ store (now (parents .exit)) (now (names .exit)) (now (ends .exit)) (now (work .exit))
+        ≡ appended count state name (store (now (parents .entry)) (now (names .entry)) (now (ends .entry)) (now (work .entry))) ⌝ }
 {
     parents[count] = narrow16(state);
     names[count] = name;
-    accepts[count] = 0;
+    ends[count] = 0;
     set_cell(work, state, wide8(name), count);
 }
 
@@ -95,17 +94,17 @@ fn append(
 fn step(
     parents: &mut [u16],
     names: &mut [u8],
-    accepts: &mut [u8],
+    ends: &mut [u16],
     work: &mut [u8],
     count: usize,
     state: usize,
     name: u8,
 ) -> Went
     requires { ⌜ (count ≤ state-limit) × (state < count) × (name < name-limit) ⌝ }
-    requires { ⌜ Sized (now parents) (now names) (now accepts) (now work) ⌝ }
+    requires { ⌜ Sized (now parents) (now names) (now ends) (now work) ⌝ }
     ensures { λ r. ⌜ StepOf count state name
-        (store (now (parents .entry)) (now (names .entry)) (now (accepts .entry)) (now (work .entry)))
-        (store (now (parents .exit)) (now (names .exit)) (now (accepts .exit)) (now (work .exit))) r ⌝ }
+        (store (now (parents .entry)) (now (names .entry)) (now (ends .entry)) (now (work .entry)))
+        (store (now (parents .exit)) (now (names .exit)) (now (ends .exit)) (now (work .exit))) r ⌝ }
 {
     let found = child(parents, names, work, count, state, name);
     match found {
@@ -114,43 +113,44 @@ fn step(
             if STATE_LIMIT <= count {
                 return Went::Full;
             }
-            append(parents, names, accepts, work, count, state, name);
+            append(parents, names, ends, work, count, state, name);
             Went::To(count, count + 1)
         }
     }
 }
 
-// Marks a state as accepting, the root too: an empty row is a row. Tells whether it accepted before.
-fn mark(accepts: &mut [u8], state: usize) -> bool
-    requires { ⌜ state < length (now accepts) ⌝ }
-    ensures { λ r. ⌜ Marked (now (accepts .entry)) (now (accepts .exit)) state r ⌝ }
+// Counts one more row that ends in a state, the root too: an empty row is a row. Tells whether one ended there before.
+fn end_in(ends: &mut [u16], state: usize) -> bool
+    requires { ⌜ (state < length (now ends)) × (getD (now ends) state 0 < book-rows) ⌝ }
+    ensures { λ r. ⌜ Ended (now (ends .entry)) (now (ends .exit)) state r ⌝ }
 {
-    let before = accepts[state];
-    accepts[state] = 1;
-    before == 1
+    let before = ends[state];
+    ends[state] = before + 1;
+    before != 0
 }
 
-// Adds a row: walks it from the root, appends what is missing, and marks the last state. A row whose last state accepted already was
-// there before.
+// Adds a row: walks it from the root, appends what is missing, and counts it in the last state. A row in whose last state one ended
+// already was there before.
 pub fn add_row(
     row: &[u8],
     parents: &mut [u16],
     names: &mut [u8],
-    accepts: &mut [u8],
+    ends: &mut [u16],
     work: &mut [u8],
     count: usize,
 ) -> Added
     requires { ⌜ (0 < count) × (count ≤ state-limit) × RowBelow (now row) ⌝ }
-    requires { ⌜ Sized (now parents) (now names) (now accepts) (now work) ⌝ }
+    requires { ⌜ Sized (now parents) (now names) (now ends) (now work) ⌝ }
+    requires { ⌜ FewRows count (store (now parents) (now names) (now ends) (now work)) ⌝ }
     ensures { λ r. ⌜ RowOf (now (row .entry)) count
-        (store (now (parents .entry)) (now (names .entry)) (now (accepts .entry)) (now (work .entry)))
-        (store (now (parents .exit)) (now (names .exit)) (now (accepts .exit)) (now (work .exit))) r ⌝ }
+        (store (now (parents .entry)) (now (names .entry)) (now (ends .entry)) (now (work .entry)))
+        (store (now (parents .exit)) (now (names .exit)) (now (ends .exit)) (now (work .exit))) r ⌝ }
 {
     let mut n = count;
     let mut state = 0;
     let mut i = 0;
     while i < row.len() {
-        let went = step(parents, names, accepts, work, n, state, row[i]);
+        let went = step(parents, names, ends, work, n, state, row[i]);
         match went {
             Went::To(v, m) => {
                 state = v;
@@ -160,7 +160,7 @@ pub fn add_row(
         }
         i += 1;
     }
-    if mark(accepts, state) {
+    if end_in(ends, state) {
         return Added::Again;
     }
     Added::New(n)
@@ -174,26 +174,27 @@ pub fn add_rows(
     items: usize,
     parents: &mut [u16],
     names: &mut [u8],
-    accepts: &mut [u8],
+    ends: &mut [u16],
     work: &mut [u8],
 ) -> Tree
     requires { ⌜ offsetAt (now book) start items ≤ length (now book) ⌝ }
     requires { ⌜ RowsBelow (fieldsAt (now book) start items) ⌝ }
-    requires { ⌜ Sized (now parents) (now names) (now accepts) (now work) ⌝ }
+    requires { ⌜ Sized (now parents) (now names) (now ends) (now work) ⌝ }
+    requires { ⌜ items ≤ book-rows ⌝ }
     ensures { λ r. ⌜ TreeOf (fieldsAt (now (book .entry)) start items)
-        (store (now (parents .entry)) (now (names .entry)) (now (accepts .entry)) (now (work .entry)))
-        (store (now (parents .exit)) (now (names .exit)) (now (accepts .exit)) (now (work .exit))) r ⌝ }
+        (store (now (parents .entry)) (now (names .entry)) (now (ends .entry)) (now (work .entry)))
+        (store (now (parents .exit)) (now (names .exit)) (now (ends .exit)) (now (work .exit))) r ⌝ }
 {
     parents[0] = 0;
     names[0] = NAME_LIMIT;
-    accepts[0] = 0;
+    ends[0] = 0;
     let mut n = 1;
     let mut distinct = 0;
     let mut at = start;
     let mut i = 0;
     while i < items {
         let row = body(book, at);
-        let added = add_row(row, parents, names, accepts, work, n);
+        let added = add_row(row, parents, names, ends, work, n);
         match added {
             Added::New(m) => {
                 n = m;

@@ -19,9 +19,11 @@ use Rattle.base.specs.Bits.{bit}
 use Rattle.base.proofs.Bits.{bit-zero, bit-of-set, bits-told}
 use Rattle.base.specs.Cells.{cellAt, withCell}
 use Rattle.base.proofs.CellLaws.{length-withCell, cell-same, cell-other}
-use Rattle.quotient.specs.Gathered.{Joined, ArcsAt, Gathered}
+use Rattle.indexed.specs.Partitions.{Joined}
+use Rattle.indexed.specs.ArcCells.{ArcsAt}
+use Rattle.quotient.specs.Gathered.{Gathered}
 use Rattle.quotient.proofs.NameSets.{bit-nameSet}
-use Rattle.quotient.proofs.TreeArcs.{TreeArc, label-low, transition-number, number-transition, one-target}
+use Rattle.indexed.proofs.TreeArcs.{TreeArc, label-low, transition-number, number-transition, one-target, from-low, name-low}
 
 -- some tree arc into a state before v leaves group g by name a
 pub record Leaves (v : ℕ) (parents names groups : List ℕ) (g a : ℕ) : Type 0 where
@@ -40,17 +42,6 @@ pub record GatheredUpTo (v : ℕ) (parents names groups work next : List ℕ) : 
       (w : ℕ) → 0 < w → w < v → w < length groups →
       cellAt work (getD groups (getD parents w 0) 0) (getD names w 0) ≡ getD groups w 0
   pub in-sets : (g a : ℕ) → g < length groups → (bit a (getD next g 0) ≡ 1) ↔ Leaves v parents names groups g a
-
--- what the pass reads at the arc to v stands in the arrays, and is in range
-pub record ArcHere (parents names groups : List ℕ) (v : ℕ) : Type 0 where
-  pub few : length groups ≤ state-limit
-  pub inside : v < length groups
-  pub in-parents : v < length parents
-  pub in-names : v < length names
-  pub parent-below : getD parents v 0 < length groups
-  pub from-below : getD groups (getD parents v 0) 0 < length groups
-  pub into-below : getD groups v 0 < length groups
-  pub name-below : getD names v 0 < name-limit
 
 -- nothing gathered yet
 pub gather-start :
@@ -73,32 +64,6 @@ gather-start parents names groups work next₀ next room fits e =
         ap (λ (l : List ℕ). bit a (getD l g 0)) e ∙ ap (bit a) (getD-replicate (length next₀) g 0 0 low) ∙ bit-zero a
 
 module _ (rows : List Word) (parents names groups : List ℕ) (joined : Joined rows parents names groups) where
-  -- where the arc into a state goes from, and what its name is, fits
-  from-low : (v : ℕ) → 0 < v → v < length groups → getD groups (getD parents v 0) 0 < length groups
-  from-low v pos h =
-      let size : length groups ≡ length (treeOf rows) = joined .labels .size in
-      let below : getD parents v 0 < v = joined .tree .parent-before v pos (omega arith) in
-      omega (arith, label-low (joined .labels) (getD parents v 0) (omega arith))
-
-  name-low : (v : ℕ) → 0 < v → v < length groups → getD names v 0 < name-limit
-  name-low v pos h =
-      let size : length groups ≡ length (treeOf rows) = joined .labels .size in
-      joined .tree .name-below v pos (omega arith)
-
-  pub arc-here : (v : ℕ) → 0 < v → v < length groups → ArcHere parents names groups v
-  arc-here v pos h =
-      let size = joined .labels .size in
-      record {
-        few = omega (arith, joined .few);
-        inside = h;
-        in-parents = omega (arith, joined .tree .parents-size);
-        in-names = omega (arith, joined .tree .names-size);
-        parent-below = omega (arith, joined .tree .parent-before v pos (omega arith));
-        from-below = from-low v pos h;
-        into-below = omega (arith, label-low (joined .labels) v (omega arith));
-        name-below = name-low v pos h;
-      }
-
   -- one more tree arc
   module _ (v : ℕ) (work next : List ℕ) (pos : 0 < v) (inside : v < length groups)
       (before : GatheredUpTo v parents names groups work next) where
@@ -124,10 +89,11 @@ module _ (rows : List Word) (parents names groups : List ℕ) (joined : Joined r
             ((getD groups (getD parents w 0) 0 ≡ from) → (getD names w 0 ≡ name) → ⊥) →
             cellAt now (getD groups (getD parents w 0) 0) (getD names w 0) ≡ getD groups w 0
         kept d =
-            let other : w ≡ v → ⊥ = λ e. d (ap (λ (k : ℕ). getD groups (getD parents k 0) 0) e) (ap (λ (k : ℕ). getD names k 0) e) in
+            let other : w ≡ v → ⊥ =
+            λ e. d (ap (λ (k : ℕ). getD groups (getD parents k 0) 0) e) (ap (λ (k : ℕ). getD names k 0) e) in
             let early : w < v = omega (arith, other) in
             cell-other work from name (getD groups v 0) (getD groups (getD parents w 0) 0) (getD names w 0)
-            (name-low v pos inside) (name-low w pw lw) d
+            (name-low rows parents names groups joined v pos inside) (name-low rows parents names groups joined w pw lw) d
             ∙ before .in-cells w pw early lw
 
         go :
@@ -138,9 +104,10 @@ module _ (rows : List Word) (parents names groups : List ℕ) (joined : Joined r
         go (inl e) (inr d) = kept (λ f g. d g)
         go (inl e) (inl f) =
             let few : length (treeOf rows) ≤ state-limit = joined .few in
-            let row-low : from < length groups = from-low v pos inside in
+            let row-low : from < length groups = from-low rows parents names groups joined v pos inside in
             ap (λ (k : ℕ). cellAt now k (getD names w 0)) e ∙ ap (cellAt now from) f
-            ∙ cell-same work from name (getD groups v 0) (omega arith) (name-low v pos inside) (before .work-size)
+            ∙ cell-same work from name (getD groups v 0) (omega arith) (name-low rows parents names groups joined v pos inside)
+            (before .work-size)
             ∙ sym (joined .forks w v pw pos (omega arith) (omega arith) f e)
 
     sets-then :
@@ -195,7 +162,7 @@ module _ (rows : List Word) (parents names groups : List ℕ) (joined : Joined r
             )
         go (inl e) =
             let fits : length groups ≤ length next = before .next-size in
-            let row-low : from < length groups = from-low v pos inside in
+            let row-low : from < length groups = from-low rows parents names groups joined v pos inside in
             let same : getD now g 0 ≡ bitOr (getD next g 0) (2 ^ name) =
             ap (λ (k : ℕ). getD now k 0) e ∙ getD-set-same next from (bitOr (getD next from 0) (2 ^ name)) 0 (omega arith)
             ∙ ap (λ (k : ℕ). bitOr (getD next k 0) (2 ^ name)) (sym e) in

@@ -1,10 +1,7 @@
--- The laws behind the quotient, in order: sets of names; lists filled; arcs taken one by one from a set; tree arcs by number; the passes
--- that gather arcs and mark accepting groups; groups met; bytes written piece by piece; the states' fields. Assumes nothing.
+-- The laws behind the quotient, in order: sets of names; the passes that gather arcs and sum ends; groups met; the states' fields.
+-- Assumes nothing.
 pub mod NameSets
-pub mod ArcSets
-pub mod TreeArcs
 pub mod ArcPass
-pub mod AcceptPass
+pub mod EndsPass
 pub mod MetLaws
-pub mod BytesLeft
 pub mod StatePieces

@@ -24,23 +24,26 @@ use Rattle.model.proofs.Meeting.{metWith-grown}
 use Rattle.model.proofs.FirstMet.{met-few}
 use Rattle.model.proofs.MetOrder.{metFrom-appends, metFrom-ends, metFrom-step}
 use Rattle.base.specs.Cells.{cellAt}
-use Rattle.quotient.specs.Gathered.{ArcsAt, Gathered}
+use Rattle.indexed.specs.ArcCells.{ArcsAt}
+use Rattle.quotient.specs.Gathered.{Gathered}
 use Rattle.quotient.specs.Numbered.{MetAs, MeetingOne, Meeting}
-use Rattle.quotient.proofs.ArcSets.{arcs-more, arcs-done}
-use Rattle.quotient.proofs.TreeArcs.{labels-fit, label-low, root-group, tree-some}
+use Rattle.indexed.proofs.ArcSets.{arcs-more, arcs-done}
+use Rattle.indexed.proofs.TreeArcs.{labels-fit, label-low, root-group, tree-some}
 
 -- ---- one target
 
 -- the i-th group met
-pub met-nth : {n : ℕ} {met numbers : List ℕ} {count : ℕ} (seen : List ℕ) → MetAs n met numbers count seen → (i : ℕ) → i < count →
-    getD met i 0 ≡ getD seen i 0
+pub met-nth :
+    {n : ℕ} {met numbers : List ℕ} {count : ℕ} (seen : List ℕ) → MetAs n met numbers count seen → (i : ℕ) →
+    i < count → getD met i 0 ≡ getD seen i 0
 met-nth {n} {met} {numbers} {count} seen r i h =
     let counted : count ≡ length seen = r .counted in
     sym (getD-take (length seen) met i 0 (omega arith)) ∙ ap (λ (l : List ℕ). getD l i 0) (r .listed)
 
 -- is a number of the groups
-pub met-low : {n : ℕ} {met numbers : List ℕ} {count : ℕ} (seen : List ℕ) → MetAs n met numbers count seen → (i : ℕ) → i < count →
-    getD met i 0 < n
+pub met-low :
+    {n : ℕ} {met numbers : List ℕ} {count : ℕ} (seen : List ℕ) → MetAs n met numbers count seen → (i : ℕ) →
+    i < count → getD met i 0 < n
 met-low {n} {met} {numbers} {count} seen r i h =
     let counted : count ≡ length seen = r .counted in
     subst (λ (g : ℕ). g < n) (sym (met-nth seen r i h)) (r .low (getD seen i 0) (nth-in 0 seen i (omega arith)))

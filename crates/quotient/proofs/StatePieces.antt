@@ -1,35 +1,37 @@
 -- The states' fields in pieces: arcs from a set one by one, a state's head and its arcs, and the states in first-met order; and how many
--- bytes they take. Assumes nothing.
+-- arcs they have. Assumes nothing.
 use mathlib.Core.Path.{_≡_, refl, sym, ap, ap₂, _∙_, subst}
 use mathlib.Core.Bool.{Bool}
 use mathlib.Core.List.{List, [], _∷_, _++_, map, flatMap, List·Memᴰ as In, List·Memᴰ·head as here, List·Memᴰ·tail as there}
-use Prim.Native.Nat.{ℕ, suc, _+_, _*_, _-_, _^_, _<_, _≤_}
+use Prim.Native.Nat.{ℕ, _+_, _*_, _-_, _^_, _<_, _≤_}
 use native.Mathlib.Numerals.{add-one}
 use native.Mathlib.Omega.{arith}
 use lib.Count.{ones, trailingZeros}
-use lib.Dec.{eqb}
+use lib.Dec.{ltb}
 use lib.ListN.{length, getD, drop, length-append, length-map, drop-of-length-le}
 use lib.Seq.{drop-cons}
 use Rattle.base.specs.Limits.{name-limit}
-use Rattle.base.specs.Lists.{indexIn}
+use Rattle.base.specs.Lists.{indexIn, total}
 use Rattle.model.specs.Classes.{Word}
-use Rattle.model.specs.Tables.{Arc, arc, State, state, fieldBytes, arcBytes, stateBody, stateFields}
+use Rattle.model.specs.Tables.{Arc, arc, State, state, arcCount, fieldBytes, arcBytes, stateBody, stateFields}
 use Rattle.model.specs.Joinings.{treeOf, transitionsOf, groupAccepts}
 use Rattle.model.specs.Quotients.{arcsOutOf, metGroups, renumbered, stateOf, statesOf}
 use Rattle.model.proofs.Arcs.{arcsOutOf-in}
 use Rattle.model.proofs.FirstMet.{met-closed, met-few}
 use Rattle.base.proofs.Places.{nth-in}
-use Rattle.model.proofs.StateBodies.{accepts-read, arc-bytes-length}
+use Rattle.model.proofs.StateBodies.{arc-bytes-length}
 use Rattle.model.proofs.Trees.{treeOf-tree}
 use Rattle.base.specs.Cells.{cellAt}
 use Rattle.writing.specs.Writing.{stateHead, arcPart}
-use Rattle.writing.proofs.Pieces.{state-bytes, state-bytes-length, arc-bytes-cons}
-use Rattle.quotient.specs.Gathered.{ArcsAt, Gathered}
+use Rattle.writing.proofs.Pieces.{state-bytes, arc-bytes-cons}
+use Rattle.counts.proofs.GroupSums.{group-accepts}
+use Rattle.indexed.specs.ArcCells.{ArcsAt}
+use Rattle.quotient.specs.Gathered.{Gathered}
 use Rattle.quotient.specs.Numbered.{MetAs}
 use Rattle.quotient.specs.Ready.{Ready, ArcsToWrite, StateToWrite}
-use Rattle.quotient.proofs.ArcSets.{arcs-more, arcs-done, arcs-counted}
+use Rattle.indexed.proofs.ArcSets.{arcs-more, arcs-done, arcs-counted}
 use Rattle.quotient.proofs.MetLaws.{met-nth, met-low}
-use Rattle.quotient.proofs.TreeArcs.{labels-fit}
+use Rattle.indexed.proofs.TreeArcs.{labels-fit}
 
 -- ---- arcs
 
@@ -105,27 +107,24 @@ module _ {work : List ℕ} {row set : ℕ} {numbers bytes : List ℕ} where
 -- ---- one state
 
 -- its head, and its arcs left, three bytes each
-pub record StateParts (work : List ℕ) (row set accepts : ℕ) (numbers bytes : List ℕ) : Type 0 where
+pub record StateParts (work : List ℕ) (row set : ℕ) (accepts : Bool) (numbers bytes : List ℕ) : Type 0 where
   pub rest : List ℕ
-  pub bytes-are : bytes ≡ stateHead (eqb accepts 1) (length rest) ++ rest
+  pub bytes-are : bytes ≡ stateHead accepts (length rest) ++ rest
   pub sized : length bytes ≡ 4 + length rest
   pub counted : length rest ≡ 3 * ones set
   pub arcs-left : ArcsToWrite work row set numbers rest
 
 pub state-parts :
-    {work : List ℕ} {row set accepts : ℕ} {numbers bytes : List ℕ} → StateToWrite work row set accepts numbers bytes →
+    {work : List ℕ} {row set : ℕ} {accepts : Bool} {numbers bytes : List ℕ} → StateToWrite work row set accepts numbers bytes →
     StateParts work row set accepts numbers bytes
 state-parts {work} {row} {set} {accepts} {numbers} {bytes} r =
     let arcs = renumbered (r .every) (r .arcs) in
-    let test : r .accepting ≡ eqb accepts 1 =
-    sym (accepts-read (r .accepting)) ∙ ap (λ (k : ℕ). eqb k 1) (sym (r .accepts-is)) in
     let rest = arcBytes arcs in
-    let whole : bytes ≡ stateHead (eqb accepts 1) (length rest) ++ rest =
-    r .bytes-are ∙ state-bytes (state (r .accepting) arcs) ∙ ap (λ (b : Bool). stateHead b (length rest) ++ rest) test in
+    let whole : bytes ≡ stateHead accepts (length rest) ++ rest = r .bytes-are ∙ state-bytes (state accepts arcs) in
     record {
       rest = rest;
       bytes-are = whole;
-      sized = ap length whole ∙ length-append (stateHead (eqb accepts 1) (length rest)) rest;
+      sized = ap length whole ∙ length-append (stateHead accepts (length rest)) rest;
       counted =
           omega (
             arith,
@@ -147,61 +146,49 @@ state-parts {work} {row} {set} {accepts} {numbers} {bytes} r =
 
 -- ---- all states
 
--- the fields of the states from number i on
-pub fieldsFrom : List Word → List ℕ → ℕ → List ℕ
-fieldsFrom rows groups i =
-    stateFields
-    (map (stateOf rows (treeOf rows) groups (metGroups (treeOf rows) groups)) (drop i (metGroups (treeOf rows) groups)))
+-- the state that group g becomes
+becomes : List Word → List ℕ → ℕ → State
+becomes rows groups g = stateOf rows (treeOf rows) groups (metGroups (treeOf rows) groups) g
+
+-- the states from number i on
+pub statesFrom : List Word → List ℕ → ℕ → List State
+statesFrom rows groups i = map (becomes rows groups) (drop i (metGroups (treeOf rows) groups))
+
+pub states-all : (rows : List Word) (groups : List ℕ) → statesFrom rows groups 0 ≡ statesOf rows (treeOf rows) groups
+unfolding statesFrom becomes statesOf
+states-all rows groups = refl
+
+states-more :
+    (rows : List Word) (groups : List ℕ) (i g : ℕ) → i < length (metGroups (treeOf rows) groups) →
+    g ≡ getD (metGroups (treeOf rows) groups) i 0 →
+    statesFrom rows groups i ≡ becomes rows groups g ∷ statesFrom rows groups (i + 1)
+unfolding statesFrom
+states-more rows groups i g h e =
+    let every = metGroups (treeOf rows) groups in
+    ap (map (becomes rows groups)) (drop-cons every i 0 h)
+    ∙ ap₂ (λ (x j : ℕ). becomes rows groups x ∷ map (becomes rows groups) (drop j every)) (sym e) (sym (add-one i))
+
+pub states-none :
+    (rows : List Word) (groups : List ℕ) (i : ℕ) → length (metGroups (treeOf rows) groups) ≤ i → statesFrom rows groups i ≡ []
+unfolding statesFrom
+states-none rows groups i h = ap (map (becomes rows groups)) (drop-of-length-le (metGroups (treeOf rows) groups) h)
 
 -- the field of the state that group g becomes
 pub fieldOf : List Word → List ℕ → ℕ → List ℕ
-fieldOf rows groups g = fieldBytes 4 (stateBody (stateOf rows (treeOf rows) groups (metGroups (treeOf rows) groups) g))
-
-fields-cons : (s : State) (states : List State) → stateFields (s ∷ states) ≡ fieldBytes 4 (stateBody s) ++ stateFields states
-unfolding stateFields flatMap
-fields-cons s states = refl
-
-no-fields : stateFields [] ≡ []
-unfolding stateFields flatMap
-no-fields = refl
-
-pub fields-all : (rows : List Word) (groups : List ℕ) → fieldsFrom rows groups 0 ≡ stateFields (statesOf rows (treeOf rows) groups)
-unfolding fieldsFrom statesOf
-fields-all rows groups = refl
+fieldOf rows groups g = fieldBytes 4 (stateBody (becomes rows groups g))
 
 pub fields-more :
     (rows : List Word) (groups : List ℕ) (i g : ℕ) → i < length (metGroups (treeOf rows) groups) →
     g ≡ getD (metGroups (treeOf rows) groups) i 0 →
-    fieldsFrom rows groups i ≡ fieldOf rows groups g ++ fieldsFrom rows groups (i + 1)
-unfolding fieldsFrom fieldOf
-fields-more rows groups i g h e =
-    let every = metGroups (treeOf rows) groups in
-    let becomes = stateOf rows (treeOf rows) groups every in
-    ap (λ (l : List ℕ). stateFields (map becomes l)) (drop-cons every i 0 h)
-    ∙ fields-cons (becomes (getD every i 0)) (map becomes (drop (suc i) every))
-    ∙ ap₂ (λ (x j : ℕ). fieldBytes 4 (stateBody (becomes x)) ++ stateFields (map becomes (drop j every))) (sym e) (sym (add-one i))
+    stateFields (statesFrom rows groups i) ≡ fieldOf rows groups g ++ stateFields (statesFrom rows groups (i + 1))
+unfolding fieldOf stateFields flatMap
+fields-more rows groups i g h e = ap stateFields (states-more rows groups i g h e)
 
 pub fields-none :
-    (rows : List Word) (groups : List ℕ) (i : ℕ) → length (metGroups (treeOf rows) groups) ≤ i → fieldsFrom rows groups i ≡ []
-unfolding fieldsFrom
-fields-none rows groups i h =
-    let every = metGroups (treeOf rows) groups in
-    ap (λ (l : List ℕ). stateFields (map (stateOf rows (treeOf rows) groups every) l)) (drop-of-length-le every h) ∙ no-fields
-
--- how many bytes a state's field takes
-pub field-length :
-    (rows : List Word) (groups work next : List ℕ) → Gathered rows groups work next → (g : ℕ) → g < length (treeOf rows) →
-    length (fieldOf rows groups g) ≡ 4 + 3 * ones (getD next g 0)
-unfolding fieldOf stateOf
-field-length rows groups work next gathered g low =
-    let every = metGroups (treeOf rows) groups in
-    let arcs = arcsOutOf g (transitionsOf (treeOf rows) groups) in
-    omega (
-      arith,
-      state-bytes-length (state (groupAccepts rows (treeOf rows) groups g) (renumbered every arcs)),
-      renumbered-length every arcs,
-      arcs-counted arcs (gathered .arcs-at g low),
-    )
+    (rows : List Word) (groups : List ℕ) (i : ℕ) → length (metGroups (treeOf rows) groups) ≤ i →
+    stateFields (statesFrom rows groups i) ≡ []
+unfolding stateFields flatMap
+fields-none rows groups i h = ap stateFields (states-none rows groups i h)
 
 -- there are no more states than the tree has
 pub count-low :
@@ -214,24 +201,27 @@ count-low rows groups work next met numbers count r m =
       m .counted,
     )
 
--- one more state counted
-pub sized-more :
-    (rows : List Word) (groups work next : List ℕ) → Gathered rows groups work next → (i g total arcs : ℕ) →
+-- the arcs of one more state counted
+pub arcs-count-more :
+    (rows : List Word) (groups work next : List ℕ) → Gathered rows groups work next → (i g arcs : ℕ) →
     i < length (metGroups (treeOf rows) groups) → g ≡ getD (metGroups (treeOf rows) groups) i 0 → g < length (treeOf rows) →
-    arcs ≡ ones (getD next g 0) →
-    total + length (fieldsFrom rows groups i) ≡ length (stateFields (statesOf rows (treeOf rows) groups)) →
-    total + (4 + 3 * arcs) + length (fieldsFrom rows groups (i + 1)) ≡ length (stateFields (statesOf rows (treeOf rows) groups))
-sized-more rows groups work next gathered i g total arcs h e low f before =
-    omega (
-      arith,
-      ap length (fields-more rows groups i g h e),
-      length-append (fieldOf rows groups g) (fieldsFrom rows groups (i + 1)),
-      field-length rows groups work next gathered g low,
-    )
+    arcs ≡ ones (getD next g 0) → arcCount (statesFrom rows groups i) ≡ arcs + arcCount (statesFrom rows groups (i + 1))
+unfolding arcCount total becomes stateOf
+arcs-count-more rows groups work next gathered i g arcs h e low f =
+    let out = arcsOutOf g (transitionsOf (treeOf rows) groups) in
+    ap arcCount (states-more rows groups i g h e)
+    ∙ ap (λ (n : ℕ). n + arcCount (statesFrom rows groups (i + 1)))
+    (renumbered-length (metGroups (treeOf rows) groups) out ∙ sym (arcs-counted out (gathered .arcs-at g low)) ∙ sym f)
+
+pub arcs-count-none :
+    (rows : List Word) (groups : List ℕ) (i : ℕ) → length (metGroups (treeOf rows) groups) ≤ i →
+    arcCount (statesFrom rows groups i) ≡ 0
+unfolding arcCount total
+arcs-count-none rows groups i h = ap arcCount (states-none rows groups i h)
 
 -- the state of the i-th group met, ready to be written
-module _ (rows : List Word) (groups work next accepting met numbers : List ℕ) (count : ℕ)
-    (ready : Ready rows groups work next accepting met numbers count) where
+module _ (rows : List Word) (groups work next sums met numbers : List ℕ) (count : ℕ)
+    (ready : Ready rows groups work next sums met numbers count) where
   every-placed :
       (g : ℕ) → In g (metGroups (treeOf rows) groups) → (a : Arc) → In a (arcsOutOf g (transitionsOf (treeOf rows) groups)) →
       getD numbers (a .to) 0 ≡ indexIn (a .to) (metGroups (treeOf rows) groups)
@@ -242,25 +232,24 @@ module _ (rows : List Word) (groups work next accepting met numbers : List ℕ) 
       (ready .gathered .deterministic) g (a .name) (a .to) m (arcsOutOf-in g (a .name) (a .to) ts k))
 
   pub state-ready :
-      (i g set accepts : ℕ) → i < count → g ≡ getD met i 0 → set ≡ getD next g 0 → accepts ≡ getD accepting g 0 →
-      StateToWrite work g set accepts numbers (fieldOf rows groups g)
-  unfolding fieldOf stateOf
-  state-ready i g set accepts h e f k =
+      (i g : ℕ) → i < count → g ≡ getD met i 0 →
+      StateToWrite work g (getD next g 0) (ltb 0 (getD sums g 0)) numbers (fieldOf rows groups g)
+  unfolding fieldOf becomes stateOf
+  state-ready i g h e =
       let every = metGroups (treeOf rows) groups in
       let counted : count ≡ length every = ready .numbered .counted in
       let g-is : g ≡ getD every i 0 = e ∙ met-nth every (ready .numbered) i h in
       let g-low : g < length (treeOf rows) = omega (arith, met-low every (ready .numbered) i h) in
       let g-met : In g every = subst (λ (x : ℕ). In x every) (sym g-is) (nth-in 0 every i (omega arith)) in
       let arcs = arcsOutOf g (transitionsOf (treeOf rows) groups) in
+      let accepts : groupAccepts rows (treeOf rows) groups g ≡ ltb 0 (getD sums g 0) =
+      group-accepts rows groups (ready .gathered .labels) g ∙ ap (ltb 0) (sym (ready .summed .each g g-low)) in
       record {
         size = length (treeOf rows);
         every = every;
         arcs = arcs;
-        accepting = groupAccepts rows (treeOf rows) groups g;
-        at-row =
-            subst (λ (s : ℕ). ArcsAt (length (treeOf rows)) work g s arcs) (sym f) (ready .gathered .arcs-at g g-low);
+        at-row = ready .gathered .arcs-at g g-low;
         numbers-size = ready .numbered .numbers-size;
         placed = every-placed g g-met;
-        accepts-is = k ∙ ready .marked .each g g-low;
-        bytes-are = refl;
+        bytes-are = ap (λ (b : Bool). fieldBytes 4 (stateBody (state b (renumbered every arcs)))) accepts;
       }

@@ -9,7 +9,7 @@ use Rattle.base.specs.Limits.{state-limit}
 use Rattle.base.specs.Lists.{isIn, indexIn}
 use Rattle.model.specs.Tables.{Arc}
 use Rattle.model.specs.Quotients.{metWith}
-use Rattle.quotient.specs.Gathered.{ArcsAt}
+use Rattle.indexed.specs.ArcCells.{ArcsAt}
 
 -- of n groups these are met, in this order: each has its place as number, and every other group `state-limit`
 pub record MetAs (n : ℕ) (met numbers : List ℕ) (count : ℕ) (seen : List ℕ) : Type 0 where

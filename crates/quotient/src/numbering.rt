@@ -1,31 +1,20 @@
 // First-met numbers of groups: the root's group is 0; groups are taken in ascending number and their arcs in ascending name, and each
-// new target has the next number. The bytes of the states' fields are counted on the way.
+// new target has the next number. The arcs are counted on the way.
 use crate::Quotient;
+use crate::filling::fill;
 use base::cells::cell;
 use base::limits::NO_STATE;
 use base::numbers::narrow16;
 use base::numbers::wide16;
 use base::sets;
-ghost use mathlib.Core.Path.{_≡_};
 ghost use mathlib.Core.List.{List};
 ghost use Prim.Native.Nat.{ℕ, _<_, _≤_};
-ghost use lib.ListN.{length, replicate};
+ghost use lib.ListN.{length};
 ghost use Rattle.model.specs.Classes.{Word};
 ghost use Rattle.base.specs.Limits.{state-limit, work-bytes};
 ghost use Rattle.quotient.specs.Gathered.{Gathered};
 ghost use Rattle.quotient.specs.Numbered.{MetAs, MeetingOne, Meeting};
 ghost use Rattle.quotient.specs.Ready.{NumberedStates};
-
-// No group met yet.
-fn none_met(numbers: &mut [u16])
-    ensures { λ _. ⌜ now (numbers .exit) ≡ replicate (length (now (numbers .entry))) state-limit ⌝ }
-{
-    let mut i = 0;
-    while i < numbers.len() {
-        numbers[i] = NO_STATE;
-        i += 1;
-    }
-}
 
 // Meets a group: it gets the next number, unless it has one. Returns how many are met.
 fn meet_one(met: &mut [u16], numbers: &mut [u16], count: usize, target: usize) -> usize
@@ -68,7 +57,7 @@ fn meet(
     reached
 }
 
-// Meets every group, from the root's on. A state's field takes four bytes, and three for each arc.
+// Meets every group, from the root's on, and counts the arcs out of them.
 pub fn number(
     groups: &[u16],
     work: &[u8],
@@ -79,21 +68,21 @@ pub fn number(
     requires { ⌜ ((rows : List Word) × Gathered rows (now groups) (now work) (now next)) ⌝ }
     requires { ⌜ (length (now groups) ≤ length (now met)) × (length (now groups) ≤ length (now numbers)) ⌝ }
     ensures { λ r. ⌜ ((rows : List Word) → Gathered rows (now (groups .entry)) (now (work .entry)) (now (next .entry)) →
-        NumberedStates rows (now (groups .entry)) (now (met .exit)) (now (numbers .exit)) (r .states) (r .bytes)) ⌝ }
+        NumberedStates rows (now (groups .entry)) (now (met .exit)) (now (numbers .exit)) (r .states) (r .arcs)) ⌝ }
 {
-    none_met(numbers);
+    fill(numbers, NO_STATE);
     let mut count = meet_one(met, numbers, 0, wide16(groups[0]));
-    let mut bytes = 0;
+    let mut arcs = 0;
     let mut i = 0;
     while i < count {
         let g = wide16(met[i]);
         let names = next[g];
         count = meet(work, g, names, met, numbers, count);
-        bytes += 4 + 3 * sets::how_many(names);
+        arcs += sets::how_many(names);
         i += 1;
     }
     Quotient {
         states: count,
-        bytes: bytes,
+        arcs: arcs,
     }
 }

@@ -56,7 +56,7 @@ fn write_state(
     work: &[u8],
     row: usize,
     names: u64,
-    accepts: u8,
+    accepts: bool,
     numbers: &[u16],
     out: &mut [u8],
     at: usize,
@@ -68,7 +68,7 @@ fn write_state(
 {
     let start = at + 4;
     let end = write_arcs(work, row, names, numbers, out, start);
-    put_state(out, at, accepts == 1, end - start);
+    put_state(out, at, accepts, end - start);
     end
 }
 
@@ -77,7 +77,7 @@ fn write_state(
 pub fn write_states(
     work: &[u8],
     next: &[u64],
-    accepting: &[u8],
+    sums: &[u16],
     met: &[u16],
     numbers: &[u16],
     count: usize,
@@ -85,17 +85,17 @@ pub fn write_states(
     at: usize,
 ) -> usize
     requires { ⌜ ((rows : List Word) × (groups : List ℕ)
-        × Ready rows groups (now work) (now next) (now accepting) (now met) (now numbers) count
+        × Ready rows groups (now work) (now next) (now sums) (now met) (now numbers) count
         × Fits (now out) at (stateFields (statesOf rows (treeOf rows) groups))) ⌝ }
     ensures { λ r. ⌜ ((rows : List Word) → (groups : List ℕ) →
-        Ready rows groups (now (work .entry)) (now (next .entry)) (now (accepting .entry)) (now (met .entry)) (now (numbers .entry)) count →
+        Ready rows groups (now (work .entry)) (now (next .entry)) (now (sums .entry)) (now (met .entry)) (now (numbers .entry)) count →
         Put (now (out .entry)) (now (out .exit)) at (stateFields (statesOf rows (treeOf rows) groups)) r) ⌝ }
 {
     let mut end = at;
     let mut i = 0;
     while i < count {
         let g = wide16(met[i]);
-        end = write_state(work, g, next[g], accepting[g], numbers, out, end);
+        end = write_state(work, g, next[g], 0 < sums[g], numbers, out, end);
         i += 1;
     }
     end

@@ -1,6 +1,7 @@
--- What the public entries say (docs/SCOPE.md, sections 4, 5, 8 and 11): each entry is one call in the shape of model's Calls, so that its
--- result and every lent byte are equal to what a definition of `model` or `written_plans` gives. Assumes nothing.
+-- What the public entries say (docs/SCOPE.md, sections 4, 5, 8, 11 and 12): each entry is one call in the shape of model's Calls, so that
+-- its result and every lent byte are equal to what a definition of `model`, `counts` or `written_plans` gives. Assumes nothing.
 use mathlib.Core.Path.{_≡_}
+use mathlib.Core.Bool.{Bool, true}
 use mathlib.Core.List.{List, [], _∷_}
 use Prim.Native.Nat.{ℕ}
 use lib.Dec.{leb}
@@ -13,7 +14,9 @@ use Rattle.model.specs.Calls.{Call, Says, over, unless}
 use Rattle.model.specs.Calls.{bookOf, buildFault, joinsOf, distinctOf, tableFault, rewritten, walkFault, tableStates}
 use Rattle.model.specs.Listing.{bookListing, listingOf}
 use Rattle.written_plans.specs.Calls.{planReading, planRows, planFault}
+use Rattle.counts.specs.Counts.{countsIf}
 use Rattle.results.specs.declared.Built.{Built}
+use Rattle.results.specs.declared.Counted.{Counted}
 use Rattle.results.specs.declared.Rewritten.{Rewritten}
 use Rattle.results.specs.declared.Walked.{Walked}
 use Rattle.results.specs.declared.Written.{Written}
@@ -45,6 +48,47 @@ building settings book work =
 -- the result
 abbrev pub BuildSays : Settings → List ℕ → List ℕ → List ℕ → List ℕ → List ℕ → Built → Type 0
 BuildSays settings book work work′ out out′ r = Says (building settings book work) work work′ (out ∷ []) (out′ ∷ []) r
+
+-- ---- a table built with its counts
+
+-- a result by its parts
+abbrev pub counted : ℕ → ℕ → ℕ → ℕ → ℕ → ℕ → Counted
+counted refusal length states joins distinct counts =
+    record {
+      refusal = refusal;
+      length = length;
+      states = states;
+      joins = joins;
+      distinct = distinct;
+      «counts_length» = counts;
+    }
+
+-- a refused build gives its number, no table and no counts
+abbrev pub not-counted : ℕ → Counted
+not-counted refusal = counted refusal 0 0 0 0 0
+
+-- the same result without the counts
+abbrev pub uncounted : Counted → Built
+uncounted r = built (r .refusal) (r .length) (r .states) (r .joins) (r .distinct)
+
+-- the table of a book built with these settings, and its counts where they are wanted: what is said of the table is as `building` says
+-- it, and the counts are what the rows' walks over the table give
+unfoldable pub buildingCounted : Settings → Bool → List ℕ → List ℕ → Call Counted
+buildingCounted settings wanted book work =
+    let f = bookOf settings book in
+    let counts = countsIf wanted (bookStates f) (f .items) in
+    record {
+      refusal = buildFault settings book work;
+      none = not-counted;
+      answer = counted 0 (length (bookTable f)) (length (bookStates f)) (joinsOf f) (distinctOf f) (length counts);
+      writes = bookTable f ∷ (counts ∷ []);
+    }
+
+-- what an entry that builds with counts promises, build_counted with the standard settings: both outputs before and after, and the result
+abbrev pub CountedSays :
+    Settings → List ℕ → List ℕ → List ℕ → List ℕ → List ℕ → List ℕ → List ℕ → Counted → Type 0
+CountedSays settings book work work′ out out′ counts counts′ r =
+    Says (buildingCounted settings true book work) work work′ (out ∷ (counts ∷ [])) (out′ ∷ (counts′ ∷ [])) r
 
 -- ---- a table rewritten
 

@@ -1,6 +1,6 @@
 // What the public entries give back, in Rattle and C alike.
 ghost use mathlib.Core.Path.{_≡_};
-ghost use Rattle.results.specs.Says.{not-built, not-rewritten, not-walked, not-written, plan-rows};
+ghost use Rattle.results.specs.Says.{not-counted, uncounted, not-rewritten, not-walked, not-written, plan-rows};
 
 // What a build gives back: its refusal or 0, then the table's length in bytes, its states, the joins, tree states less table states,
 // and how many different rows the book has.
@@ -11,6 +11,17 @@ pub struct Built {
     pub states: u32,
     pub joins: u32,
     pub distinct: u32,
+}
+
+// What a build with counts gives back: the same, and the length of the counts in bytes.
+#[repr(C)]
+pub struct Counted {
+    pub refusal: u8,
+    pub length: u32,
+    pub states: u32,
+    pub joins: u32,
+    pub distinct: u32,
+    pub counts_length: u32,
 }
 
 // What a rewriting gives back: its refusal or 0, then the table's length in bytes and its states.
@@ -49,16 +60,30 @@ pub struct PlanRows {
     pub at: u32,
 }
 
-// A refused build: no table, no states, no joins, no rows.
-pub fn not_built(refusal: u8) -> Built
-    ensures { λ r. ⌜ r ≡ not-built refusal ⌝ }
+// A refused build: no table, no states, no joins, no rows, no counts.
+pub fn not_counted(refusal: u8) -> Counted
+    ensures { λ r. ⌜ r ≡ not-counted refusal ⌝ }
 {
-    Built {
+    Counted {
         refusal: refusal,
         length: 0,
         states: 0,
         joins: 0,
         distinct: 0,
+        counts_length: 0,
+    }
+}
+
+// What a build gives back, from what one with counts does.
+pub fn as_built(counted: Counted) -> Built
+    ensures { λ r. ⌜ r ≡ uncounted counted ⌝ }
+{
+    Built {
+        refusal: counted.refusal,
+        length: counted.length,
+        states: counted.states,
+        joins: counted.joins,
+        distinct: counted.distinct,
     }
 }
 

@@ -1,6 +1,6 @@
--- Lists of first accepting states, by the buckets of their values: the bucket of a value, the states in a list, all lists of the
--- first states, a state put into its list, the first accepting state with a value, and the group that it gives a state. Assumes
--- nothing.
+-- Lists of first accepting states, those in which rows end, by the buckets of their values: the bucket of a value, the states in a
+-- list, all lists of the first states, a state put into its list, the first accepting state with a value, and the group that it
+-- gives a state. Assumes nothing.
 use mathlib.Core.Path.{_≡_}
 use mathlib.Core.List.{List}
 use Prim.Native.Nat.{ℕ, _+_, _*_, _/_, _<_, _≤_}
@@ -16,20 +16,20 @@ bucketOf value =
 
 -- the states in the list of a bucket: each is the first accepting state with its value
 abbrev pub Listed : List ℕ → List ℕ → ℕ → ℕ → Type 0
-Listed accepts values b u =
-    (getD accepts u 0 ≡ 1) × (bucketOf (getD values u 0) ≡ b)
-    × ((k : ℕ) → k < u → getD accepts k 0 ≡ 1 → getD values k 0 ≡ getD values u 0 → ⊥)
+Listed ends values b u =
+    (0 < getD ends u 0) × (bucketOf (getD values u 0) ≡ b)
+    × ((k : ℕ) → k < u → 0 < getD ends k 0 → getD values k 0 ≡ getD values u 0 → ⊥)
 
 -- the lists of the first i states, in arrays of 512
-pub record Buckets (accepts values : List ℕ) (i : ℕ) (links heads : List ℕ) : Type 0 where
+pub record Buckets (ends values : List ℕ) (i : ℕ) (links heads : List ℕ) : Type 0 where
   pub links-size : length links ≡ state-limit
   pub heads-size : length heads ≡ state-limit
-  pub chained : Chained i (Listed accepts values) links heads
+  pub chained : Chained i (Listed ends values) links heads
 
 -- the same, whichever states accept: what a search needs in order to end
 pub record SomeBuckets (values : List ℕ) (i : ℕ) (links heads : List ℕ) : Type 0 where
-  pub accepts : List ℕ
-  pub buckets : Buckets accepts values i links heads
+  pub ends : List ℕ
+  pub buckets : Buckets ends values i links heads
 
 -- state v put at the end of list b where it is the first with its value, else nothing
 pub record Linked (b v first : ℕ) (links heads links′ heads′ : List ℕ) : Type 0 where
@@ -37,18 +37,18 @@ pub record Linked (b v first : ℕ) (links heads links′ heads′ : List ℕ) :
   pub kept : (first ≡ v → ⊥) → (links′ ≡ links) × (heads′ ≡ heads)
 
 -- the first accepting state with the value of v
-pub record FirstEnd (accepts values : List ℕ) (v answer : ℕ) : Type 0 where
+pub record FirstEnd (ends values : List ℕ) (v answer : ℕ) : Type 0 where
   pub low : answer ≤ v
-  pub accepting : getD accepts answer 0 ≡ 1
+  pub accepting : 0 < getD ends answer 0
   pub alike : getD values answer 0 ≡ getD values v 0
-  pub first : (u : ℕ) → u < answer → getD accepts u 0 ≡ 1 → getD values u 0 ≡ getD values v 0 → ⊥
+  pub first : (u : ℕ) → u < answer → 0 < getD ends u 0 → getD values u 0 ≡ getD values v 0 → ⊥
 
 -- the group of v: that state where v accepts, v itself otherwise
-pub record EndLabel (accepts values : List ℕ) (v answer : ℕ) : Type 0 where
-  pub end : getD accepts v 0 ≡ 1 → FirstEnd accepts values v answer
-  pub other : (getD accepts v 0 ≡ 1 → ⊥) → answer ≡ v
+pub record EndLabel (ends values : List ℕ) (v answer : ℕ) : Type 0 where
+  pub end : 0 < getD ends v 0 → FirstEnd ends values v answer
+  pub other : getD ends v 0 ≡ 0 → answer ≡ v
 
 -- what a search of the lists finds for v, whichever states accept, where v does and the lists are theirs
 pub record FirstAlike (values : List ℕ) (v : ℕ) (links heads : List ℕ) (answer : ℕ) : Type 0 where
   pub first :
-      (accepts : List ℕ) → getD accepts v 0 ≡ 1 → Buckets accepts values v links heads → FirstEnd accepts values v answer
+      (ends : List ℕ) → 0 < getD ends v 0 → Buckets ends values v links heads → FirstEnd ends values v answer

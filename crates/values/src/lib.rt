@@ -1,7 +1,7 @@
-// Groups of states by a value that each of them has, a set or a code of names: accepting states with one value are joined, each
-// by the first of them, and every other state is by itself; where all accept, these are the classes of equal values. The first
-// accepting states of values are kept in 512 lists, each value in the list of its bucket, so that a state is compared with few
-// others.
+// Groups of states by a value that each of them has, a set or a code of names. A state accepts where rows end in it; how many, an
+// array says for each state. Accepting states with one value are joined, each by the first of them, and every other state is by
+// itself; where all accept, these are the classes of equal values. The first accepting states of values are kept in 512 lists, each
+// value in the list of its bucket, so that a state is compared with few others.
 use base::limits::STATE_LIMIT;
 use base::numbers;
 ghost use mathlib.Core.Path.{_≡_};
@@ -74,21 +74,21 @@ fn link(
 
 // The group of state v, by the lists of the states before it, into which it is put where it is the first with its value.
 fn end_label(
-    accepts: &[u8],
+    ends: &[u16],
     values: &[u64],
     links: &mut [u16; STATE_LIMIT],
     heads: &mut [u16; STATE_LIMIT],
     v: usize,
 ) -> usize
     requires few { ⌜ length (now values) ≤ state-limit ⌝ }
-    requires accepts_size { ⌜ length (now accepts) ≡ length (now values) ⌝ }
+    requires ends_size { ⌜ length (now ends) ≡ length (now values) ⌝ }
     requires inside { ⌜ v < length (now values) ⌝ }
-    requires so_far { ⌜ Buckets (now accepts) (now values) v (now links) (now heads) ⌝ }
-    ensures label { λ r. ⌜ EndLabel (now (accepts .entry)) (now (values .entry)) v r ⌝ }
+    requires so_far { ⌜ Buckets (now ends) (now values) v (now links) (now heads) ⌝ }
+    ensures label { λ r. ⌜ EndLabel (now (ends .entry)) (now (values .entry)) v r ⌝ }
     ensures with_it { λ _.
-        ⌜ Buckets (now (accepts .entry)) (now (values .entry)) (v + 1) (now (links .exit)) (now (heads .exit)) ⌝ }
+        ⌜ Buckets (now (ends .entry)) (now (values .entry)) (v + 1) (now (links .exit)) (now (heads .exit)) ⌝ }
 {
-    if accepts[v] != 1 {
+    if ends[v] == 0 {
         return v;
     }
     let b = bucket(values[v]);
@@ -98,12 +98,12 @@ fn end_label(
 }
 
 // Joins the accepting states of each value, and no others; true where any state was joined to an earlier one.
-pub fn by_ends(accepts: &[u8], values: &[u64], groups: &mut [u16]) -> bool
+pub fn by_ends(ends: &[u16], values: &[u64], groups: &mut [u16]) -> bool
     requires few { ⌜ length (now groups) ≤ state-limit ⌝ }
-    requires accepts_size { ⌜ length (now accepts) ≡ length (now groups) ⌝ }
+    requires ends_size { ⌜ length (now ends) ≡ length (now groups) ⌝ }
     requires values_size { ⌜ length (now values) ≡ length (now groups) ⌝ }
     ensures ends { λ _.
-        ⌜ ByEnds (length (now (groups .entry))) (now (accepts .entry)) (now (values .entry)) (now (groups .exit)) ⌝ }
+        ⌜ ByEnds (length (now (groups .entry))) (now (ends .entry)) (now (values .entry)) (now (groups .exit)) ⌝ }
     ensures none { λ joined. ⌜ (joined ≡ false → Alone (length (now (groups .entry))) (now (groups .exit))) ⌝ }
 {
     let mut links = [0u16; STATE_LIMIT];
@@ -111,7 +111,7 @@ pub fn by_ends(accepts: &[u8], values: &[u64], groups: &mut [u16]) -> bool
     let mut joined = false;
     let mut v = 0;
     while v < groups.len() {
-        let label = end_label(accepts, values, &mut links, &mut heads, v);
+        let label = end_label(ends, values, &mut links, &mut heads, v);
         groups[v] = numbers::narrow16(label);
         joined = joined | (label != v);
         v += 1;
@@ -127,6 +127,6 @@ pub fn classes_of(values: &[u64], classes: &mut [u16]) -> bool
     ensures none { λ joined. ⌜ (joined ≡ false → Alone (length (now (classes .entry))) (now (classes .exit))) ⌝ }
 {
     let n = classes.len();
-    let all = [1u8; STATE_LIMIT];
+    let all = [1u16; STATE_LIMIT];
     by_ends(&all[..n], values, classes)
 }

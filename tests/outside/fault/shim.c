@@ -8,6 +8,10 @@
 plans_built real_plans_build(const uint8_t *book, size_t book_len,
                              uint8_t *work, size_t work_len,
                              uint8_t *out, size_t out_len);
+plans_counted real_plans_build_counted(const uint8_t *book, size_t book_len,
+                                       uint8_t *work, size_t work_len,
+                                       uint8_t *out, size_t out_len,
+                                       uint8_t *counts, size_t counts_len);
 plans_rewritten real_plans_rewrite(const uint8_t *table, size_t table_len,
                                    uint8_t *work, size_t work_len,
                                    uint8_t *out, size_t out_len);
@@ -83,6 +87,142 @@ plans_built plans_build(const uint8_t *book, size_t book_len,
     if (is("LONGEST_IN_BOOK") && built.refusal == PLANS_OK && has_longest(book, book_len))
         built.refusal = PLANS_BAD_ROW;
     return built;
+}
+
+/* The book without the rows that are copies of the row before, in a buffer of its own, which the caller frees. */
+static uint8_t *without_copies(const uint8_t *book, size_t book_len, size_t *length)
+{
+    uint8_t *copy = malloc(book_len + 1);
+    const uint8_t *before = NULL;
+
+    if (copy == NULL)
+        abort();
+    *length = 0;
+    for (size_t at = 0, field; at < book_len; at += field) {
+        field = 3 + (size_t)book[at + 2];
+        if (before != NULL && memcmp(before, book + at, field) == 0)
+            continue;
+        memcpy(copy + *length, book + at, field);
+        *length += field;
+        before = book[at] == PLANS_ROW_MARK ? book + at : NULL;
+    }
+    return copy;
+}
+
+/* The contents of a table's or a counts file's fields of one mark, by the number of the state. */
+static void contents(uint8_t *fields, size_t length, uint8_t mark, uint8_t *of_state[PLANS_STATE_LIMIT])
+{
+    for (size_t at = 0; at < length; at += 3 + (size_t)(fields[at + 1] << 8 | fields[at + 2]))
+        if (fields[at] == mark)
+            *of_state++ = fields + at + 3;
+}
+
+/* One less, for a number of two bytes. */
+static void lower(uint8_t *number)
+{
+    if (number[1]-- == 0)
+        number[0]--;
+}
+
+/* Takes from the counts what a row passes of an arc after the first time. */
+static void once_a_row(const uint8_t *row, uint8_t *states[PLANS_STATE_LIMIT], uint8_t *counts[PLANS_STATE_LIMIT])
+{
+    const uint8_t *passed[PLANS_ROW_LIMIT];
+    unsigned state = 0;
+
+    for (size_t i = 0; i < row[2]; i++) {
+        size_t arc = 0, earlier = 0;
+
+        while (states[state][1 + 3 * arc] != row[3 + i])
+            arc++;
+        passed[i] = states[state] + 1 + 3 * arc;
+        while (passed[earlier] != passed[i])
+            earlier++;
+        if (earlier < i)
+            lower(counts[state] + 2 + 2 * arc);
+        state = (unsigned)(passed[i][1] << 8 | passed[i][2]);
+    }
+}
+
+/* The counts of an accepted book, as if a row counted once for an arc however often it passes it. */
+static void once_a_row_all(const uint8_t *book, size_t book_len, plans_counted counted, uint8_t *out, uint8_t *counts)
+{
+    uint8_t *states[PLANS_STATE_LIMIT], *numbers[PLANS_STATE_LIMIT];
+
+    contents(out, counted.length, PLANS_STATE_MARK, states);
+    contents(counts, counted.counts_length, PLANS_COUNT_MARK, numbers);
+    for (size_t at = 0; at < book_len; at += 3 + (size_t)book[at + 2])
+        if (book[at] == PLANS_ROW_MARK)
+            once_a_row(book + at, states, numbers);
+}
+
+/* Makes the last number of a counts file 10,000 where it is more. */
+static void cap(uint8_t *counts, uint32_t length)
+{
+    uint8_t *number = counts + length - 2;
+
+    if ((number[0] << 8 | number[1]) > 10000) {
+        number[0] = 10000 >> 8;
+        number[1] = 10000 & 0xFF;
+    }
+}
+
+/* The library's call, but the counts output may be too short: then it gets as many bytes as fit. */
+static plans_counted with_room(const uint8_t *book, size_t book_len,
+                               uint8_t *work, size_t work_len,
+                               uint8_t *out, size_t out_len,
+                               uint8_t *counts, size_t counts_len)
+{
+    uint8_t all[PLANS_COUNTS_BYTES];
+    plans_counted counted = real_plans_build_counted(book, book_len, work, work_len, out, out_len, all, sizeof all);
+    size_t fit = counted.counts_length < counts_len ? counted.counts_length : counts_len;
+
+    if (fit > 0)
+        memcpy(counts, all, fit);
+    return counted;
+}
+
+plans_counted plans_build_counted(const uint8_t *book, size_t book_len,
+                                  uint8_t *work, size_t work_len,
+                                  uint8_t *out, size_t out_len,
+                                  uint8_t *counts, size_t counts_len)
+{
+    plans_counted counted =
+        (is("COUNTS_CUT") ? with_room : real_plans_build_counted)(book, book_len, work, work_len, out, out_len, counts, counts_len);
+
+    if (is("COUNTS_BYTE") && counted.refusal == PLANS_OK)
+        counts[counted.counts_length - 1] ^= 1;
+    if (is("BEYOND_COUNTS") && counted.refusal == PLANS_OK && counted.counts_length < counts_len)
+        counts[counted.counts_length] ^= 1;
+    if (is("LARGEST_NUMBER") && counted.refusal == PLANS_OK)
+        cap(counts, counted.counts_length);
+    if (is("REPEATS") && counted.refusal == PLANS_OK) {
+        size_t length;
+        uint8_t *copy = without_copies(book, book_len, &length);
+
+        counted = real_plans_build_counted(copy, length, work, work_len, out, out_len, counts, counts_len);
+        free(copy);
+    }
+    if (is("ONCE_A_ROW") && counted.refusal == PLANS_OK)
+        once_a_row_all(book, book_len, counted, out, counts);
+    if (is("COUNTED_TABLE") && counted.states > 100)
+        out[counted.length - 1] ^= 1;
+    if (is("COUNTED_DISTINCT") && counted.refusal == PLANS_OK)
+        counted.distinct = rows_of(book, book_len, 0);
+    if (is("COUNTS_LENGTH") && counted.states > 100)
+        counted.counts_length -= 3;
+    if (is("COUNTS_LENGTH_REFUSED") && counted.refusal == PLANS_OUTPUT_TOO_SHORT)
+        counted.counts_length = (uint32_t)counts_len;
+    if (is("COUNTS_TOUCHED") && counted.refusal == PLANS_OUTPUT_TOO_SHORT && counts_len > 0)
+        counts[0] ^= 1;
+    /* the table is written before it is known that the counts do not fit */
+    if (is("TABLE_TOUCHED") && counted.refusal == PLANS_OUTPUT_TOO_SHORT)
+        real_plans_build(book, book_len, work, work_len, out, out_len);
+    if (is("COUNTED_ORDER") && counted.refusal == PLANS_TREE_TOO_LARGE && counts_len == 0)
+        counted.refusal = PLANS_OUTPUT_TOO_SHORT;
+    if (is("COUNTED_WORK") && counted.refusal == PLANS_OUTPUT_TOO_SHORT)
+        work[work_len - 1] = 1;
+    return counted;
 }
 
 plans_rewritten plans_rewrite(const uint8_t *table, size_t table_len,

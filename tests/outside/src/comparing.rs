@@ -3,8 +3,10 @@
 use crate::buffers::{Buffer, Noise};
 use crate::counts::Counts;
 use crate::library::{
-    plans_build, plans_list, plans_read_rows, plans_rewrite, plans_walk, Built, Call, Rewritten, RowsGiven, Walked, Written,
+    self, plans_build, plans_build_counted, plans_list, plans_read_rows, plans_rewrite, plans_walk, Built, Call, Rewritten,
+    RowsGiven, Walked, Written,
 };
+use reference::counts::{with_counts, Counted};
 use reference::listing::list;
 use reference::plan_rows::{read_rows, Asked, PlanRows, Refused};
 use reference::random::Random;
@@ -56,6 +58,19 @@ struct Places {
     second: (*const u8, usize),
     work: (*mut u8, usize),
     output: (*mut u8, usize),
+    second_output: (*mut u8, usize),
+}
+
+/// An output as it is lent: its length, and the bytes that are to be at its front after the call.
+#[derive(Clone, Copy)]
+struct Output<'a> {
+    length: usize,
+    written: &'a [u8],
+}
+
+impl Output<'_> {
+    /// For the calls that have one output only.
+    const NONE: Output<'static> = Output { length: 0, written: &[] };
 }
 
 /// One thread's buffers, generator and counts.
@@ -68,6 +83,8 @@ pub struct Run {
     second: Buffer,
     work: Buffer,
     output: Buffer,
+    /// The counts of a build.
+    second_output: Buffer,
 }
 
 impl Run {
@@ -81,6 +98,7 @@ impl Run {
             second: Buffer::default(),
             work: Buffer::default(),
             output: Buffer::default(),
+            second_output: Buffer::default(),
         }
     }
 
@@ -94,6 +112,32 @@ impl Run {
         let expected = reference::build(book, lent, &mut self.random);
         self.counts.count_built(book, &expected);
         self.compare_on_three(("plans_build", plans_build), expected, book, lent)
+    }
+
+    /// A build without counts and one with them, with buffers that are long enough. Gives back what both gave, none where both refused.
+    pub fn compare_counted(&mut self, book: &[u8]) -> Result<Option<Counted>, Mismatch> {
+        self.compare_counted_lent(book, Lent { work: WORK_BYTES, output: INPUT_LIMIT }, INPUT_LIMIT)
+    }
+
+    /// The same with buffers of the given lengths, `room` that of the counts. Both are held against one and the same build of the
+    /// reference, so their tables, numbers and refusals are the same, but for a 13 of the counts.
+    pub fn compare_counted_lent(&mut self, book: &[u8], lent: Lent, room: usize) -> Result<Option<Counted>, Mismatch> {
+        let built = reference::build(book, lent, &mut self.random);
+        self.counts.count_built(book, &built);
+        self.compare_on_three(("plans_build", plans_build), built.clone(), book, lent)?;
+        let fits = built.is_ok();
+        let expected = built.and_then(|built| with_counts(book, built, room));
+        self.counts.count_counted(&expected, fits);
+        let (table, counts) = expected.as_ref().map_or((&[][..], &[][..]), |counted| (&counted.built.bytes, &counted.counts));
+        // SAFETY: the buffers do not overlap, and each has its length
+        let call = |at: &Places| unsafe {
+            let ((book, book_len), (work, work_len), (out, out_len), (counts, counts_len)) =
+                (at.input, at.work, at.output, at.second_output);
+            plans_build_counted(book, book_len, work, work_len, out, out_len, counts, counts_len)
+        };
+        let outputs = [Output { length: lent.output, written: table }, Output { length: room, written: counts }];
+        let wrong = self.call_lent(call, &counted_of(&expected), (book, &[]), lent.work, outputs);
+        wrong.map_or(Ok(expected.ok()), |wrong| Err(Mismatch::new("plans_build_counted", wrong, &[("input", book)])))
     }
 
     /// A rewriting with buffers that are long enough. Gives back what both gave, none where both refused.
@@ -132,7 +176,8 @@ impl Run {
         let written = expected.as_ref().map_or(&[][..], A::written);
         // SAFETY: the buffers do not overlap, and each has its length
         let call = |at: &Places| unsafe { call(at.input.0, at.input.1, at.work.0, at.work.1, at.output.0, at.output.1) };
-        let wrong = self.call_lent(call, &A::given(&expected), written, (input, &[]), lent);
+        let outputs = [Output { length: lent.output, written }, Output::NONE];
+        let wrong = self.call_lent(call, &A::given(&expected), (input, &[]), lent.work, outputs);
         wrong.map_or(Ok(expected.ok()), |wrong| Err(Mismatch::new(name, wrong, &[("input", input)])))
     }
 
@@ -144,14 +189,15 @@ impl Run {
     /// The same with buffers of the given lengths.
     pub fn compare_rows_lent(&mut self, asked: Asked, lent: Lent) -> Result<Option<PlanRows>, Mismatch> {
         let expected = read_rows(asked, lent);
-        let bytes = expected.as_ref().map_or(&[][..], |read| &read.bytes);
+        let written = expected.as_ref().map_or(&[][..], |read| &read.bytes);
         // SAFETY: the buffers do not overlap, and each has its length
         let call = |at: &Places| unsafe {
             let ((plan, plan_len), (names, names_len), (work, work_len), (out, out_len)) =
                 (at.input, at.second, at.work, at.output);
             plans_read_rows(plan, plan_len, names, names_len, asked.chosen, work, work_len, out, out_len)
         };
-        let wrong = self.call_lent(call, &rows_given_of(&expected), bytes, (asked.plan, asked.names), lent);
+        let outputs = [Output { length: lent.output, written }, Output::NONE];
+        let wrong = self.call_lent(call, &rows_given_of(&expected), (asked.plan, asked.names), lent.work, outputs);
         self.counts.count_rows(&expected);
         match wrong {
             Some(wrong) => {
@@ -162,33 +208,37 @@ impl Run {
         }
     }
 
-    /// A call with buffers of the given lengths: what is wrong with what it returns, with the bytes that it is to write at the
-    /// output's front, or with any other lent byte.
+    /// A call with a working area and outputs of the given lengths: what is wrong with what it returns, with the bytes that it is to
+    /// write at the outputs' fronts, or with any other lent byte.
     fn call_lent<R: PartialEq + Debug>(
         &mut self,
         call: impl Fn(&Places) -> R,
         expected: &R,
-        written: &[u8],
         (input, second): (&[u8], &[u8]),
-        lent: Lent,
+        work: usize,
+        outputs: [Output; 2],
     ) -> Option<String> {
-        let before = self.noise.part(lent.output, &mut self.random);
+        let before = outputs.map(|output| self.noise.part(output.length, &mut self.random));
         self.input.lend(input, &mut self.random);
         self.second.lend(second, &mut self.random);
-        self.work.lend(self.noise.part(lent.work, &mut self.random), &mut self.random);
-        self.output.lend(before, &mut self.random);
+        self.work.lend(self.noise.part(work, &mut self.random), &mut self.random);
+        self.output.lend(before[0], &mut self.random);
+        self.second_output.lend(before[1], &mut self.random);
         let given = call(&Places {
             input: (self.input.pointer(), self.input.len()),
             second: (self.second.pointer(), self.second.len()),
             work: (self.work.pointer(), self.work.len()),
             output: (self.output.pointer(), self.output.len()),
+            second_output: (self.second_output.pointer(), self.second_output.len()),
         });
-        let (front, beyond) = self.output.content().split_at(written.len());
         difference(expected, &given)
-            .or_else(|| says(front != written, "the output's front is not what is to be written"))
-            .or_else(|| says(beyond != &before[written.len()..], "the output was altered where it is to stay as it was"))
+            .or_else(|| output_after("output", &self.output, before[0], outputs[0].written))
+            .or_else(|| output_after("second output", &self.second_output, before[1], outputs[1].written))
             .or_else(|| self.buffers_after(input, second))
-            .map(|wrong| format!("{wrong} (working area {} bytes, output {} bytes)", lent.work, lent.output))
+            .map(|wrong| {
+                let [output, other] = outputs.map(|output| output.length);
+                format!("{wrong} (working area {work} bytes, output {output} bytes, second output {other} bytes)")
+            })
     }
 
     /// A walk with a working area of the least length. Gives back what the library gave.
@@ -226,7 +276,15 @@ impl Run {
             .or_else(|| says(!self.second.guards_hold(), "a byte beside the second input was altered"))
             .or_else(|| says(!self.work.guards_hold(), "a byte beside the working area was altered"))
             .or_else(|| says(!self.output.guards_hold(), "a byte beside the output was altered"))
+            .or_else(|| says(!self.second_output.guards_hold(), "a byte beside the second output was altered"))
     }
+}
+
+/// What is wrong after a call with the content of an output, which was `before` and has `written` at its front.
+fn output_after(name: &str, output: &Buffer, before: &[u8], written: &[u8]) -> Option<String> {
+    let (front, beyond) = output.content().split_at(written.len());
+    says(front != written, &format!("the {name}'s front is not what is to be written"))
+        .or_else(|| says(beyond != &before[written.len()..], &format!("the {name} was altered where it is to stay as it was")))
 }
 
 fn says(wrong: bool, what: &str) -> Option<String> {
@@ -301,6 +359,13 @@ fn walked_of(expected: &Result<reference::walk::Walked, Refusal>) -> Walked {
         },
         Err(refusal) => Walked { refusal: refusal.number(), outcome: 0, next_count: 0, walked: 0, next_names: 0 },
     }
+}
+
+fn counted_of(expected: &Result<Counted, Refusal>) -> library::Counted {
+    let counts_length = expected.as_ref().map_or(0, |counted| counted.counts.len() as u32);
+    let built = expected.as_ref().map(|counted| counted.built.clone()).map_err(|refusal| *refusal);
+    let Built { refusal, length, states, joins, distinct } = reference::Built::given(&built);
+    library::Counted { refusal, length, states, joins, distinct, counts_length }
 }
 
 fn rows_given_of(expected: &Result<PlanRows, Refused>) -> RowsGiven {

@@ -1,6 +1,7 @@
 //! What the calls of a run have come to.
 
-use reference::fields::{read_book, read_table};
+use reference::counts::Counted;
+use reference::fields::{read_book, read_table, split_field};
 use reference::plan_rows::{PlanRows, Refused};
 use reference::refusal::Refusal;
 use reference::walk::Walked;
@@ -12,7 +13,13 @@ pub struct Counts {
     pub inputs: usize,
     /// How often each refusal was given, by its number, to a book, a table or a walk; at 0, how many calls were accepted.
     pub refused: [usize; 14],
-    /// The same for plans.
+    /// The same for builds with counts.
+    pub counted_refused: [usize; 14],
+    /// How many of these 13 were given where the table's output is long enough.
+    pub counts_too_short: usize,
+    /// The largest number that a counts file had.
+    pub largest_number: u16,
+    /// The same as `refused` for plans.
     pub plans_refused: [usize; 17],
     /// How many walks had each outcome, by its number.
     pub outcomes: [usize; 4],
@@ -41,6 +48,16 @@ impl Counts {
         }
     }
 
+    /// A build with counts; `fits` where the table alone would be built.
+    pub fn count_counted(&mut self, counted: &Result<Counted, Refusal>, fits: bool) {
+        self.inputs += 1;
+        self.counted_refused[counted.as_ref().map_or_else(|refusal| usize::from(refusal.number()), |_| 0)] += 1;
+        self.counts_too_short += usize::from(fits && counted.is_err());
+        if let Ok(counted) = counted {
+            self.largest_number = self.largest_number.max(largest_number(&counted.counts));
+        }
+    }
+
     /// A build, a rewriting or a listing.
     pub fn count_written<T>(&mut self, written: &Result<T, Refusal>) {
         self.inputs += 1;
@@ -66,6 +83,9 @@ impl Counts {
     pub fn add(&mut self, more: &Counts) {
         self.inputs += more.inputs;
         self.refused.iter_mut().zip(more.refused).for_each(|(sum, count)| *sum += count);
+        self.counted_refused.iter_mut().zip(more.counted_refused).for_each(|(sum, count)| *sum += count);
+        self.counts_too_short += more.counts_too_short;
+        self.largest_number = self.largest_number.max(more.largest_number);
         self.plans_refused.iter_mut().zip(more.plans_refused).for_each(|(sum, count)| *sum += count);
         self.outcomes.iter_mut().zip(more.outcomes).for_each(|(sum, count)| *sum += count);
         self.largest_tree = self.largest_tree.max(more.largest_tree);
@@ -75,4 +95,15 @@ impl Counts {
             *self.joined.entry(*class).or_default() += count;
         }
     }
+}
+
+/// The largest number of a counts file.
+fn largest_number(mut counts: &[u8]) -> u16 {
+    let mut largest = 0;
+    while !counts.is_empty() {
+        let (field, rest) = split_field(counts).expect("a counts file consists of fields");
+        largest = field.bytes.chunks(2).fold(largest, |largest, number| largest.max(u16::from_be_bytes([number[0], number[1]])));
+        counts = rest;
+    }
+    largest
 }

@@ -12,6 +12,17 @@ pub struct Built {
 
 #[repr(C)]
 #[derive(Clone, Copy, Debug, PartialEq, Eq)]
+pub struct Counted {
+    pub refusal: u8,
+    pub length: u32,
+    pub states: u32,
+    pub joins: u32,
+    pub distinct: u32,
+    pub counts_length: u32,
+}
+
+#[repr(C)]
+#[derive(Clone, Copy, Debug, PartialEq, Eq)]
 pub struct Rewritten {
     pub refusal: u8,
     pub length: u32,
@@ -50,6 +61,17 @@ pub type Call<R> = unsafe extern "C" fn(*const u8, usize, *mut u8, usize, *mut u
 
 extern "C" {
     pub fn plans_build(book: *const u8, book_len: usize, work: *mut u8, work_len: usize, out: *mut u8, out_len: usize) -> Built;
+
+    pub fn plans_build_counted(
+        book: *const u8,
+        book_len: usize,
+        work: *mut u8,
+        work_len: usize,
+        out: *mut u8,
+        out_len: usize,
+        counts: *mut u8,
+        counts_len: usize,
+    ) -> Counted;
 
     pub fn plans_rewrite(
         table: *const u8,

@@ -1,6 +1,7 @@
-//! Compares plans_build, plans_rewrite, plans_walk, plans_list and plans_read_rows of the static library with the reference, over
-//! generated inputs. The same seed and count give the same inputs; --seconds goes on with fresh seeds. A mismatch names its seed:
-//! --seed gives it again. The last line is `N passed, M failed`, N and M counting kinds of checks.
+//! Compares plans_build, plans_build_counted, plans_rewrite, plans_walk, plans_list and plans_read_rows of the static library with the
+//! reference, over generated inputs. The same seed and count give the same inputs; --seconds goes on with fresh seeds. A mismatch names
+//! its seed: --seed gives it again; --stop-at-mismatch leaves out what would come after one. The last line is `N passed, M failed`, N
+//! and M counting kinds of checks.
 
 mod buffers;
 mod comparing;
@@ -41,6 +42,12 @@ const CLASSES: usize = 46;
 /// The refusals of plans, and 0 for those that are accepted.
 const PLAN_REFUSALS: [usize; 13] = [0, 1, 2, 3, 4, 5, 6, 7, 9, 13, 14, 15, 16];
 
+/// The refusals of builds with counts, and 0 for those that are accepted.
+const COUNTED_REFUSALS: [usize; 12] = [0, 1, 2, 3, 4, 5, 6, 7, 8, 9, 10, 13];
+
+/// No counts file has a larger number (tests/reference/src/tests/counts.rs).
+const LARGEST_NUMBER: u16 = 10_239;
+
 /// What has come of one kind of check.
 #[derive(Default)]
 struct Tally {
@@ -59,22 +66,27 @@ fn main() -> ExitCode {
     let tallies: Vec<Mutex<Tally>> = KINDS.iter().map(|_| Mutex::default()).collect();
     let start = Instant::now();
     // the first round is run whole, whatever the time
-    run_round(options.count, options.seed, &tallies, None);
+    run_round(options.count, options.seed, &tallies, || options.stops && is_mismatch(&tallies));
     let mut rounds = 1;
-    while start.elapsed() < options.duration && tallies.iter().all(|tally| tally.lock().expect("tally").mismatch.is_none()) {
-        run_round(options.count / LATER_ROUNDS, options.seed + rounds, &tallies, Some(start + options.duration));
+    while start.elapsed() < options.duration && !is_mismatch(&tallies) {
+        run_round(options.count / LATER_ROUNDS, options.seed + rounds, &tallies, || start.elapsed() >= options.duration);
         rounds += 1;
     }
     println!("seeds {} to {}, {} seconds", options.seed, options.seed + rounds - 1, start.elapsed().as_secs());
     report(&options, tallies.into_iter().map(|tally| tally.into_inner().expect("tally")).collect())
 }
 
-/// Runs the parts of every kind, up to the deadline if there is one.
-fn run_round(count: usize, seed: u64, tallies: &[Mutex<Tally>], deadline: Option<Instant>) {
+/// Whether some kind has a mismatch.
+fn is_mismatch(tallies: &[Mutex<Tally>]) -> bool {
+    tallies.iter().any(|tally| tally.lock().expect("tally").mismatch.is_some())
+}
+
+/// Runs the parts of every kind, until it is time to stop.
+fn run_round(count: usize, seed: u64, tallies: &[Mutex<Tally>], stops: impl Fn() -> bool + Sync) {
     let next = AtomicUsize::new(0);
     let work = || loop {
         let part = next.fetch_add(1, Ordering::Relaxed);
-        if part >= KINDS.len() * PARTS || deadline.is_some_and(|deadline| Instant::now() >= deadline) {
+        if part >= KINDS.len() * PARTS || stops() {
             return;
         }
         run_part(count, seed, part, &tallies[part / PARTS]);
@@ -133,6 +145,8 @@ fn report(options: &Options, tallies: Vec<Tally>) -> ExitCode {
 fn coverage(options: &Options, all: &Counts) -> Vec<(&'static str, Option<String>)> {
     let least_joined = all.joined.values().min().unwrap_or(&0);
     println!("accepted: {}; refusals 1 to 13: {:?}", all.refused[0], &all.refused[1..]);
+    println!("counted: {}; refusals 1 to 13: {:?}", all.counted_refused[0], &all.counted_refused[1..]);
+    println!("13 for the counts alone: {}; largest number of a counts file: {}", all.counts_too_short, all.largest_number);
     println!("plans accepted: {}; refusals 1 to 16: {:?}", all.plans_refused[0], &all.plans_refused[1..]);
     #[cfg(not(expat))]
     println!("this machine has no expat: plans are not compared with it");
@@ -144,6 +158,12 @@ fn coverage(options: &Options, all: &Counts) -> Vec<(&'static str, Option<String
     vec![
         ("all inputs", says(all.inputs < options.count, "fewer than promised")),
         ("every refusal is given", says(all.refused.contains(&0), "one is not")),
+        (
+            "every refusal of a build with counts is given",
+            says(COUNTED_REFUSALS.iter().any(|&refusal| all.counted_refused[refusal] == 0), "one is not"),
+        ),
+        ("13 is given for the counts alone", says(all.counts_too_short == 0, "it is not")),
+        ("the largest number of a counts file is met", says(all.largest_number < LARGEST_NUMBER, "it is not")),
         (
             "every refusal of a plan is given",
             says(PLAN_REFUSALS.iter().any(|&refusal| all.plans_refused[refusal] == 0), "one is not"),

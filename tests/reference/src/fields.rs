@@ -7,6 +7,7 @@ pub const NAME: u8 = 1;
 pub const CLASS: u8 = 2;
 pub const ROW: u8 = 3;
 pub const STATE: u8 = 4;
+pub const COUNTS: u8 = 5;
 
 pub const NAMES_LIMIT: usize = 64;
 pub const NAME_LENGTH_LIMIT: usize = 32;

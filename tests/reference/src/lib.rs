@@ -1,8 +1,9 @@
 //! A second reading of docs/SCOPE.md: books read, joined one step at a time in random order, numbered and written; tables
-//! read, rewritten and walked; listings; rows read from plans. It shares no code with the proved library, and is written to be
-//! read, not to be fast.
+//! read, rewritten and walked; listings; rows read from plans; how often each way is used. It shares no code with the proved library,
+//! and is written to be read, not to be fast.
 
 pub mod contexts;
+pub mod counts;
 pub mod fields;
 pub mod functions;
 pub mod joining;

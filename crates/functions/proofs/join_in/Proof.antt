@@ -49,7 +49,7 @@ finish-requires c κs =
     let at = entry (prepared .before) in
     let args = at .args in (
       prepared-ready (args .seen) (length (args .groups .now)) (args .j) (args .parents .now) (args .names .now)
-          (args .accepts .now) (args .more .now) (prepared .prepare .last .1 .1 .1 .1 .0)
+          (args .ends .now) (args .more .now) (prepared .prepare .last .1 .1 .1 .1 .0)
           (prepared .prepare .last .1 .1 .1 .1 .1 .0) (prepared .prepare .last .1 .1 .1 .1 .1 .1 .0) (at .pre .1 .0)
           (at .pre .1 .1 .1 .1 .0) (told-here prepared),
       (
@@ -82,7 +82,7 @@ returns c =
     let at = entry (prepared .before) in
     let args = at .args in
     joined-by-f (args .seen) (length (args .groups .now)) (args .j) (args .parents .now) (args .names .now)
-    (args .accepts .now) (args .more .now) (prepared .prepare .last .1 .1 .1 .1 .0)
+    (args .ends .now) (args .more .now) (prepared .prepare .last .1 .1 .1 .1 .0)
     (prepared .prepare .last .1 .1 .1 .1 .1 .0) (prepared .prepare .last .1 .1 .1 .1 .1 .1 .0)
     (finishes .finish .last .1 .1 .1 .1 .1 .1 .1 .1 .0) (at .pre .1 .0) (at .pre .1 .1 .1 .1 .1 .0) (told-here prepared)
     (finishes .finish .ensures)

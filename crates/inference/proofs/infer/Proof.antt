@@ -1,7 +1,7 @@
 -- `infer` meets its contract. Assumes nothing.
 use mathlib.Core.Path.{_≡_, refl, sym, subst}
-use mathlib.Core.List.{List}
-use Prim.Native.Nat.{_≤_}
+use mathlib.Core.List.{List, [], _∷_}
+use Prim.Native.Nat.{ℕ, _≤_}
 use native.Mathlib.Omega.{arith}
 use lib.ListN.{length}
 use lib.Seq.{length-take-le}
@@ -15,7 +15,7 @@ use Rattle.prefix_tree.specs.declared.Tree.{Tree}
 use Rattle.inference.specs.Books.{rowsAt}
 use Rattle.inference.specs.Results.{Infers}
 use Rattle.inference.specs.declared.Inferred.{Inferred}
-use Rattle.inference.proofs.BookLaws.{rows-within, rows-entries}
+use Rattle.inference.proofs.BookLaws.{rows-within, rows-entries, items-few}
 use Rattle.inference.proofs.ResultLaws.{gives-too-large, told-few, gives-result}
 use Rattle.inference.proofs.infer.Statement.{statement}
 use Rattle.inference.proofs.infer.Tie as tie
@@ -25,10 +25,10 @@ abbrev grown : tie.After-tree → tie.After-add-rows
 grown c = c .before .before .before .before .before .before .before
 
 abbrev start : tie.After-add-rows → tie.Start
-start c = c .before .before .before .before .before .before .before .before
+start c = c .before .before .before .before .before .before .before .before .before
 
 abbrev joining : tie.After-join-and-write → tie.After-tree
-joining c = c .before .before .before .before .before .before .before
+joining c = c .before .before .before .before .before .before .before .before
 
 -- the arrays as the tree left them, and the tree
 abbrev left : tie.After-tree → Store
@@ -38,6 +38,10 @@ left c =
 
 abbrev rows : tie.Start → List Word
 rows c = rowsAt (c .args .book .now) (c .args .place)
+
+-- both outputs
+abbrev outs : tie.Start → List (List ℕ)
+outs c = c .args .out .now ∷ (c .args .counts .now ∷ [])
 
 built : (c : tie.After-tree) → TreeBuilt (rows (start (grown c))) (left c) (c .tree .given .0 .0) (c .tree .given .0 .1 .0)
 built c =
@@ -54,9 +58,9 @@ names-room c =
     let size : length (left c .names) ≡ state-limit = grown c .add-rows .ensures .names-kept in
     omega (arith, built c .few)
 
-accepts-room : (c : tie.After-tree) → c .tree .given .0 .0 ≤ length (left c .accepts)
-accepts-room c =
-    let size : length (left c .accepts) ≡ state-limit = grown c .add-rows .ensures .accepts-kept in
+ends-room : (c : tie.After-tree) → c .tree .given .0 .0 ≤ length (left c .ends)
+ends-room c =
+    let size : length (left c .ends) ≡ state-limit = grown c .add-rows .ensures .ends-kept in
     omega (arith, built c .few)
 
 slice-aggregate-add-rows : tie.Need-slice-aggregate-add-rows
@@ -70,13 +74,16 @@ slice-aggregate-add-rows-3 c = search needs
 
 add-rows-requires : tie.Need-add-rows-requires
 add-rows-requires c κs =
-    let start = c .before .before .before .before .before .before .before in
-    let args = start .args in
-    let known = c .before .before .before .before .before .before .shared-slice-known in (
+    let known = c .before .before .before .before .before .before .before in
+    let start = known .before in
+    let args = start .args in (
       rows-within (args .book .now) (args .place) (start .pre .0),
       (
-        rows-entries (args .book .now) (args .place) (start .pre .0) (λ i h. omega (arith, known .given i)),
-        record { parents-size = refl; names-size = refl; accepts-size = refl; work-size = start .pre .2 },
+        rows-entries (args .book .now) (args .place) (start .pre .0) (λ i h. omega (arith, known .shared-slice-known .given i)),
+        (
+          record { parents-size = refl; names-size = refl; ends-size = refl; work-size = start .pre .2 },
+          items-few (args .book .now) (args .place) (start .pre .0),
+        ),
       ),
     )
 
@@ -101,28 +108,28 @@ array-share-prefix-names c = names-room (c .before .before)
 slice-aggregate-join-and-write-2 : tie.Need-slice-aggregate-join-and-write-2
 slice-aggregate-join-and-write-2 c = sym (length-take-le _ _ (names-room (c .before .before .before)))
 
-array-share-prefix-accepts : tie.Need-array-share-prefix-accepts
-array-share-prefix-accepts c = accepts-room (c .before .before .before)
+array-borrow-prefix-ends : tie.Need-array-borrow-prefix-ends
+array-borrow-prefix-ends c = ends-room (c .before .before .before)
 
 slice-aggregate-join-and-write-3 : tie.Need-slice-aggregate-join-and-write-3
-slice-aggregate-join-and-write-3 c = sym (length-take-le _ _ (accepts-room (c .before .before .before .before)))
+slice-aggregate-join-and-write-3 c = sym (length-take-le _ _ (ends-room (c .before .before .before .before)))
 
 join-and-write-requires : tie.Need-join-and-write-requires
 join-and-write-requires c κs =
-    let grown-to = c .before .before .before .before .before .before in
+    let grown-to = c .before .before .before .before .before .before .before in
     let at = start (grown grown-to) in
     let tree = built grown-to in
     let size = tree .size in
     let few = tree .few in
     let kept = grown grown-to .add-rows .ensures .work-kept in
     let room : work-bytes ≤ length (left grown-to .work) = omega (arith, kept, at .pre .2) in
-    ((at .pre .0, at .pre .1, room), record { few = omega arith; tree = tree .arrays; accepting = tree .accepts })
+    ((at .pre .0, at .pre .1, room), record { few = omega arith; tree = tree .arrays; ends-are = tree .ends })
 
 result-of-requires : tie.Need-result-of-requires
 result-of-requires c κs =
-    let written = c .before .before .before .before in
+    let written = c .before .before .before .before .before .before .before in
     let at = start (grown (joining written)) in
-    told-few (fileOf (at .args .book .now) (at .args .place)) (at .args .out .now) _ (written .join-and-write .result) _
+    told-few (at .args .wanted) (fileOf (at .args .book .now) (at .args .place)) (outs at) _ (written .join-and-write .result) _
     (built (joining written) .size) (written .join-and-write .ensures)
 
 same-length : tie.Need-same-length
@@ -133,10 +140,10 @@ returns c =
     let after = c .before .before .before .before .before .before .before .before in
     let at = start after in
     let book = fileOf (at .args .book .now) (at .args .place) in
-    let out = at .args .out .now in
     let large =
     subst (λ (r : Tree). numberOf r ≡ treeFault (rows at)) (c .before .enum-told .given .1) (after .add-rows .ensures .number) in
-    subst (λ (r : Inferred). Infers book out out r) (sym (c .refused .ensures)) (gives-too-large book out large)
+    subst (λ (r : Inferred). Infers (at .args .wanted) book (outs at) (outs at) r) (sym (c .refused .ensures))
+    (gives-too-large (at .args .wanted) book (outs at) large)
 
 same-length-2 : tie.Need-same-length-2
 same-length-2 c = search needs
@@ -144,19 +151,22 @@ same-length-2 c = search needs
 same-length-3 : tie.Need-same-length-3
 same-length-3 c = search needs
 
+same-length-4 : tie.Need-same-length-4
+same-length-4 c = search needs
+
 returns-2 : tie.Need-returns-2
 unfolding distinctOf
 returns-2 c =
-    let written = c .before .before .before .before .before in
+    let written = c .before .before .before .before .before .before .before .before in
     let at = start (grown (joining written)) in
     let tree = built (joining written) in
     let book = fileOf (at .args .book .now) (at .args .place) in
     let few = tree .few in
     let size = tree .size in
-    let out = at .args .out .now in
-    let after = written .join-and-write .last .1 .1 .1 .1 .1 .1 .0 in
-    subst (λ (r : Inferred). Infers book out after r) (sym (c .result-of .ensures))
-    (gives-result book out after (written .join-and-write .result) _ _ (omega arith) size (tree .different)
+    let last = written .join-and-write .last .1 .1 .1 .1 .1 .1 .1 in
+    let after = last .0 ∷ (last .1 .0 ∷ []) in
+    subst (λ (r : Inferred). Infers (at .args .wanted) book (outs at) after r) (sym (c .result-of .ensures))
+    (gives-result (at .args .wanted) book (outs at) after (written .join-and-write .result) _ _ (omega arith) size (tree .different)
     (written .join-and-write .ensures))
 
 pub infer-spec : {M : Type 1} → statement M
@@ -174,7 +184,7 @@ infer-spec =
     slice-aggregate-join-and-write
     array-share-prefix-names
     slice-aggregate-join-and-write-2
-    array-share-prefix-accepts
+    array-borrow-prefix-ends
     slice-aggregate-join-and-write-3
     join-and-write-requires
     result-of-requires
@@ -182,4 +192,5 @@ infer-spec =
     returns
     same-length-2
     same-length-3
+    same-length-4
     returns-2)

@@ -11,8 +11,8 @@ use Rattle.inference.proofs.result_of.Tie as tie
 enum-known-table : tie.Need-enum-known-table
 enum-known-table c = search needs
 
-sub-t7 : tie.Need-sub-t7
-sub-t7 c =
+sub-t8 : tie.Need-sub-t8
+sub-t8 c =
     let start = c .before .before .before in
     let few = subst (λ (r : Table). statesTold r ≤ start .args .tree) (c .before .table .given .1) (start .pre) in
     omega arith
@@ -35,4 +35,4 @@ returns-2 c =
 
 pub result-of-spec : {M : Type 1} → statement M
 result-of-spec =
-    tie.close (tie.spec enum-known-table sub-t7 enum-told refused-requires returns returns-2)
+    tie.close (tie.spec enum-known-table sub-t8 enum-told refused-requires returns returns-2)

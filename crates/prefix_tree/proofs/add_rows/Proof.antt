@@ -10,17 +10,17 @@ use lib.ListN.{length}
 use Rattle.judging.specs.Offsets.{bodyAt, nextAt, fieldsAt}
 use Rattle.prefix_tree.specs.Growth.{Store, store, Sized, RowBelow, RowOf}
 use Rattle.prefix_tree.specs.declared.Added.{Added}
-use Rattle.prefix_tree.proofs.StepLaws.{Adding, sized-kept, adding-begins, adding-fits, adding-below, adding-few}
+use Rattle.prefix_tree.proofs.StepLaws.{Adding, sized-kept, adding-begins, adding-fits, adding-below, adding-few, adding-few-rows}
 use Rattle.prefix_tree.proofs.StepLaws.{adding-new, adding-again, adding-full, adding-ends, built-number, tree-answer}
 use Rattle.prefix_tree.proofs.add_rows.Statement.{statement}
 use Rattle.prefix_tree.proofs.add_rows.Tie as tie
 
 abbrev Inv-loop : tie.InvT-loop
-Inv-loop book start items parents₀ names₀ accepts₀ work₀ n₀ distinct₀ at₀ i₀ parents names accepts work n distinct at i =
-    Adding book start items work₀ (store parents names accepts work) n distinct at i
+Inv-loop book start items parents₀ names₀ ends₀ work₀ n₀ distinct₀ at₀ i₀ parents names ends work n distinct at i =
+    Adding book start items work₀ (store parents names ends work) n distinct at i
 
 abbrev μ-loop : tie.MeasureT-loop
-μ-loop book start items parents₀ names₀ accepts₀ work₀ n₀ distinct₀ at₀ i₀ parents names accepts work n distinct at i =
+μ-loop book start items parents₀ names₀ ends₀ work₀ n₀ distinct₀ at₀ i₀ parents names ends work n distinct at i =
     items - i
 
 -- places on the way: the entry, the loop's turn, and the call that adds a row; that call from where there is no room, where a row is
@@ -47,17 +47,17 @@ grown c = called (c .before)
 abbrev lent : tie.At-loop Inv-loop μ-loop → Store
 lent c =
     let args = start c .args in
-    store (args .parents .now) (args .names .now) (args .accepts .now) (args .work .now)
+    store (args .parents .now) (args .names .now) (args .ends .now) (args .work .now)
 
 abbrev held : tie.At-loop Inv-loop μ-loop → Store
-held c = store (c .loop .parents) (c .loop .names) (c .loop .accepts) (c .loop .work)
+held c = store (c .loop .parents) (c .loop .names) (c .loop .ends) (c .loop .work)
 
 abbrev left : tie.After-add-row Inv-loop μ-loop → Store
 left c =
     let last = c .add-row .last .1 in
     store (last .0) (last .1 .0) (last .1 .1 .0) (last .1 .1 .1 .0)
 
-left-sized : (c : tie.After-add-row Inv-loop μ-loop) → Sized (left c .parents) (left c .names) (left c .accepts) (left c .work)
+left-sized : (c : tie.After-add-row Inv-loop μ-loop) → Sized (left c .parents) (left c .names) (left c .ends) (left c .work)
 left-sized c =
     let kept = c .add-row .kept .1 in
     sized-kept (held (turn c)) (left c) (turn c .loop .inv .sizes) (kept .0) (kept .1 .0) (kept .1 .1 .0) (kept .1 .1 .1 .0)
@@ -87,21 +87,21 @@ fits : (c : tie.At-loop Inv-loop μ-loop) → c .loop .i < start c .args .items
 fits c more = adding-fits (c .loop .inv) more (start c .pre .0)
 
 slice-write-parents : tie.Need-slice-write-parents Inv-loop μ-loop
-slice-write-parents c = omega (arith, c .before .before .before .before .before .pre .1 .1 .parents-size)
+slice-write-parents c = omega (arith, c .before .before .before .before .before .pre .1 .1 .0 .parents-size)
 
 slice-write-names : tie.Need-slice-write-names Inv-loop μ-loop
-slice-write-names c = omega (arith, c .before .before .before .before .before .pre .1 .1 .names-size)
+slice-write-names c = omega (arith, c .before .before .before .before .before .pre .1 .1 .0 .names-size)
 
-slice-write-accepts : tie.Need-slice-write-accepts Inv-loop μ-loop
-slice-write-accepts c = omega (arith, c .before .before .before .before .before .pre .1 .1 .accepts-size)
+slice-write-ends : tie.Need-slice-write-ends Inv-loop μ-loop
+slice-write-ends c = omega (arith, c .before .before .before .before .before .pre .1 .1 .0 .ends-size)
 
 loop-holds : tie.Need-loop-holds Inv-loop μ-loop
 loop-holds c =
     let at = c .before .before .before .before .before in
     let args = at .args in
-    adding-begins (args .book .now) (args .start) (args .items) (args .parents .now) (args .names .now) (args .accepts .now)
+    adding-begins (args .book .now) (args .start) (args .items) (args .parents .now) (args .names .now) (args .ends .now)
     (args .work .now)
-    (at .pre .1 .1)
+    (at .pre .1 .1 .0)
 
 body-requires : tie.Need-body-requires Inv-loop μ-loop
 body-requires c κs = fits (c .before) (omega arith)
@@ -115,7 +115,7 @@ add-row-requires c κs =
         at .loop .inv .few,
         subst (λ (w : List ℕ). RowBelow w) (sym (c .before .before .before .before .body .ensures)) below,
       ),
-      at .loop .inv .sizes,
+      (at .loop .inv .sizes, adding-few-rows (at .loop .inv) (omega arith) (start at .pre .1 .1 .1)),
     )
 
 enum-known-added : tie.Need-enum-known-added Inv-loop μ-loop
@@ -133,13 +133,13 @@ enum-told-2 : tie.Need-enum-told-2 Inv-loop μ-loop
 enum-told-2 c = search needs
 
 same-length : tie.Need-same-length Inv-loop μ-loop
-same-length c = left-sized (stopped c) .parents-size ∙ sym (start (turn (stopped c)) .pre .1 .1 .parents-size)
+same-length c = left-sized (stopped c) .parents-size ∙ sym (start (turn (stopped c)) .pre .1 .1 .0 .parents-size)
 
 same-length-2 : tie.Need-same-length-2 Inv-loop μ-loop
-same-length-2 c = left-sized (stopped c) .names-size ∙ sym (start (turn (stopped c)) .pre .1 .1 .names-size)
+same-length-2 c = left-sized (stopped c) .names-size ∙ sym (start (turn (stopped c)) .pre .1 .1 .0 .names-size)
 
 same-length-3 : tie.Need-same-length-3 Inv-loop μ-loop
-same-length-3 c = left-sized (stopped c) .accepts-size ∙ sym (start (turn (stopped c)) .pre .1 .1 .accepts-size)
+same-length-3 c = left-sized (stopped c) .ends-size ∙ sym (start (turn (stopped c)) .pre .1 .1 .0 .ends-size)
 
 same-length-4 : tie.Need-same-length-4 Inv-loop μ-loop
 same-length-4 c = work-kept (stopped c)
@@ -151,7 +151,7 @@ returns c =
     tree-answer (rows at) (lent at) (left after) _
     (adding-full (at .loop .inv) (omega arith) (rowed after _ (c .enum-told2 .given .1) .tree))
     (λ none. absurd (omega (arith, none)))
-    (start at .pre .1 .1)
+    (start at .pre .1 .1 .0)
     (left-sized after)
     (work-kept after)
 
@@ -178,13 +178,13 @@ loop-again c =
     (c .before .match .came)
 
 same-length-5 : tie.Need-same-length-5 Inv-loop μ-loop
-same-length-5 c = c .before .loop .inv .sizes .parents-size ∙ sym (start (c .before) .pre .1 .1 .parents-size)
+same-length-5 c = c .before .loop .inv .sizes .parents-size ∙ sym (start (c .before) .pre .1 .1 .0 .parents-size)
 
 same-length-6 : tie.Need-same-length-6 Inv-loop μ-loop
-same-length-6 c = c .before .loop .inv .sizes .names-size ∙ sym (start (c .before) .pre .1 .1 .names-size)
+same-length-6 c = c .before .loop .inv .sizes .names-size ∙ sym (start (c .before) .pre .1 .1 .0 .names-size)
 
 same-length-7 : tie.Need-same-length-7 Inv-loop μ-loop
-same-length-7 c = c .before .loop .inv .sizes .accepts-size ∙ sym (start (c .before) .pre .1 .1 .accepts-size)
+same-length-7 c = c .before .loop .inv .sizes .ends-size ∙ sym (start (c .before) .pre .1 .1 .0 .ends-size)
 
 same-length-8 : tie.Need-same-length-8 Inv-loop μ-loop
 same-length-8 c = c .before .loop .inv .work-kept
@@ -192,9 +192,9 @@ same-length-8 c = c .before .loop .inv .work-kept
 returns-2 : tie.Need-returns-2 Inv-loop μ-loop
 returns-2 c =
     let at = c .before in
-    let built = adding-ends (at .loop .inv) (omega arith) in
+    let built = adding-ends (at .loop .inv) (omega arith) (start at .pre .1 .1 .1) in
     tree-answer (rows at) (lent at) (held at) _ (built-number built) (λ none. built)
-    (start at .pre .1 .1)
+    (start at .pre .1 .1 .0)
     (at .loop .inv .sizes)
     (at .loop .inv .work-kept)
 
@@ -206,7 +206,7 @@ add-rows-spec =
     μ-loop
     slice-write-parents
     slice-write-names
-    slice-write-accepts
+    slice-write-ends
     loop-holds
     body-requires
     add-row-requires

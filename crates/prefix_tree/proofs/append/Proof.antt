@@ -15,8 +15,11 @@ slice-write-parents c = search needs
 slice-write-names : tie.Need-slice-write-names
 slice-write-names c = search needs
 
-slice-write-accepts : tie.Need-slice-write-accepts
-slice-write-accepts c = search needs
+mul-ends : tie.Need-mul-ends
+mul-ends c = search needs
+
+slice-write-ends : tie.Need-slice-write-ends
+slice-write-ends c = search needs
 
 wide8-requires : tie.Need-wide8-requires
 wide8-requires c κs = search needs
@@ -47,7 +50,8 @@ append-spec =
     mul-parents
     slice-write-parents
     slice-write-names
-    slice-write-accepts
+    mul-ends
+    slice-write-ends
     wide8-requires
     set-cell-requires
     same-length

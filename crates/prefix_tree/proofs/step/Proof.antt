@@ -23,7 +23,7 @@ unfound c = c .before .before .before .before .before .before
 abbrev lent : tie.After-child → Store
 lent c =
     let args = start c .args in
-    store (args .parents .now) (args .names .now) (args .accepts .now) (args .work .now)
+    store (args .parents .now) (args .names .now) (args .ends .now) (args .work .now)
 
 -- and as appending a state left them
 abbrev left : tie.After-append → Store

@@ -3,7 +3,7 @@ use mathlib.Core.Path.{sym, _∙_}
 use Rattle.model.specs.Joinings.{treeOf}
 use Rattle.model.proofs.Trees.{treeOf-tree}
 use Rattle.model.proofs.FirstMet.{states-length}
-use Rattle.quotient.proofs.TreeArcs.{labels-fit}
+use Rattle.indexed.proofs.TreeArcs.{labels-fit}
 use borrow.Author.Needs.{needs}
 use Rattle.quotient.proofs.prepare.Statement.{statement}
 use Rattle.quotient.proofs.prepare.Tie as tie
@@ -11,8 +11,8 @@ use Rattle.quotient.proofs.prepare.Tie as tie
 gather-requires : tie.Need-gather-requires
 gather-requires c κs = search needs
 
-mark-accepting-requires : tie.Need-mark-accepting-requires
-mark-accepting-requires c κs = search needs
+sum-ends-requires : tie.Need-sum-ends-requires
+sum-ends-requires c κs = search needs
 
 number-requires : tie.Need-number-requires
 number-requires c κs =
@@ -39,24 +39,24 @@ same-length-5 c = search needs
 returns : tie.Need-returns
 returns c =
     let after-number = c .before .before .before .before in
-    let after-marking = after-number .before .before .before .before .before .before .before in
-    let after-gather = after-marking .before .before .before .before .before .before in
+    let after-sums = after-number .before .before .before .before .before .before .before in
+    let after-gather = after-sums .before .before .before .before .before .before in
     let at = after-gather .before .before .before .before .before .before .before .before .before .before .before .before in
     let groups = at .args .groups .now in
-    λ rows joined told.
+    λ rows joined ends.
     let gathered = after-gather .gather .ensures rows joined in
     let states = after-number .number .ensures rows gathered in
     record {
       ready =
           record {
             gathered = gathered;
-            marked = after-marking .mark-accepting .ensures rows told (joined .labels);
+            summed = after-sums .sum-ends .ensures rows ends (joined .labels);
             numbered = states .numbered;
           };
       counted =
           states .numbered .counted
           ∙ sym (states-length (treeOf rows) groups (treeOf-tree rows) (labels-fit rows groups (joined .labels)) rows);
-      sized = states .sized;
+      arcs-are = states .arcs-are;
     }
 
 pub prepare-spec : {M : Type 1} → statement M
@@ -64,7 +64,7 @@ prepare-spec =
     tie.close
     (tie.spec
     gather-requires
-    mark-accepting-requires
+    sum-ends-requires
     number-requires
     same-length
     same-length-2

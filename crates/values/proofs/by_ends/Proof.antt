@@ -14,19 +14,19 @@ use Rattle.values.proofs.by_ends.Statement.{statement}
 use Rattle.values.proofs.by_ends.Tie as tie
 
 abbrev Inv-loop : tie.InvT-loop
-Inv-loop accepts values groups₀ links₀ heads₀ joined₀ v₀ groups links heads joined v =
-    (v ≤ length groups₀) × Filled (EndLabel accepts values) v groups₀ groups × Buckets accepts values v links heads
+Inv-loop ends values groups₀ links₀ heads₀ joined₀ v₀ groups links heads joined v =
+    (v ≤ length groups₀) × Filled (EndLabel ends values) v groups₀ groups × Buckets ends values v links heads
     × (joined ≡ false → Alone v groups)
 
 abbrev μ-loop : tie.MeasureT-loop
-μ-loop accepts values groups₀ links₀ heads₀ joined₀ v₀ groups links heads joined v = length groups₀ - v
+μ-loop ends values groups₀ links₀ heads₀ joined₀ v₀ groups links heads joined v = length groups₀ - v
 
 loop-holds : tie.Need-loop-holds Inv-loop μ-loop
 loop-holds c =
     let at = c .before .before .before in (
       omega arith,
       filled-none _ _,
-      buckets-none (at .args .accepts .now) (at .args .values .now),
+      buckets-none (at .args .ends .now) (at .args .values .now),
       λ none v h. absurd (omega arith),
     )
 
@@ -44,7 +44,7 @@ narrow16-requires c κs =
     let at = here .before .before .before .before in
     omega (
       arith,
-      label-low (at .args .accepts .now) (at .args .values .now) (here .loop .v) (c .end-label .result)
+      label-low (at .args .ends .now) (at .args .values .now) (here .loop .v) (c .end-label .result)
           (c .end-label .ensures .0),
       at .pre .0,
     )
@@ -67,9 +67,9 @@ loop-again c =
     let here = labels .before .before .before .before in
     let at = here .before .before .before .before in (
       omega arith,
-      filled-more (EndLabel (at .args .accepts .now) (at .args .values .now)) (here .loop .v) (c .narrow16 .result)
+      filled-more (EndLabel (at .args .ends .now) (at .args .values .now)) (here .loop .v) (c .narrow16 .result)
           (at .args .groups .now) (here .loop .groups) (omega arith)
-          (subst (EndLabel (at .args .accepts .now) (at .args .values .now) (here .loop .v)) (sym (c .narrow16 .ensures))
+          (subst (EndLabel (at .args .ends .now) (at .args .values .now) (here .loop .v)) (sym (c .narrow16 .ensures))
           (labels .end-label .ensures .0))
           (here .loop .inv .1),
       labels .end-label .ensures .1,
@@ -85,7 +85,7 @@ returns c =
     let here = c .before in
     let at = here .before .before .before .before in
     let all : length (at .args .groups .now) ≤ here .loop .v = omega (arith, here .loop .inv .1 .size) in (
-      by-ends-all (here .loop .v) (at .args .accepts .now) (at .args .values .now) (at .args .groups .now) (here .loop .groups)
+      by-ends-all (here .loop .v) (at .args .ends .now) (at .args .values .now) (at .args .groups .now) (here .loop .groups)
           all (here .loop .inv .1),
       λ none v h. here .loop .inv .3 none v (omega arith),
     )

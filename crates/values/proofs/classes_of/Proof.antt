@@ -1,5 +1,6 @@
 -- `values::classes_of` meets its contract: where all states accept, the groups are the classes. Assumes nothing.
 use mathlib.Core.Path.{sym}
+use native.Mathlib.Omega.{arith}
 use lib.ListN.{length}
 use Rattle.base.proofs.Fills.{cut, cut-at}
 use Rattle.values.proofs.EndLaws.{ends-classes}
@@ -28,7 +29,7 @@ returns c =
     let done = c .before .before in
     let start = done .before .before .before .before .before in
     let n = length (start .args .classes .now) in (
-      ends-classes n _ (start .args .values .now) (done .by-ends .last .1 .1 .0) (λ v h. cut-at n 1 v (start .pre .0) h)
+      ends-classes n _ (start .args .values .now) (done .by-ends .last .1 .1 .0) (λ v h. omega (arith, cut-at n 1 v (start .pre .0) h))
           (done .by-ends .ensures .0),
       done .by-ends .ensures .1,
     )

@@ -13,8 +13,8 @@ use Rattle.values.proofs.first_alike.Tie as tie
 
 abbrev Inv-loop : tie.InvT-loop
 Inv-loop values links heads b v value at₀ at =
-    (accepts : List ℕ) → Buckets accepts values v links heads →
-    Searched v (Listed accepts values) (SameValue values v) b at
+    (ends : List ℕ) → Buckets ends values v links heads →
+    Searched v (Listed ends values) (SameValue values v) b at
 
 abbrev μ-loop : tie.MeasureT-loop
 μ-loop values links heads b v value at₀ at = at
@@ -23,17 +23,17 @@ abbrev μ-loop : tie.MeasureT-loop
 next-place :
     (c : tie.After-wide162 Inv-loop μ-loop) → let here = c .before .before .before .before .before in
     let at = here .before .before .before .before .before in
-    (accepts : List ℕ) → Buckets accepts (at .args .values .now) (at .args .v) (at .args .links .now) (at .args .heads .now) →
+    (ends : List ℕ) → Buckets ends (at .args .values .now) (at .args .v) (at .args .links .now) (at .args .heads .now) →
     (c .wide162 .result < here .loop .at)
-    × Searched (at .args .v) (Listed accepts (at .args .values .now)) (SameValue (at .args .values .now) (at .args .v))
+    × Searched (at .args .v) (Listed ends (at .args .values .now)) (SameValue (at .args .values .now) (at .args .v))
     (at .args .b) (c .wide162 .result)
-next-place c accepts lists =
+next-place c ends lists =
     let here = c .before .before .before .before .before in
     let at = here .before .before .before .before .before in
-    searched-on (at .args .v) (Listed accepts (at .args .values .now)) (SameValue (at .args .values .now) (at .args .v))
+    searched-on (at .args .v) (Listed ends (at .args .values .now)) (SameValue (at .args .values .now) (at .args .v))
     (at .args .links .now) (at .args .heads .now) (at .args .b) (here .loop .at) (here .loop .at - 1) (c .wide162 .result)
     (omega arith) (c .wide162 .ensures)
-    (c .before .before .if1 .left) (lists .chained) (here .loop .inv accepts lists)
+    (c .before .before .if1 .left) (lists .chained) (here .loop .inv ends lists)
 
 mul-value : tie.Need-mul-value Inv-loop μ-loop
 mul-value c = omega (arith, c .before .pre .0, c .before .pre .1 .0)
@@ -53,8 +53,8 @@ wide16-requires c κs = search needs
 loop-holds : tie.Need-loop-holds Inv-loop μ-loop
 loop-holds c =
     let at = c .before .before .before .before in
-    λ accepts lists.
-    searched-start (at .args .v) (Listed accepts (at .args .values .now)) (SameValue (at .args .values .now) (at .args .v))
+    λ ends lists.
+    searched-start (at .args .v) (Listed ends (at .args .values .now)) (SameValue (at .args .values .now) (at .args .v))
     (at .args .links .now) (at .args .heads .now) (at .args .b) (c .wide16 .result) (c .wide16 .ensures) (lists .chained)
 
 sub-u : tie.Need-sub-u Inv-loop μ-loop
@@ -65,23 +65,23 @@ mul-if1 c =
     let here = c .before in
     let at = here .before .before .before .before .before in
     let lists = at .pre .1 .1 .1 .1 in
-    omega (arith, here .loop .inv (lists .accepts) (lists .buckets) .low, at .pre .1 .0, at .pre .0)
+    omega (arith, here .loop .inv (lists .ends) (lists .buckets) .low, at .pre .1 .0, at .pre .0)
 
 shared-slice-read-if1 : tie.Need-shared-slice-read-if1 Inv-loop μ-loop
 shared-slice-read-if1 c =
     let here = c .before .before in
     let at = here .before .before .before .before .before in
     let lists = at .pre .1 .1 .1 .1 in
-    omega (arith, here .loop .inv (lists .accepts) (lists .buckets) .low, at .pre .1 .0)
+    omega (arith, here .loop .inv (lists .ends) (lists .buckets) .low, at .pre .1 .0)
 
 returns : tie.Need-returns Inv-loop μ-loop
 returns c =
     let here = c .before .before .before in
     let at = here .before .before .before .before .before in
     record {
-      first = λ accepts accepting lists.
-          first-found accepts (at .args .values .now) (at .args .v) (at .args .b) (here .loop .at) (here .loop .at - 1)
-          (omega arith) (c .if1 .taken) (here .loop .inv accepts lists);
+      first = λ ends accepting lists.
+          first-found ends (at .args .values .now) (at .args .v) (at .args .b) (here .loop .at) (here .loop .at - 1)
+          (omega arith) (c .if1 .taken) (here .loop .inv ends lists);
     }
 
 mul-wide16-2 : tie.Need-mul-wide16-2 Inv-loop μ-loop
@@ -89,14 +89,14 @@ mul-wide16-2 c =
     let here = c .before .before .before in
     let at = here .before .before .before .before .before in
     let lists = at .pre .1 .1 .1 .1 in
-    omega (arith, here .loop .inv (lists .accepts) (lists .buckets) .low, at .pre .1 .0, at .pre .0)
+    omega (arith, here .loop .inv (lists .ends) (lists .buckets) .low, at .pre .1 .0, at .pre .0)
 
 element-copy-out-wide16-2 : tie.Need-element-copy-out-wide16-2 Inv-loop μ-loop
 element-copy-out-wide16-2 c =
     let here = c .before .before .before in
     let at = here .before .before .before .before .before in
     let lists = at .pre .1 .1 .1 .1 in
-    omega (arith, here .loop .inv (lists .accepts) (lists .buckets) .low, at .pre .1 .0, at .pre .0)
+    omega (arith, here .loop .inv (lists .ends) (lists .buckets) .low, at .pre .1 .0, at .pre .0)
 
 wide16-requires-2 : tie.Need-wide16-requires-2 Inv-loop μ-loop
 wide16-requires-2 c κs = search needs
@@ -104,19 +104,19 @@ wide16-requires-2 c κs = search needs
 loop-less : tie.Need-loop-less Inv-loop μ-loop
 loop-less c =
     let lists = c .before .before .before .before .before .before .before .before .before .before .pre .1 .1 .1 .1 in
-    next-place c (lists .accepts) (lists .buckets) .0
+    next-place c (lists .ends) (lists .buckets) .0
 
 loop-again : tie.Need-loop-again Inv-loop μ-loop
-loop-again c = λ accepts lists. next-place c accepts lists .1
+loop-again c = λ ends lists. next-place c ends lists .1
 
 returns-2 : tie.Need-returns-2 Inv-loop μ-loop
 returns-2 c =
     let here = c .before in
     let at = here .before .before .before .before .before in
     record {
-      first = λ accepts accepting lists.
-          first-itself accepts (at .args .values .now) (at .args .v) (at .args .b) (here .loop .at) (omega arith)
-          (at .pre .1 .1 .0) accepting (here .loop .inv accepts lists);
+      first = λ ends accepting lists.
+          first-itself ends (at .args .values .now) (at .args .v) (at .args .b) (here .loop .at) (omega arith)
+          (at .pre .1 .1 .0) accepting (here .loop .inv ends lists);
     }
 
 pub first-alike-spec : {M : Type 1} → statement M

@@ -52,7 +52,7 @@ pub fn copies(run: &mut Run) -> Result<(), Mismatch> {
 }
 
 /// A book of up to 240 rows of one or two of 64 names, many of them different.
-fn draw_many_rows(random: &mut Random) -> Draft {
+pub fn draw_many_rows(random: &mut Random) -> Draft {
     let count = random.between(1, 240);
     let draw_row = |_| (0..random.between(1, 2)).map(|_| random.below(NAMES_LIMIT) as u8).collect();
     let rows = (0..count).map(draw_row).collect();

@@ -1,6 +1,7 @@
 //! The kinds of checks. Each is a function that runs one case: it draws what it needs and compares some calls.
 
 mod books;
+mod counted;
 mod languages;
 mod listings;
 #[cfg(expat)]
@@ -49,6 +50,14 @@ pub const KINDS: &[Kind] = &[
     kind("books damaged at every byte, listed", 30, listings::damaged),
     kind("books and any bytes listed with working areas of 0 to 100,000 bytes", 5, listings::working_areas),
     kind("books, damaged books and any bytes, listed by the listing program", 5, listings::books),
+    kind("books of all 46 classes and with no class field, built with counts", 40, counted::every_class),
+    kind("large books built with counts, with outputs of lengths about what is written", 10, counted::large),
+    kind("books with rows shuffled and rows repeated: which tables and counts are the same", 20, counted::bags),
+    kind("books damaged at every byte, built with counts", 40, counted::damaged),
+    kind("books cut at every length, and with fields moved, built with counts", 20, counted::cut_and_moved),
+    kind("builds with table and counts in outputs of each length from 0 to one more than needed", 30, counted::outputs),
+    kind("builds with counts, and working areas of 0 to 100,000 bytes", 10, counted::working_areas),
+    kind("books of 256 rows and of 40 entries, and trees and books too large, built with counts", 5, counted::limits),
     kind("plans, every name of the list chosen; list and rows together a book", 80, plans::valid),
     kind("plans damaged at every byte", 200, plans::damaged),
     kind("plans with every byte value at one place", 100, plans::every_byte),

@@ -98,7 +98,7 @@ fn draw_longest_table(random: &mut Random, more: usize) -> Table {
 }
 
 /// A small book and rows more, up to exactly the given length; the last row is as long as need be.
-fn draw_long_book(random: &mut Random, length: usize) -> Vec<u8> {
+pub fn draw_long_book(random: &mut Random, length: usize) -> Vec<u8> {
     let mut book = draw_small_book(random).bytes();
     for _ in 0..random.below(ROWS_LIMIT) {
         write_field(&mut book, ROW, &[0; ROW_LIMIT]);
@@ -135,21 +135,27 @@ fn chain_of_states(count: usize) -> Vec<u8> {
     Table { names: vec![b"n".to_vec()], class: Class::SeenSet, states }.bytes()
 }
 
-/// Thirteen rows with different first names: twelve of 40 and one of 31 need 512 states, with 32 in the last they need 513. Mostly of
-/// many names, so that few states are joined and the reference is quick.
+/// Thirteen rows with different first names: twelve of 40 and one of 31 need 512 states, with 32 in the last they need 513.
 fn tree_limit(run: &mut Run) -> Result<(), Mismatch> {
     for last in [31, 32] {
-        let used = if run.random.once_in(8) { run.random.between(4, 16) } else { NAMES_LIMIT };
-        let mut rows = vec![];
-        for first in 0..13 {
-            let length = if first == 12 { last } else { ROW_LIMIT };
-            let mut row: Vec<u8> = (0..length).map(|_| run.random.below(used) as u8).collect();
-            row[0] = first;
-            rows.push(row);
-        }
+        let rows = rows_about_tree_limit(&mut run.random, last);
         let names = draw_names(&mut run.random, NAMES_LIMIT);
         let class = draw_class(&mut run.random);
         run.compare_build(&Draft { names, class, rows }.bytes())?;
     }
     Ok(())
+}
+
+/// Thirteen rows with different first names, twelve of 40 and the last of so many. Mostly of many names, so that few states are joined
+/// and the reference is quick.
+pub fn rows_about_tree_limit(random: &mut Random, last: usize) -> Vec<Vec<u8>> {
+    let used = if random.once_in(8) { random.between(4, 16) } else { NAMES_LIMIT };
+    let mut rows = vec![];
+    for first in 0..13 {
+        let length = if first == 12 { last } else { ROW_LIMIT };
+        let mut row: Vec<u8> = (0..length).map(|_| random.below(used) as u8).collect();
+        row[0] = first;
+        rows.push(row);
+    }
+    rows
 }

@@ -1,5 +1,7 @@
-//! The worked days of docs/SCOPE.md, its example, its edges, how many rows differ, the refusals it numbers, and its readings of plans.
+//! The worked days of docs/SCOPE.md, its example, its edges, how many rows differ, how often each way is used, the refusals it numbers,
+//! and its readings of plans.
 
+mod counts;
 mod different_rows;
 mod edges;
 mod examples;

@@ -39,21 +39,21 @@ same-length-2 c = search needs
 
 returns : tie.Need-returns
 returns c =
-    let ends = c .before .before .before in
-    let at = from-own (from-ends ends) in
-    let none = not-true (ends .by-ends .result) (c .if1 .taken) in
-    finished-alone (length (at .args .groups .now)) (at .args .parents .now) (at .args .names .now) (at .args .accepts .now)
-    (at .args .values .now) (at .args .keys .now) (at .args .more .now) (ends .by-ends .last .1 .1 .0) (at .pre .0)
-    (ends .by-ends .ensures .0) (ends .by-ends .ensures .1 none)
+    let begun = c .before .before .before in
+    let at = from-own (from-ends begun) in
+    let none = not-true (begun .by-ends .result) (c .if1 .taken) in
+    finished-alone (length (at .args .groups .now)) (at .args .parents .now) (at .args .names .now) (at .args .ends .now)
+    (at .args .values .now) (at .args .keys .now) (at .args .more .now) (begun .by-ends .last .1 .1 .0) (at .pre .0)
+    (begun .by-ends .ensures .0) (begun .by-ends .ensures .1 none)
 
 close-requires : tie.Need-close-requires
 close-requires c κs =
-    let ends = c .before .before .before .before .before in
-    let own = from-ends ends in
+    let begun = c .before .before .before .before .before in
+    let own = from-ends begun in
     let at = from-own own in
-    let labelled = ends .by-ends .ensures .0 .labelled in (
-      finish-ready (length (at .args .groups .now)) (at .args .parents .now) (at .args .names .now) (at .args .accepts .now)
-          (at .args .values .now) (at .args .keys .now) (at .args .more .now) (own .own .last .0) (ends .by-ends .last .1 .1 .0)
+    let labelled = begun .by-ends .ensures .0 .labelled in (
+      finish-ready (length (at .args .groups .now)) (at .args .parents .now) (at .args .names .now) (at .args .ends .now)
+          (at .args .values .now) (at .args .keys .now) (at .args .more .now) (own .own .last .0) (begun .by-ends .last .1 .1 .0)
           (at .pre .0) (own-here own) labelled,
       λ none. subst (λ (m : ℕ). NoKeys m (at .args .more .now)) (sym (labelled .size)) (at .pre .1 .1 none),
     )
@@ -67,12 +67,12 @@ same-length-4 c = search needs
 returns-2 : tie.Need-returns-2
 returns-2 c =
     let closes = c .before .before in
-    let ends = closes .before .before .before .before .before .before in
-    let own = from-ends ends in
+    let begun = closes .before .before .before .before .before .before in
+    let own = from-ends begun in
     let at = from-own own in
-    finished (length (at .args .groups .now)) (at .args .parents .now) (at .args .names .now) (at .args .accepts .now)
-    (at .args .values .now) (at .args .keys .now) (at .args .more .now) (own .own .last .0) (ends .by-ends .last .1 .1 .0)
-    (closes .close .last .1 .1 .1 .1 .1 .1 .0) (own-here own) (ends .by-ends .ensures .0) (closes .close .ensures)
+    finished (length (at .args .groups .now)) (at .args .parents .now) (at .args .names .now) (at .args .ends .now)
+    (at .args .values .now) (at .args .keys .now) (at .args .more .now) (own .own .last .0) (begun .by-ends .last .1 .1 .0)
+    (closes .close .last .1 .1 .1 .1 .1 .1 .0) (own-here own) (begun .by-ends .ensures .0) (closes .close .ensures)
 
 pub finish-spec : {M : Type 1} → statement M
 finish-spec =

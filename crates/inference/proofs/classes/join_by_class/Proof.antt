@@ -62,7 +62,7 @@ returns c =
     subst (λ (h : ℕ). ContextJoined n (args .first) h (args .parents .now) (args .names .now) groups)
     (second-wide .wide82 .ensures) with-k in
     λ rows tree.
-    by-context (args .kind) (args .first) (args .second) n rows (args .parents .now) (args .names .now) (args .accepts .now) groups
+    by-context (args .kind) (args .first) (args .second) n rows (args .parents .now) (args .names .now) (args .ends .now) groups
     tree (at .pre .1 .arrays .parents-size) (chosen .match .keys1) (at .pre .0) joined
 
 same-length-2 : tie.Need-same-length-2
@@ -78,10 +78,10 @@ returns-2 c =
     let groups = done .last .1 .1 .1 .1 .1 .0 in
     let n = length (args .groups .now) in
     let joined =
-    subst (λ (j : ℕ). JoinedByF (eqb (args .kind) 1) n j (args .parents .now) (args .names .now) (args .accepts .now) groups)
+    subst (λ (j : ℕ). JoinedByF (eqb (args .kind) 1) n j (args .parents .now) (args .names .now) (args .ends .now) groups)
     (wide .wide83 .ensures) (done .ensures) in
     λ rows tree.
-    by-function (args .kind) (args .first) (args .second) n rows (args .parents .now) (args .names .now) (args .accepts .now)
+    by-function (args .kind) (args .first) (args .second) n rows (args .parents .now) (args .names .now) (args .ends .now)
     groups tree (start .pre .1 .arrays .parents-size) (chosen .match .rest .1) joined
 
 pub join-by-class-spec : {M : Type 1} → statement M

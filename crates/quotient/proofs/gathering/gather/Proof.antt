@@ -4,7 +4,8 @@ use mathlib.Core.Path.{_≡_, refl, ap, _∙_}
 use Prim.Native.Nat.{ℕ, _-_, _<_}
 use native.Mathlib.Omega.{arith}
 use lib.ListN.{length, getD}
-use Rattle.quotient.proofs.ArcPass.{GatheredUpTo, ArcHere, gather-start, arc-here, gathered-more, gather-end}
+use Rattle.indexed.proofs.TreeArcs.{ArcHere, arc-here}
+use Rattle.quotient.proofs.ArcPass.{GatheredUpTo, gather-start, gathered-more, gather-end}
 use Rattle.quotient.proofs.gathering.gather.Statement.{statement}
 use Rattle.quotient.proofs.gathering.gather.Tie as tie
 

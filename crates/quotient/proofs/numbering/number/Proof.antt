@@ -1,5 +1,4 @@
--- `numbering::number` meets its contract: the first i groups met are looked at, and the bytes of their states counted. Assumes
--- nothing.
+-- `numbering::number` meets its contract: the first i groups met are looked at, and their arcs counted. Assumes nothing.
 use borrow.Author.Needs.{needs}
 use mathlib.Core.Path.{_≡_, refl, ap, _∙_}
 use mathlib.Core.List.{List, [], _∷_}
@@ -10,9 +9,9 @@ use lib.ListN.{length, getD}
 use Rattle.model.specs.Classes.{Word}
 use Rattle.model.specs.Joinings.{treeOf}
 use Rattle.model.specs.Quotients.{statesOf}
-use Rattle.model.specs.Tables.{stateFields}
+use Rattle.model.specs.Tables.{arcCount}
 use Rattle.quotient.specs.Gathered.{Gathered}
-use Rattle.quotient.proofs.TreeArcs.{tree-some}
+use Rattle.indexed.proofs.TreeArcs.{tree-some}
 use Rattle.quotient.proofs.MetLaws.{
   Numbering,
   Look,
@@ -24,22 +23,22 @@ use Rattle.quotient.proofs.MetLaws.{
   numbering-more,
   numbering-end,
 }
-use Rattle.quotient.proofs.StatePieces.{fieldsFrom, fields-all, fields-none, sized-more}
+use Rattle.quotient.proofs.StatePieces.{statesFrom, states-all, arcs-count-more, arcs-count-none}
 use Rattle.quotient.proofs.numbering.number.Statement.{statement}
 use Rattle.quotient.proofs.numbering.number.Tie as tie
 
--- the first i groups met are looked at, and the bytes of their states counted
-record Counting (rows : List Word) (groups met numbers : List ℕ) (count bytes i : ℕ) : Type 0 where
+-- the first i groups met are looked at, and their arcs counted
+record Counting (rows : List Word) (groups met numbers : List ℕ) (count arcs i : ℕ) : Type 0 where
   numbering : Numbering rows groups met numbers i count
-  counted : bytes + length (fieldsFrom rows groups i) ≡ length (stateFields (statesOf rows (treeOf rows) groups))
+  counted : arcs + arcCount (statesFrom rows groups i) ≡ arcCount (statesOf rows (treeOf rows) groups)
 
 abbrev Inv-loop : tie.InvT-loop
-Inv-loop groups work next met₀ numbers₀ count₀ bytes₀ i₀ met numbers count bytes i =
-    (length met ≡ length met₀) × ((length numbers ≡ length numbers₀) × ((bytes ≤ 196 * i)
-    × ((rows : List Word) → Gathered rows groups work next → Counting rows groups met numbers count bytes i)))
+Inv-loop groups work next met₀ numbers₀ count₀ arcs₀ i₀ met numbers count arcs i =
+    (length met ≡ length met₀) × ((length numbers ≡ length numbers₀) × ((arcs ≤ 64 * i)
+    × ((rows : List Word) → Gathered rows groups work next → Counting rows groups met numbers count arcs i)))
 
 abbrev μ-loop : tie.MeasureT-loop
-μ-loop groups work next met₀ numbers₀ count₀ bytes₀ i₀ met numbers count bytes i = length groups - i
+μ-loop groups work next met₀ numbers₀ count₀ arcs₀ i₀ met numbers count arcs i = length groups - i
 
 -- the function's entry, from the loop's head; the turn of the loop, from where its group is read, and from where all is met
 abbrev entry : tie.At-loop Inv-loop μ-loop → tie.Start Inv-loop μ-loop
@@ -59,7 +58,7 @@ read c = c .before .before .before .before
 -- what holds of the rows that the entry promises
 promised :
     (c : tie.At-loop Inv-loop μ-loop) → let at = entry c in
-    Counting (at .pre .0 .0) (at .args .groups .now) (c .loop .met) (c .loop .numbers) (c .loop .count) (c .loop .bytes) (c .loop .i)
+    Counting (at .pre .0 .0) (at .args .groups .now) (c .loop .met) (c .loop .numbers) (c .loop .count) (c .loop .arcs) (c .loop .i)
 promised c = c .loop .inv .1 .1 .1 (entry c .pre .0 .0) (entry c .pre .0 .1)
 
 -- no more groups are met than there are states, and the arrays have room for them
@@ -106,7 +105,7 @@ look c rows gathered =
 -- no group has more than 64 arcs, and few groups are met
 arcs-few :
     (c : tie.After-how-many Inv-loop μ-loop) → let head = turn (read (met-all c)) .before in
-    (c .how-many .result ≤ 64) × (head .loop .bytes ≤ 196 * head .loop .i) × (head .loop .i < 512)
+    (c .how-many .result ≤ 64) × (head .loop .arcs ≤ 64 * head .loop .i) × (head .loop .i < 512)
 arcs-few c =
     let group = read (met-all c) in
     let head = turn group .before in
@@ -117,8 +116,8 @@ arcs-few c =
       omega (arith, room head, turn group .loop-test .taken),
     )
 
-none-met-requires : tie.Need-none-met-requires Inv-loop μ-loop
-none-met-requires c κs = search needs
+fill-requires : tie.Need-fill-requires Inv-loop μ-loop
+fill-requires c κs = search needs
 
 shared-slice-read-wide16 : tie.Need-shared-slice-read-wide16 Inv-loop μ-loop
 shared-slice-read-wide16 c =
@@ -131,21 +130,21 @@ wide16-requires c κs = search needs
 
 meet-one-requires : tie.Need-meet-one-requires Inv-loop μ-loop
 meet-one-requires c κs =
-    let after-none-met = c .before .before .before .before .before .before in
-    let at = after-none-met .before .before .before .before .before .before .before in
+    let after-fill = c .before .before .before .before .before .before in
+    let at = after-fill .before .before .before .before .before .before .before in
     let rows = at .pre .0 .0 in
     let met =
     root-meeting rows (at .args .groups .now) (at .args .work .now) (at .args .next .now) (at .pre .0 .1) (at .args .met .now)
-    (at .args .numbers .now) (after-none-met .none-met .last .0) (c .wide16 .result) (at .pre .1 .0) (at .pre .1 .1)
-    (after-none-met .none-met .ensures) (c .wide16 .ensures) in
+    (at .args .numbers .now) (after-fill .fill .last .0) (c .wide16 .result) (at .pre .1 .0) (at .pre .1 .1)
+    (after-fill .fill .ensures) (c .wide16 .ensures) in
     (length (treeOf rows), c .wide16 .result ∷ [], met)
 
 loop-holds : tie.Need-loop-holds Inv-loop μ-loop
 loop-holds c =
     let after-meet-one = c .before .before .before .before in
     let after-wide16 = after-meet-one .before in
-    let after-none-met = after-wide16 .before .before .before .before .before .before in
-    let at = after-none-met .before .before .before .before .before .before .before in
+    let after-fill = after-wide16 .before .before .before .before .before .before in
+    let at = after-fill .before .before .before .before .before .before .before in
     let groups = at .args .groups .now in
     let work = at .args .work .now in
     let next = at .args .next .now in
@@ -158,14 +157,14 @@ loop-holds c =
           λ rows gathered.
               let met =
               root-meeting rows groups work next gathered (at .args .met .now) (at .args .numbers .now)
-              (after-none-met .none-met .last .0) (after-wide16 .wide16 .result) (at .pre .1 .0) (at .pre .1 .1)
-              (after-none-met .none-met .ensures) (after-wide16 .wide16 .ensures) in
+              (after-fill .fill .last .0) (after-wide16 .wide16 .result) (at .pre .1 .0) (at .pre .1 .1)
+              (after-fill .fill .ensures) (after-wide16 .wide16 .ensures) in
               record {
                 numbering =
                     numbering-start rows groups work next gathered (first .last .0) (first .last .1 .0) (after-wide16 .wide16 .result)
                     (first .result) (after-wide16 .wide16 .ensures)
                     (first .ensures (length (treeOf rows)) (after-wide16 .wide16 .result ∷ []) met);
-                counted = omega (arith, ap length (fields-all rows groups));
+                counted = omega (arith, ap arcCount (states-all rows groups));
               },
         ),
       ),
@@ -199,14 +198,8 @@ meet-requires c κs =
 how-many-requires : tie.Need-how-many-requires Inv-loop μ-loop
 how-many-requires c κs = search needs
 
-mul-bytes : tie.Need-mul-bytes Inv-loop μ-loop
-mul-bytes c = omega (arith, arcs-few c)
-
-add-bytes : tie.Need-add-bytes Inv-loop μ-loop
-add-bytes c = omega (arith, arcs-few c)
-
-add-bytes-2 : tie.Need-add-bytes-2 Inv-loop μ-loop
-add-bytes-2 c = omega (arith, arcs-few c)
+add-arcs : tie.Need-add-arcs Inv-loop μ-loop
+add-arcs c = omega (arith, arcs-few c)
 
 add-i : tie.Need-add-i Inv-loop μ-loop
 add-i c = omega (arith, arcs-few c)
@@ -245,8 +238,9 @@ loop-again c =
                 counted =
                     omega (
                       arith,
-                      sized-more rows groups work next gathered (head .loop .i) g (head .loop .bytes) (c .how-many .result) (here .0)
-                          (here .1) (omega (arith, low, group .wide162 .ensures)) (c .how-many .ensures) (before .counted),
+                      before .counted,
+                      arcs-count-more rows groups work next gathered (head .loop .i) g (c .how-many .result) (here .0) (here .1)
+                          (omega (arith, low, group .wide162 .ensures)) (c .how-many .ensures),
                     );
               },
         ),
@@ -263,8 +257,8 @@ same-length-2 : tie.Need-same-length-2 Inv-loop μ-loop
 same-length-2 c =
     let head = c .before in
     let after-meet-one = head .before .before .before .before .before in
-    let after-none-met = after-meet-one .before .before .before .before .before .before .before in
-    head .loop .inv .1 .0 ∙ after-meet-one .meet-one .kept .1 .0 ∙ after-none-met .none-met .kept .0
+    let after-fill = after-meet-one .before .before .before .before .before .before .before in
+    head .loop .inv .1 .0 ∙ after-meet-one .meet-one .kept .1 .0 ∙ after-fill .fill .kept .0
 
 returns : tie.Need-returns Inv-loop μ-loop
 returns c =
@@ -278,11 +272,11 @@ returns c =
     (head .loop .i) (head .loop .count) (counting .numbering) (c .loop-test .left) in
     record {
       numbered = every;
-      sized =
+      arcs-are =
           omega (
             arith,
             counting .counted,
-            ap length (fields-none rows groups (head .loop .i) (omega (arith, every .counted, c .loop-test .left))),
+            arcs-count-none rows groups (head .loop .i) (omega (arith, every .counted, c .loop-test .left)),
           );
     }
 
@@ -292,7 +286,7 @@ number-spec =
     (tie.spec
     Inv-loop
     μ-loop
-    none-met-requires
+    fill-requires
     shared-slice-read-wide16
     wide16-requires
     meet-one-requires
@@ -304,9 +298,7 @@ number-spec =
     shared-slice-read-names
     meet-requires
     how-many-requires
-    mul-bytes
-    add-bytes
-    add-bytes-2
+    add-arcs
     add-i
     loop-less
     loop-again

@@ -7,7 +7,7 @@ use native.Mathlib.Omega.{arith}
 use lib.ListN.{length, getD}
 use Rattle.writing.specs.Writing.{arcPart}
 use Rattle.quotient.specs.Ready.{ArcsToWrite}
-use Rattle.quotient.proofs.BytesLeft.{BytesLeft, left-all, left-more, left-length, left-room, left-none}
+use Rattle.writing.proofs.BytesLeft.{BytesLeft, left-all, left-more, left-length, left-room, left-none}
 use Rattle.quotient.proofs.StatePieces.{arcs-write-name, arcs-write-more, arcs-write-done}
 use Rattle.quotient.proofs.states.write_arcs.Statement.{statement}
 use Rattle.quotient.proofs.states.write_arcs.Tie as tie

@@ -4,7 +4,6 @@ use mathlib.Core.List.{_++_}
 use Prim.Native.Nat.{ℕ, _+_, _-_}
 use native.Mathlib.Omega.{arith}
 use lib.Count.{ones-le}
-use lib.Dec.{eqb}
 use Rattle.writing.specs.Writing.{stateHead}
 use Rattle.writing.proofs.WritingLaws.{put-before}
 use Rattle.quotient.proofs.StatePieces.{state-parts}
@@ -59,7 +58,7 @@ returns c =
     let at = start (after .before) in
     let fits = at .pre .1 .2 in
     let room = state-parts (at .pre .1 .1) .sized in
-    let accepts = eqb (at .args .accepts) 1 in
+    let accepts = at .args .accepts in
     let head = after-put-state .put-state in
     let arcs = after .write-arcs in
     λ bytes given.

@@ -1,0 +1,3 @@
+-- What the contracts of counting cite: the passes summed in cells, and what is to be written of them. Assumes nothing.
+pub mod PassCells
+pub mod Ready
