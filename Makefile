@@ -29,7 +29,7 @@ help:
 	@echo "make fuzz SECONDS=600   the comparison of test-outside with new inputs, as long as asked"
 	@echo "make bench         what calls cost, as multiples of one memset, beside a second implementation and beside expat"
 	@echo "make bench-search SECONDS=300   looks for books that cost more"
-	@echo "make bench-against BEFORE=FILE  builds against those by an earlier libplans.so, in one run"
+	@echo "make bench-against BEFORE=FILE  builds and a walk against those by an earlier libplans.so, in one run"
 	@echo "make fmt           puts every .rt and .antt file into the layout"
 
 # What is proved and compiled: scripts/anew makes it where it was not made from the sources as they are. The kit is asked for only

@@ -33,7 +33,7 @@ extern "C" {
 #endif
 
 /* The version of this header and of the library beside it. scripts/header writes this line from the file VERSION. */
-#define PLANS_VERSION "3.1.0"
+#define PLANS_VERSION "3.2.0"
 
 /* The least length of a working area, in bytes. */
 #define PLANS_WORK_BYTES 65536
@@ -112,9 +112,9 @@ enum {
 
 /* What `outcome` says of a walk that is not refused. */
 enum {
-    PLANS_ADMITTED = 1,   /* all names walked, and the last state accepts */
-    PLANS_ON_THE_WAY = 2, /* all names walked, and the last state does not accept */
-    PLANS_STOPS = 3       /* some name has no arc */
+    PLANS_ADMITTED = 1,   /* the row is admitted */
+    PLANS_ON_THE_WAY = 2, /* it is not, but some admitted row, of any length, begins with it */
+    PLANS_STOPS = 3       /* no admitted row begins with it */
 };
 
 /* What building a table gives back. Where it is refused, all but `refusal` is 0. */
@@ -156,8 +156,8 @@ typedef struct {
     uint8_t refusal;     /* 0, or the refusal */
     uint8_t outcome;     /* PLANS_ADMITTED, PLANS_ON_THE_WAY or PLANS_STOPS */
     uint8_t next_count;  /* how many names may come next */
-    uint32_t walked;     /* how many of the row's names can be walked: the longest beginning is row[0] to row[walked - 1] */
-    uint64_t next_names; /* the names that may come next, from the state reached: bit n for name n */
+    uint32_t walked;     /* row[0] to row[walked - 1] is the longest beginning of the row that begins an admitted row */
+    uint64_t next_names; /* the names that may come next: with them this beginning still begins an admitted row; bit n for name n */
 } plans_walked;
 
 /* What reading a plan's rows gives back. Where it is refused, `length` and `rows` are 0, and `at` is 0 but for 14, 15 and 16. */
@@ -204,7 +204,11 @@ plans_rewritten plans_rewrite(const uint8_t *table, size_t table_len,
                               uint8_t *out, size_t out_len);
 
 /*
- * Walks the row, a name's number in each byte, over the table from its state 0.
+ * Walks the row, a name's number in each byte, over the table from its state 0: tells whether the row is admitted or begins an admitted
+ * row, how much of it does, and which names may come next. In a table from elsewhere a state may lead to no accepting state; such a table
+ * is legal, and a walk stops before a name that leads to such a state. No table that plans_build writes has one (proved).
+ * After PLANS_STOPS row[walked] is the name that may not come, unless the row is empty: where the table admits no row, every row stops,
+ * the empty one too, with `walked`, `next_names` and `next_count` 0.
  * Reads `table` and `row`; writes `work` (zeros). Refusals, the first that applies: 1; those of the table's fields, in the table's
  * order; 12; then 9, for the row.
  */

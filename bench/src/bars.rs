@@ -7,6 +7,8 @@ pub enum Bar {
     Large,
     Worst,
     Walk,
+    BuiltWalk,
+    ZigzagWalk,
     Ratio,
     Copied,
     CountedTypical,
@@ -19,12 +21,14 @@ pub enum Bar {
     ReadingStack,
 }
 
-const BARS: [(Bar, &str, f64); 15] = [
+const BARS: [(Bar, &str, f64); 17] = [
     (Bar::TypicalDefault, "typical (2,1), memsets", 8.0),
     (Bar::Typical, "typical, any class, memsets", 30.0),
     (Bar::Large, "512-state books, memsets", 200.0),
     (Bar::Worst, "worst books found, memsets", 4000.0),
     (Bar::Walk, "walk of 40 names over 512 states, memsets", 12.0),
+    (Bar::BuiltWalk, "walk of 40 to rewriting, as built, ratio", 1.5),
+    (Bar::ZigzagWalk, "walk of 40 to rewriting, zigzag, ratio", 3.0),
     (Bar::Ratio, "library to maps, ratio", 1.2),
     (Bar::Copied, "days copied sixfold to once, library, ratio", 4.0),
     (Bar::CountedTypical, "typical, with counts to without, ratio", 1.25),

@@ -76,7 +76,7 @@ pub fn short_names(count: usize) -> Vec<Vec<u8>> {
     (0..count as u8).map(|i| vec![b'a' + i / 8, b'a' + i % 8]).collect()
 }
 
-fn put_field(bytes: &mut Vec<u8>, mark: u8, body: &[u8]) {
+pub fn put_field(bytes: &mut Vec<u8>, mark: u8, body: &[u8]) {
     bytes.push(mark);
     bytes.extend_from_slice(&(body.len() as u16).to_be_bytes());
     bytes.extend_from_slice(body);

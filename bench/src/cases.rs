@@ -1,6 +1,7 @@
-//! The books that are timed.
+//! The books and tables that are timed.
 
-use crate::book::{short_names, Book, Class, BOOK_ROWS, CLASSES, NAME_LIMIT, ROW_LIMIT, STATE_LIMIT};
+use crate::book::{put_field, put_names, short_names, Book, Class, BOOK_ROWS, CLASSES, NAME_LIMIT, ROW_LIMIT, STATE_LIMIT};
+use crate::library::INPUT_LIMIT;
 use crate::random::Random;
 use std::collections::HashSet;
 use std::fs;
@@ -121,6 +122,20 @@ pub fn nearly_one_name() -> Book {
     Book { names: short_names(1 + rows.len()), class: Class::Context(2, 1), rows }
 }
 
+/// Rows as long as they may be with different first names, and else of names drawn from all: of their 512 states (8,8) joins none.
+pub fn unjoined() -> Book {
+    let mut random = Random::new(4);
+    let mut rows: Vec<Vec<u8>> = Vec::new();
+    let mut left = STATE_LIMIT - 1;
+    while left > 0 {
+        let mut row: Vec<u8> = (0..left.min(ROW_LIMIT)).map(|_| random.below(NAME_LIMIT) as u8).collect();
+        left -= row.len();
+        row[0] = rows.len() as u8;
+        rows.push(row);
+    }
+    Book { names: short_names(NAME_LIMIT), class: Class::Context(8, 8), rows }
+}
+
 /// The books of 510 and 512 states, with what they are called.
 pub fn large() -> [(&'static str, Book); 4] {
     [
@@ -173,4 +188,69 @@ pub fn chain_table() -> Vec<u8> {
         table.extend_from_slice(&[4, 0, 4, u8::from(state + 1 == STATE_LIMIT), 0, high, low]);
     }
     table
+}
+
+/// The state with the one end of the zigzag table.
+const ZIGZAG_END: usize = 260;
+
+/// Where the arcs of the zigzag table lead that are on no way to the end: each to any state behind it, to the last two in turn, to the last,
+/// or to itself.
+#[derive(Clone, Copy)]
+pub enum Filling {
+    Behind,
+    LastTwo,
+    Last,
+    Itself,
+}
+
+/// A table of 512 states and 64 names with as many arcs as fit, and a row of 40 names over it. The first eight states meet all others,
+/// which have one way to the end only: state 259 to 260, which accepts, 261 to 259, 258 to 261, 262 to 258 and so on. Their other arcs
+/// lead to themselves or to states behind them in this order. So a sweep over the states, in either direction, finds two more with a
+/// way to an end.
+pub fn zigzag(filling: Filling) -> (Vec<u8>, Vec<u8>) {
+    let firsts = (STATE_LIMIT - 1).div_ceil(NAME_LIMIT);
+    let mut order: Vec<usize> = (firsts..STATE_LIMIT).collect();
+    order.sort_by_key(|&state| if state < ZIGZAG_END { 2 * (ZIGZAG_END - state) - 1 } else { 2 * (state - ZIGZAG_END) });
+    let mut table = Vec::new();
+    put_names(&mut table, &short_names(NAME_LIMIT));
+    put_field(&mut table, 2, &Class::Context(2, 1).settings());
+    let mut arcs: Vec<Vec<usize>> =
+        (0..firsts).map(|first| (1 + first * NAME_LIMIT..STATE_LIMIT).take(NAME_LIMIT).collect()).collect();
+    arcs.resize(STATE_LIMIT, Vec::new());
+    let mut room = (INPUT_LIMIT - table.len() - 4 * STATE_LIMIT) / 3 - (STATE_LIMIT - 1);
+    let mut random = Random::new(5);
+    for (place, &state) in order.iter().enumerate() {
+        let count = room / (order.len() - place);
+        room -= count;
+        let mut fill = |number: usize| match filling {
+            Filling::Behind => order[place + random.below(order.len() - place)],
+            Filling::LastTwo => order[order.len() - 1 - number % 2],
+            Filling::Last => order[order.len() - 1],
+            Filling::Itself => state,
+        };
+        arcs[state] = (0..count).map(&mut fill).collect();
+        if place > 0 {
+            arcs[state][count - 1] = order[place - 1];
+        }
+    }
+    for (state, targets) in arcs.iter().enumerate() {
+        let mut body = vec![u8::from(state == ZIGZAG_END)];
+        for (name, &target) in targets.iter().enumerate() {
+            body.push(name as u8);
+            body.extend_from_slice(&(target as u16).to_be_bytes());
+        }
+        put_field(&mut table, 4, &body);
+    }
+    (table, way_on(&arcs))
+}
+
+/// A row of 40 names: the last arc of each state, from the start on.
+fn way_on(arcs: &[Vec<usize>]) -> Vec<u8> {
+    let mut state = 0;
+    let mut row = Vec::new();
+    for _ in 0..ROW_LIMIT {
+        row.push(arcs[state].len() as u8 - 1);
+        state = arcs[state][arcs[state].len() - 1];
+    }
+    row
 }

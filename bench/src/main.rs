@@ -1,7 +1,7 @@
-//! What builds and walks cost, against a second implementation in two variants that is written for speed; what counts cost, against
-//! builds without them; what reading plans costs, against expat; and all against bars.
+//! What builds and walks cost, against a second implementation in two variants that is written for speed; walks, against rewritings;
+//! what counts cost, against builds without them; what reading plans costs, against expat; and all against bars.
 //! With `search SECONDS`: looks for books that cost the library most, and keeps them under bench/books. With `against FILE FILE`: builds
-//! by one shared library against those by another.
+//! and a walk by one shared library against those by another.
 
 mod against;
 mod bars;
@@ -20,6 +20,7 @@ mod run;
 mod search;
 mod sides;
 mod stack;
+mod walkings;
 
 use std::env;
 use std::process::ExitCode;

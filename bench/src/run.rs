@@ -1,4 +1,4 @@
-//! The bench: every case compared and timed, growth, counts, plans, stack, and the bars.
+//! The bench: every case compared and timed, growth, walks beside rewritings, counts, plans, stack, and the bars.
 
 use crate::bars::{Bar, Bars};
 use crate::book::{Book, Class, CLASSES, ROW_LIMIT};
@@ -8,6 +8,7 @@ use crate::measure::{Effort, Times};
 use crate::readings::Readings;
 use crate::sides::Sides;
 use crate::stack;
+use crate::walkings::Walkings;
 use std::time::Duration;
 
 const EFFORT: Effort = Effort { time: Duration::from_millis(20), rounds: 10 };
@@ -44,23 +45,27 @@ pub fn run() -> Result<bool, String> {
     let mut timed = builds()?;
     timed.extend(walks(&mut sides)?);
     let mut growth = growth();
+    let mut walkings = Walkings::new()?;
     let mut countings = Countings::new();
     let mut readings = Readings::new();
     for case in timed.iter_mut().chain(&mut growth) {
         case.compare(&mut sides)?;
     }
+    walkings.compare(&mut sides)?;
     countings.compare()?;
     readings.compare()?;
     for _ in 0..PASSES {
         for case in timed.iter_mut().chain(&mut growth) {
             case.time(&mut sides);
         }
+        walkings.time(EFFORT);
         countings.time(EFFORT);
         readings.time(EFFORT);
     }
     show_cases(&timed, &mut bars);
     hold_copied(&timed, &mut bars);
     show_growth(&growth);
+    walkings.show(&mut bars);
     countings.show(&mut bars);
     readings.show(&mut bars);
     show_stack(&mut bars);

@@ -57,10 +57,13 @@ pub fn calls() -> Vec<(Bar, String, usize)> {
         black_box(library::rewrite(&table, &mut work, &mut out));
     });
     calls.push((Bar::Stack, "rewrite, 512 states".to_string(), rewriting - empty));
-    let walking = used(&mut || {
-        black_box(library::walk(&table, &[0; ROW_LIMIT], &mut work));
-    });
-    calls.push((Bar::Stack, "walk of 40, 512 states".to_string(), walking - empty));
+    let (zigzag, way) = cases::zigzag(cases::Filling::Behind);
+    for (name, table, row) in [("512 states", table, vec![0; ROW_LIMIT]), ("zigzag", zigzag, way)] {
+        let walking = used(&mut || {
+            black_box(library::walk(&table, &row, &mut work));
+        });
+        calls.push((Bar::Stack, format!("walk of 40, {name}"), walking - empty));
+    }
     for (name, plan) in [
         ("plan of a clinic", plans::clinic()),
         ("tag-dense", plans::tag_dense(Names::Letters(3))),

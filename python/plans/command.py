@@ -12,7 +12,7 @@ from .files import STANDARD, Failure, Input, Kind, label_of, one_place, put, rea
 from .models import (Built, Counted, Outcome, Walked, build, build_counted, judged_book, judged_table, list_book, list_table, rewrite,
                      walk)
 from .plan_rows import NO_BOOK, Names, Plan, collected, judge_book, missing, names_in, read_plan, rows_alone, rows_of
-from .showing import all_and_different, counted, cut, different, nearest, plain, shown
+from .showing import all_and_different, counted, cut, different, enumerated, nearest, plain, shown
 from .texts import EMPTY_DAY, BadClass, BadText, Text, name_problem, read_class, read_text, write_text
 
 YES, NO, ERROR = 0, 1, 2
@@ -202,21 +202,29 @@ def day_of(words: Sequence[str]) -> Row:
     return day
 
 
-def answer(day: Row, result: Walked, names: Sequence[str]) -> str:
+def why_not(stop: str, result: Walked, table: Table) -> str:
+    """Why this name stops the walk, in brackets, where it is not that the state reached has no arc by it."""
+    if stop not in table.names:
+        near = nearest(stop, table.names)
+        return f" (the model has no such name{f'; did you mean {near}?' if near else ''})"
+    target = table.state_after((*result.walked, stop))
+    return "" if target is None else f" (it leads to state {target}, which leads to no end)"
+
+
+def answer(day: Row, result: Walked, table: Table) -> str:
     if result.outcome is Outcome.ADMITTED:
         return "allowed"
     if result.outcome is Outcome.ON_THE_WAY:
         return "on the way: a day may not end here" if day else "on the way: a day may not be empty"
+    if 0 in table.dead_states:
+        return "not allowed: the model allows no day"
     stop = day[len(result.walked)]
-    word = stop if stop in names else shown(stop)
+    word = stop if stop in table.names else shown(stop)
     if result.walked:
         said = f"not allowed: it goes as far as {' '.join(result.walked)}; then {word} may not come"
     else:
         said = f"not allowed: a day may not begin with {word}"
-    if stop in names:
-        return said
-    near = nearest(stop, names)
-    return f"{said} (the model has no such name{f'; did you mean {near}?' if near else ''})"
+    return said + why_not(stop, result, table)
 
 
 def walking(asked: Asked) -> int:
@@ -224,17 +232,27 @@ def walking(asked: Asked) -> int:
     model = model_of(asked.words[0], asked)
     result = walk(model.data, day)
     following = ", ".join(result.next_names) or "nothing"
-    put_lines([answer(day, result, model.table.names), f"next: {following}"])
+    put_lines([answer(day, result, model.table), f"next: {following}"])
     return YES if result.outcome is Outcome.ADMITTED else NO
 
 
-def accepted_fields(source: Input) -> str:
-    """What accepted fields are; Refused if they are not."""
+def ends_missing(table: Table) -> List[str]:
+    """What a table's programmer should know, though it is legal: that it allows no day, or which of its states lead to no end."""
+    dead = table.dead_states
+    if 0 in dead:
+        return ["it allows no day: none of its states accepts"]
+    words = "states {} lead to no end" if dead[1:] else "state {} leads to no end"
+    return [words.format(enumerated(dead))] if dead else []
+
+
+def accepted_fields(source: Input) -> List[str]:
+    """What accepted fields are, and what else is to be said of them; Refused if they are not."""
     if source.kind is Kind.BOOK:
         book = judged_book(source.data)
-        return f"a book of {counted(len(book.names), 'name')}, {all_and_different(book.rows, 'row')}"
+        return [f"accepted: a book of {counted(len(book.names), 'name')}, {all_and_different(book.rows, 'row')}"]
     table = judged_table(source.data)
-    return f"a table of {counted(len(table.names), 'name')}, {table.named_class}, {counted(len(table.states), 'state')}"
+    parts = [counted(len(table.names), "name"), str(table.named_class), counted(len(table.states), "state")]
+    return [f"accepted: a table of {', '.join(parts)}", *ends_missing(table)]
 
 
 def judged(source: Input, asked: Asked) -> Tuple[bool, List[str]]:
@@ -244,7 +262,7 @@ def judged(source: Input, asked: Asked) -> Tuple[bool, List[str]]:
             text, book = text_and_book(source, asked, copies=False)
             counts = f"{all_and_different(text.days, 'day')}, {counted(len(book.names), 'name')}"
             return True, [f"{source.label}: accepted: a text of {counts}"]
-        return True, [f"{source.label}: accepted: {accepted_fields(source)}"]
+        return True, [f"{source.label}: {said}" for said in accepted_fields(source)]
     except BadText as problem:
         return False, source.faulty_lines(problem)
     except Refused as problem:

@@ -77,9 +77,6 @@ def parting_day(first: Table, second: Table) -> Optional[Row]:
 def compare(first: Table, second: Table) -> Difference:
     """How the two tables differ in names and in the days that they allow."""
     day = parting_day(first, second)
-    state: Optional[int] = 0
-    for name in day or ():
-        state = _arcs(first, state).get(name, NOWHERE)
     return Difference(tuple(name for name in first.names if name not in second.names),
                       tuple(name for name in second.names if name not in first.names),
-                      day, day is not None and _accepts(first, state))
+                      day, day is not None and _accepts(first, first.state_after(day)))

@@ -21,6 +21,8 @@ ATTRIBUTES = [
 WITH_ENDS = "fontsize=10, width=0.7"
 # of arrows that are as wide as they are used: the least width and the greatest, in points
 THIN, THICK = 0.5, 6
+# a state that leads to no end
+GREY = "#cccccc"
 WORDS = "shape=none, fontsize=11, style=solid, fixedsize=false, width=0, height=0, margin=0.03"
 
 
@@ -90,7 +92,8 @@ def together(names: Sequence[str], passes: Mapping[str, int]) -> int:
 
 def table_lines(table: Table, colours: Dict[int, str], counts: Optional[Sequence[StateCounts]]) -> List[str]:
     """The states and arrows. With counts, accepting states have their ends, names their passes, and arrows are as wide as their names
-    together are used."""
+    together are used. States that lead to no end are grey."""
+    colours = {**colours, **dict.fromkeys(table.dead_states, GREY)}
     arrows = [arrows_of(state) for state in table.states]
     passes = [dict(own.passes) for own in counts or ()]
     most = max((together(names, own) for leaving, own in zip(arrows, passes) for _, names in leaving), default=1)

@@ -95,6 +95,29 @@ class Table:
     named_class: Class
     states: Tuple[State, ...]
 
+    def state_after(self, row: Row) -> Optional[int]:
+        """The state that the row's names lead to from the start; None where one of them has no arc."""
+        state: Optional[int] = 0
+        for name in row:
+            state = None if state is None else dict(self.states[state].arcs).get(name)
+        return state
+
+    @property
+    def dead_states(self) -> Tuple[int, ...]:
+        """The states that lead to no end, ascending: those that do not accept, and from which no accepting state can be reached. No
+        table that a build writes has one. State 0 is among them exactly where the table admits no row."""
+        sources: Dict[int, List[int]] = {}
+        for number, state in enumerate(self.states):
+            for _, target in state.arcs:
+                sources.setdefault(target, []).append(number)
+        waiting = [number for number, state in enumerate(self.states) if state.accepting]
+        live = set(waiting)
+        while waiting:
+            found = set(sources.get(waiting.pop(), ())) - live
+            live |= found
+            waiting += found
+        return tuple(number for number in range(len(self.states)) if number not in live)
+
 
 @dataclass(frozen=True)
 class StateCounts:

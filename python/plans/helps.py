@@ -30,7 +30,7 @@ plans list FILE [--class CLASS] [-o FILE] [-q]
 Prints the model of a text, a book or a table. The first line has the number of
 states and, but for a table, of joins and of different days (distinct). Then
 each state has a line: its number, + if a day may end there or - if not, and
-each name that may come next with the state that it leads to.
+each name that has an arc there with the state that it leads to.
 
   $ printf 'tea\\ntea cake\\ntea\\n' | plans list -q -
   states 3 joins 0 distinct 2
@@ -88,8 +88,9 @@ plans walk FILE [NAME...] [--class CLASS] [-q]
 
 Says whether the day of these names is allowed by the model of FILE, a text, a
 book or a table; if not, how far it goes; and what may come next. Without a name
-it is the empty day; a walk takes at most 40 names. The exit status is 0 if the
-day is allowed, else 1.
+it is the empty day; a walk takes at most 40 names. On the way is a day that is
+not allowed but begins an allowed one; a name may come next if with it the day
+still does. The exit status is 0 if the day is allowed, else 1.
 
   $ printf 'tea\\ntea cake tea\\n' | plans walk -q - tea cake
   on the way: a day may not end here
@@ -101,12 +102,17 @@ plans check FILE... [-q]
 
 Says of each file whether it is accepted; if not, which refusal it gets, and at
 which offset the field begins that it is about. Of a text each faulty line is
-told. The exit status is 0 if all are accepted, 1 if one is not, and 2 if one
-cannot be read.
+told. Of an accepted table it says too which states lead to no end: no day that
+comes there can become an allowed one. The exit status is 0 if all are accepted,
+1 if one is not, and 2 if one cannot be read.
 
   $ printf '\\001\\000\\0019' > bad.table
-  $ plans check bad.table
+  $ printf '\\001\\000\\001a\\002\\000\\003\\001\\000\\000' > theirs.table
+  $ printf '\\004\\000\\004\\001\\000\\000\\001\\004\\000\\001\\000' >> theirs.table
+  $ plans check bad.table theirs.table
   bad.table: refused: offset 0: refusal 5: a name's length or bytes are wrong
+  theirs.table: accepted: a table of 1 name, seen set, 2 states
+  theirs.table: state 1 leads to no end
 """
 
 DIFF = """\
@@ -157,6 +163,7 @@ output's name ends in .svg, .png, .pdf or .dot; standard output gets svg. With
 --tree the prefix tree is drawn beside it, and states that were joined have one
 colour. With --counts arrows are as wide as the days use them; beside each name
 stands how often it is passed, in each accepting state how many days end there.
+States of a table that lead to no end are grey.
 
   $ printf 'tea\\n' | plans picture -q - -o tea.dot
   $ grep label tea.dot | head -n 1

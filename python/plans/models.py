@@ -11,7 +11,7 @@ File = TypeVar("File", Book, Table)
 
 
 class Outcome(enum.Enum):
-    """What a walk comes to, by the numbers of include/plans.h."""
+    """What a walk comes to, by the numbers of include/plans.h: the day is allowed; it is not, but begins an allowed one; neither."""
     ADMITTED = 1
     ON_THE_WAY = 2
     STOPS = 3
@@ -42,7 +42,8 @@ class Rewritten:
 
 @dataclass(frozen=True)
 class Walked:
-    """How a walk ended, the longest beginning that can be walked, and the names that may come next."""
+    """How a walk ended; the longest beginning of the day that begins an allowed day, empty where the table allows none; and the names
+    that may come next: those with which that beginning still begins an allowed day."""
     outcome: Outcome
     walked: Row
     next_names: Tuple[str, ...]
@@ -142,7 +143,8 @@ def front_names(data: bytes) -> Sequence[str]:
 
 
 def walk(table: Union[Table, Bytes], day: Iterable[str]) -> Walked:
-    """Walks a day's names over a table from its start. A name that the table does not have stops the walk."""
+    """Walks a day's names over a table from its start. A name that the table does not have stops the walk, and so does one that leads to
+    a state from which no day comes to an end (Table.dead_states). Where the table allows no day, every day stops, the empty one too."""
     data = _table_bytes(table)
     day = _day(day)
     names = front_names(data)

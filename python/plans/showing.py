@@ -38,6 +38,12 @@ def counted(count: int, what: str) -> str:
     return f"{count:,} {what}" if count == 1 else f"{count:,} {what}s"
 
 
+def enumerated(numbers: Sequence[int]) -> str:
+    """Numbers in a sentence: '3', '3, 7 and 9'; of many the first ten, and how many more there are."""
+    named = [str(number) for number in numbers] if len(numbers) <= 11 else [*map(str, numbers[:10]), f"{len(numbers) - 10:,} more"]
+    return " and ".join([", ".join(named[:-1]), named[-1]] if named[1:] else named)
+
+
 def different(count: int, given: int, what: str) -> str:
     """How many different ones there are, and how many of those given are copies, if any: '22 different days (18 are copies)'."""
     copies = given - count

@@ -1,6 +1,6 @@
 /* The library used as the tablet's program uses it: builds a book, also with its counts, walks rows, offers the names that may come next,
- * lists a book, reads the rows of plans, and meets each refusal. All of it runs in a thread with a stack of STACK_BYTES, which
- * scripts/test-c sets; 0 leaves the system's own. */
+ * also over tables in which some days, or all, have no end, lists a book, reads the rows of plans, and meets each refusal. All of it runs
+ * in a thread with a stack of STACK_BYTES, which scripts/test-c sets; 0 leaves the system's own. */
 #include <pthread.h>
 #include <stdio.h>
 #include <string.h>
@@ -137,6 +137,18 @@ static void class_kinds(void)
     }
 }
 
+/* The walk of a day, with the letters of the names that may come next. */
+static plans_walked offer(const char *day, char offered[NAMES + 1])
+{
+    plans_walked walked = walk_day(day);
+
+    offered[0] = '\0';
+    for (size_t name = 0; name < NAMES; name++)
+        if (walked.next_names >> name & 1)
+            strncat(offered, &letters[name], 1);
+    return walked;
+}
+
 /* The user taps names until the day is admitted: of those offered, always the last. */
 static void tap_a_day(void)
 {
@@ -149,12 +161,9 @@ static void tap_a_day(void)
     put_day("bsb");
     build_all();
     for (size_t taps = 0; taps < 4; taps++) {
-        plans_walked walked = walk_day(day);
-        char offered[NAMES + 1] = "";
+        char offered[NAMES + 1];
+        plans_walked walked = offer(day, offered);
 
-        for (size_t name = 0; name < NAMES; name++)
-            if (walked.next_names >> name & 1)
-                strncat(offered, &letters[name], 1);
         check("the names offered", strcmp(offered, offers[taps]) == 0);
         check("how many they are", walked.next_count == strlen(offers[taps]));
         check("all taps are walked", walked.walked == taps);
@@ -163,6 +172,61 @@ static void tap_a_day(void)
             strncat(day, offered + walked.next_count - 1, 1);
     }
     check("the day tapped", strcmp(day, "dsl") == 0);
+}
+
+/* What a day's walk tells: its outcome, how many of its names can be kept, and the letters of the names that may come next. */
+static void tells(const char *what, const char *day, uint8_t outcome, uint32_t walked, const char *next)
+{
+    char offered[NAMES + 1];
+    plans_walked told = offer(day, offered);
+
+    check(what, told.refusal == PLANS_OK && told.outcome == outcome && told.walked == walked);
+    check(what, strcmp(offered, next) == 0 && told.next_count == strlen(next));
+}
+
+/* A table of the names breakfast and dinner, and no state. */
+static void start_table(void)
+{
+    static const uint8_t class_bytes[] = {PLANS_CONTEXT, 2, 1};
+
+    table.length = 0;
+    put_field(&table, PLANS_NAME_MARK, names[0], strlen(names[0]));
+    put_field(&table, PLANS_NAME_MARK, names[1], strlen(names[1]));
+    put_field(&table, PLANS_CLASS_MARK, class_bytes, sizeof class_bytes);
+}
+
+/* A supplier's table: a day that begins with dinner goes on with breakfasts and never ends. */
+static void no_way_to_an_end(void)
+{
+    static const uint8_t start[] = {0, 0, 0, 1, 1, 0, 2}, end[] = {1}, no_way[] = {0, 0, 0, 2};
+
+    start_table();
+    put_field(&table, PLANS_STATE_MARK, start, sizeof start);
+    put_field(&table, PLANS_STATE_MARK, end, sizeof end);
+    put_field(&table, PLANS_STATE_MARK, no_way, sizeof no_way);
+    check("such a table is legal", rewrite(&table, PLANS_WORK_BYTES, table.length, &again).refusal == PLANS_OK);
+    check("it is rewritten as it is", again.length == table.length && memcmp(again.bytes, table.bytes, table.length) == 0);
+    tells("dinner is not offered", "", PLANS_ON_THE_WAY, 0, "b");
+    tells("the day that ends", "b", PLANS_ADMITTED, 1, "");
+    tells("a day that never ends is not on the way", "d", PLANS_STOPS, 0, "b");
+    tells("nor is a longer one", "dbb", PLANS_STOPS, 0, "b");
+    tells("a name more", "bd", PLANS_STOPS, 1, "");
+    check("1: no working area", walk(&table, NULL, 0, 0).refusal == PLANS_BAD_SIZES);
+    check("9: no name's number", walk(&table, (const uint8_t[]){1, 2}, 2, PLANS_WORK_BYTES).refusal == PLANS_BAD_ROW);
+}
+
+/* A table that admits no day. */
+static void no_day_at_all(void)
+{
+    static const uint8_t onward[] = {0, 0, 0, 1}, back[] = {0, 0, 0, 0, 1, 0, 1};
+
+    start_table();
+    put_field(&table, PLANS_STATE_MARK, onward, sizeof onward);
+    put_field(&table, PLANS_STATE_MARK, back, sizeof back);
+    check("it is legal", rewrite(&table, PLANS_WORK_BYTES, table.length, &again).refusal == PLANS_OK);
+    tells("the empty day stops", "", PLANS_STOPS, 0, "");
+    tells("so does a day with arcs", "bb", PLANS_STOPS, 0, "");
+    tells("and one without", "d", PLANS_STOPS, 0, "");
 }
 
 /* The field of a state in the table. */
@@ -628,6 +692,8 @@ static void *tablet(void *unused)
     copied_days();
     class_kinds();
     tap_a_day();
+    no_way_to_an_end();
+    no_day_at_all();
     counted_days();
     counted_copies();
     tap_common_first();

@@ -1,7 +1,7 @@
-"""Random books and texts for the tests, from a generator that the test seeds; and books as the reference takes them."""
+"""Random books, tables and texts for the tests, from a generator that the test seeds; and books as the reference takes them."""
 import random
 
-from plans import Book, Class
+from plans import Book, Class, Outcome, State, Table, Walked
 from reference import Sample
 
 FIRST = "ABCXYZabcxyz_:"
@@ -57,6 +57,41 @@ def book_of(sample: Sample) -> Book:
 def sample_of(book: Book) -> Sample:
     named = book.named_class and (book.named_class.kind, book.named_class.one, book.named_class.two)
     return Sample(book.names, named, tuple(tuple(map(book.names.index, row)) for row in book.rows))
+
+
+def a_table(draw: random.Random, names: tuple, accepting: float = 0.5) -> Table:
+    """A table with any arcs, each state accepting with this probability; states that are never met are left out, and the rest are
+    numbered first-met."""
+    count = draw.randint(1, 4)
+    states = []
+    for _ in range(count):
+        arcs = [(name, draw.randrange(count)) for name in names if draw.random() < 0.6]
+        states.append((draw.random() < accepting, arcs))
+    met = [0]
+    for number in met:
+        met += [to for place, (_, to) in enumerate(states[number][1])
+                if to not in met and to not in [other for _, other in states[number][1][:place]]]
+    renumbered = [State(states[old][0], tuple((name, met.index(to)) for name, to in states[old][1])) for old in met]
+    return Table(names, Class(0, 2, 1), tuple(renumbered))
+
+
+def allows(table: Table, row: tuple) -> bool:
+    """Whether the row leads from the start to an accepting state, by its arcs alone."""
+    state = 0
+    for name in row:
+        arcs = dict(table.states[state].arcs)
+        if name not in arcs:
+            return False
+        state = arcs[name]
+    return table.states[state].accepting
+
+
+def plainly(table: Table, row: tuple) -> Walked:
+    """What a walk tells that takes every arc there is, as before version 3.2.0."""
+    taken = next(end for end in range(len(row), -1, -1) if table.state_after(row[:end]) is not None)
+    state = table.states[table.state_after(row[:taken])]
+    ended = Outcome.STOPS if taken < len(row) else Outcome.ADMITTED if state.accepting else Outcome.ON_THE_WAY
+    return Walked(ended, row[:taken], tuple(name for name, _ in state.arcs))
 
 
 def damaged(draw: random.Random, data: bytes) -> bytes:

@@ -5,34 +5,9 @@ import unittest
 
 from plans import Class, Outcome, State, Table, build, compare, read_table, walk, write_table
 from plans.fields import ROW_LIMIT
-from samples import a_small_sample, book_of
+from samples import a_small_sample, a_table, allows, book_of
 
 MOST = 6
-
-
-def a_table(draw: random.Random, names: tuple) -> Table:
-    """A table with any arcs; states that are never met are left out, and the rest are numbered first-met."""
-    count = draw.randint(1, 4)
-    states = []
-    for _ in range(count):
-        arcs = [(name, draw.randrange(count)) for name in names if draw.random() < 0.6]
-        states.append((draw.random() < 0.5, arcs))
-    met = [0]
-    for number in met:
-        met += [to for place, (_, to) in enumerate(states[number][1])
-                if to not in met and to not in [other for _, other in states[number][1][:place]]]
-    renumbered = [State(states[old][0], tuple((name, met.index(to)) for name, to in states[old][1])) for old in met]
-    return Table(names, Class(0, 2, 1), tuple(renumbered))
-
-
-def allows(table: Table, row: tuple) -> bool:
-    state = 0
-    for name in row:
-        arcs = dict(table.states[state].arcs)
-        if name not in arcs:
-            return False
-        state = arcs[name]
-    return table.states[state].accepting
 
 
 def first_parting(one: Table, two: Table, names: list):
@@ -77,6 +52,16 @@ class Parting(unittest.TestCase):
         once = Table(("a",), Class(1), (State(True, (("a", 0),)),))
         twice = Table(("a",), Class(1), (State(True, (("a", 1),)), State(True, (("a", 0),))))
         self.assertEqual((compare(once, twice).day, compare(once, once).day), (None, None))
+
+    def test_states_that_lead_to_no_end(self):
+        """Tables that differ in such states alone allow the same days, also where both allow none."""
+        ours = Table(("a", "b"), Class(1), (State(False, (("a", 1),)), State(True, ())))
+        theirs = Table(("a", "b"), Class(1), (State(False, (("a", 1), ("b", 2))), State(True, (("b", 2),)), State(False, (("a", 2),))))
+        self.assertEqual((compare(ours, theirs).day, compare(theirs, ours).day), (None, None))
+        none = Table(("a", "b"), Class(1), (State(False, ()),))
+        circle = Table(("a", "b"), Class(1), (State(False, (("a", 1),)), State(False, (("a", 0), ("b", 1)))))
+        self.assertEqual((compare(none, circle).day, compare(circle, none).day), (None, None))
+        self.assertEqual((compare(none, ours).day, compare(none, ours).first_allows), (("a",), False))
 
     def test_long_parting_day(self):
         """Cycles of 16 and 17 states that accept but in their last: parted after 15 names; and the largest, quickly."""

@@ -6,6 +6,7 @@ from pathlib import Path
 import plans
 from plans import library
 from plans.fields import prefix_tree
+from samples import plainly
 
 ROOT = Path(__file__).resolve().parents[2]
 FORMATS = (ROOT / "docs" / "FORMATS.md").read_text()
@@ -37,6 +38,13 @@ def counted_books() -> list:
     return [book, plans.Book(book.names, book.named_class, (*book.rows, ("lunch",), ("lunch", "snack", "snack", "snack")))]
 
 
+def walked_as(outcome: str, beginning: str, following: str) -> plans.Walked:
+    """What a walk tells, by the cells that show it."""
+    ended = plans.Outcome[outcome.upper().replace(" ", "_")]
+    names = () if following == "none" else tuple(following.split(", "))
+    return plans.Walked(ended, () if beginning == "empty" else tuple(beginning.split()), names)
+
+
 def book_at(path: Path) -> plans.Book:
     return plans.read_text(path.read_bytes()).book()
 
@@ -64,6 +72,24 @@ class Formats(unittest.TestCase):
         said = re.findall(r"(no|one|two) rows? ends? there .*; (?:lunch|snack) is passed (once|twice|three times|four times) ", section)
         read = [state for one in counted for state in plans.read_counts(one.counts, one.table)]
         self.assertEqual([(words[ends], words[passed]) for ends, passed in said], [(one.ends, one.passes[0][1]) for one in read])
+
+    def test_state_that_leads_to_no_end(self):
+        heading = "A table with a state that leads to no end"
+        data = bytes_shown(heading)
+        self.assertEqual(data, (EXAMPLES / "tables" / "supplier.table").read_bytes())
+        in_c = re.search(r"suppliers\[\] = \{(.*?)\};", (EXAMPLES / "walk.c").read_text(), re.DOTALL)[1]
+        self.assertEqual(data, bytes.fromhex("".join(re.findall("0x(..)", in_c))))
+        section = FORMATS.split(f"\n## {heading}\n")[1].split("\n## ")[0]
+        none = bytes_of("".join(line + "\n" for line in block_under(heading).splitlines()[:3]) + section.split("```\n")[3])
+        cells = 2 * r" (admitted|on the way|stops) \| ([a-z ]+) \| ([a-z, ]+) \|"
+        shown = re.findall(rf"^\| ([a-z ]+) \|{cells}$", section, re.MULTILINE)
+        self.assertEqual(len(shown), 5)
+        for day, *told in shown:
+            row = () if day == "the empty row" else tuple(day.split())
+            self.assertEqual(plainly(plans.read_table(data), row), walked_as(*told[3:]))
+            self.assertEqual(plans.walk(data, row), walked_as(*told[:3]))
+            self.assertEqual(plans.walk(none, row), walked_as("stops", "empty", "none"))
+        self.assertEqual(plainly(plans.read_table(none), 2 * ("breakfast",)), walked_as("on the way", "breakfast breakfast", "breakfast"))
 
     def test_plan_list_and_rows(self):
         names = bytes_shown("A plan, its list of names and its rows")

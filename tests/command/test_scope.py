@@ -74,6 +74,13 @@ class Scope(unittest.TestCase):
         told = [tuple(map(int, numbers)) for numbers in re.findall(state, text)]
         self.assertEqual(told, [(one.ends, one.passes[0][1]) for one in plans.read_counts(counted[1].counts, table)])
 
+    def test_state_with_no_way_to_an_end(self):
+        shown = re.findall(r"^    ([0-9A-F ]+)$", section("13. A state with no way to an end"), re.MULTILINE)
+        table = bytes.fromhex("".join(shown))
+        self.assertEqual(table, (ROOT / "examples" / "tables" / "supplier.table").read_bytes())
+        self.assertEqual(plans.read_table(table).dead_states, (2,))
+        self.assertEqual(plans.walk(table, ("dinner",)), plans.Walked(plans.Outcome.STOPS, (), ("breakfast",)))
+
     def test_limits(self):
         limits = "".join(path.read_text() for path in ROOT.glob("crates/*/specs/Limits.antt"))
         shown = re.findall(r"^\| [^|]* \| ([\d,]+) \| `([a-z-]+)` \|$", section("9. Limits"), re.MULTILINE)

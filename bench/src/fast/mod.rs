@@ -7,6 +7,7 @@
 mod arrays;
 mod containers;
 mod contexts;
+mod ends;
 mod fields;
 mod functions;
 mod maps;

@@ -63,8 +63,3 @@ cell-other work row column value row' column' c c' h =
     (byte-other work (128 * row + 2 * column) (128 * row' + 2 * column' + 1) (value / 256) (value % 256)
     (λ e. omega arith)
     (λ e. apart (omega arith)))
-
-pub cell-other-row : (work : List ℕ) (row column value row' column' : ℕ) → column < name-limit → column' < name-limit
-    → (row' ≡ row → ⊥)
-    → cellAt (withCell work row column value) row' column' ≡ cellAt work row' column'
-cell-other-row work row column value row' column' c c' h = cell-other work row column value row' column' c c' (λ e _. h e)

@@ -1,11 +1,11 @@
--- What the rows do in the table of a full joining: every word of the prefix tree reaches the state of its group. So the ends of all
+-- What the rows do in the table of a full joining, since every word of the prefix tree reaches the state of its group: the ends of all
 -- states sum to the number of rows, rows end exactly in the states that accept, and every arc is passed. Assumes nothing.
 use mathlib.Core.Path.{_≡_, refl, sym, ap, ap₂, _∙_, subst}
 use mathlib.Core.Logic.{⊎-elim, _↔_}
 use mathlib.Core.Bool.{Bool, true, _&&_, false≢true, and-eq-true-iff}
 use mathlib.Core.List.{List, [], _∷_, _++_, append-assoc, append-ne-nil-of-right-ne-nil, cons≢nil, List·Memᴰ as In}
 use mathlib.Core.List.{List·Memᴰ·not-nil, Memᴰ·cast}
-use Prim.Native.Nat.{ℕ, _+_, _<_}
+use Prim.Native.Nat.{ℕ, _<_}
 use native.Mathlib.Omega.{arith}
 use lib.Dec.{eqb}
 use lib.ListN.{length, getD}
@@ -17,19 +17,19 @@ use Rattle.base.proofs.Places.{nth-in, index-of-nth}
 use Rattle.base.proofs.Totals.{total-same, total-ones, total-swap, total-number, many-some, some-many}
 use Rattle.model.specs.Fields.{Class}
 use Rattle.model.specs.Classes.{Word}
-use Rattle.model.specs.Tables.{Arc, arc, State, empty-state, Walk, walk-at, walkFrom, walk, reachedState, admits}
-use Rattle.model.specs.Joinings.{Transition, transition, treeOf, groupAt, transitionsOf, Deterministic}
+use Rattle.model.specs.Tables.{Arc, arc, State, empty-state, Walk, walk, reachedState, admits}
+use Rattle.model.specs.Joinings.{Transition, transition, treeOf, groupAt, transitionsOf}
 use Rattle.model.specs.Quotients.{arcsOutOf, metGroups, renumbered, stateOf, statesOf}
-use Rattle.model.specs.Sources.{Reaches}
 use Rattle.model.proofs.Notions.{_▸_}
 use Rattle.model.proofs.Groups.{tells-accepts}
-use Rattle.model.proofs.Transitions.{arc-node, walks-unique, walks-down}
+use Rattle.model.proofs.Transitions.{arc-node}
 use Rattle.model.proofs.Trees.{treeOf-tree, node-begins}
 use Rattle.model.proofs.Arcs.{arcsOutOf-in}
-use Rattle.model.proofs.FirstMet.{met-distinct, root-met, met-root, states-length}
-use Rattle.model.proofs.Admits.{Walked, all-taken, stopped, walked, state-of-met}
+use Rattle.model.proofs.FirstMet.{met-distinct, states-length}
+use Rattle.model.proofs.Admits.{state-of-met}
 use Rattle.model.proofs.TableWalks.{reaches-steps, reaches-one, reaches-split}
-use Rattle.model.proofs.Joined.{Joined, joined-deterministic}
+use Rattle.model.proofs.Joined.{Joined}
+use Rattle.model.proofs.NodeWalks.{node-reaches}
 use Rattle.model.proofs.InTheClass.{admits-row}
 use Rattle.counts.specs.Counts.{stepsFrom, trail, endsAt, passesOf, numbersOf}
 use Rattle.counts.proofs.Steps.{some-below, step-after}
@@ -47,33 +47,6 @@ module _ (c : Class) (rows : List Word) (groups : List ℕ) (joined : Joined c r
 
   abbrev states : List State
   states = statesOf rows nodes groups
-
-  -- its automaton is deterministic
-  det : Deterministic ts
-  det = joined-deterministic c rows groups joined
-
-  -- a word of the tree reaches the state of its group
-  node-reaches : (w : Word) → In w nodes → Reaches states 0 w (indexIn (groupAt nodes groups w) met)
-  node-reaches w m = go (walked rows nodes groups (treeOf-tree rows) (joined .fits) det w root 0 root-is-met)
-    where
-      root : ℕ
-      root = groupAt nodes groups []
-
-      root-is-met : In root met
-      root-is-met = root-met nodes groups (treeOf-tree rows) (joined .fits)
-
-      go : Walked ts states met root 0 w → Reaches states 0 w (indexIn (groupAt nodes groups w) met)
-      go (all-taken y by-word there e) =
-          let group : y ≡ groupAt nodes groups w =
-          walks-unique ts det root y (groupAt nodes groups w) w by-word (walks-down nodes groups (treeOf-tree rows) [] w m) in
-          let all : 0 + length w ≡ length w = omega arith in
-          record {
-            walked =
-                ap (λ (q : ℕ). walkFrom states q 0 w) (sym (met-root nodes groups (treeOf-tree rows) (joined .fits)))
-                ∙ e ∙ ap (λ (g : ℕ). walk-at (indexIn g met) (0 + length w)) group
-                ∙ ap (walk-at (indexIn (groupAt nodes groups w) met)) all;
-          }
-      go (stopped none few) = absurd (none (groupAt nodes groups w) (walks-down nodes groups (treeOf-tree rows) [] w m))
 
   -- a state of the table is that of a group met
   state-at :
@@ -131,7 +104,8 @@ module _ (c : Class) (rows : List Word) (groups : List ℕ) (joined : Joined c r
         let g = state-at q (λ e. false≢true (sym (ap (λ (s : State). s .accepts) e) ∙ yes)) in
         let h = tells-accepts rows nodes groups (g .0) .fact (sym (ap (λ (s : State). s .accepts) (g .2)) ∙ yes) in
         let end : walk states (h .0) .at-state ≡ q =
-        ap (λ (v : Walk). v .at-state) (node-reaches (h .0) (h .1) .walked) ∙ ap (λ (k : ℕ). indexIn k met) (h .2) ∙ g .1 in
+        ap (λ (v : Walk). v .at-state) (node-reaches c rows groups joined (h .0) (h .1) .walked)
+        ∙ ap (λ (k : ℕ). indexIn k met) (h .2) ∙ g .1 in
         many-some (λ (row : Word). eqb (walk states row .at-state) q) rows (h .0) (h .3)
         (eq-eqb (walk states (h .0) .at-state) q end),
   )
@@ -143,9 +117,10 @@ module _ (c : Class) (rows : List Word) (groups : List ℕ) (joined : Joined c r
       (w v : Word) (a : ℕ) → In w nodes → In (w ▸ a) nodes →
       (t : ℕ) × In (transition (indexIn (groupAt nodes groups w) met) a t) (stepsFrom states 0 (w ++ (a ∷ v)))
   step-into w v a m n =
-      let r = reaches-split states 0 (indexIn (groupAt nodes groups (w ▸ a)) met) w (a ∷ []) (node-reaches (w ▸ a) n) in
+      let r =
+      reaches-split states 0 (indexIn (groupAt nodes groups (w ▸ a)) met) w (a ∷ []) (node-reaches c rows groups joined (w ▸ a) n) in
       let there′ : r .0 ≡ indexIn (groupAt nodes groups w) met =
-      reaches-one states 0 (r .0) (indexIn (groupAt nodes groups w) met) w (r .1) (node-reaches w m) in
+      reaches-one states 0 (r .0) (indexIn (groupAt nodes groups w) met) w (r .1) (node-reaches c rows groups joined w m) in
       let last = reaches-steps states (r .0) (indexIn (groupAt nodes groups (w ▸ a)) met) (a ∷ []) (r .2) in (
         last .0,
         subst (λ (z : ℕ). In (transition z a (last .0)) (stepsFrom states 0 (w ++ (a ∷ v)))) there′

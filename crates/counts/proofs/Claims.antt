@@ -1,18 +1,13 @@
 -- All that is claimed of the counts: `counts-hold`. Assumes nothing.
-use mathlib.Core.Path.{sym, subst}
-use mathlib.Core.Logic.{_⊎_, inl, inr}
-use mathlib.Core.List.{List, List·Memᴰ as In}
-use Prim.Native.Nat.{ℕ, _≤_, _<_}
+use mathlib.Core.List.{List}
+use Prim.Native.Nat.{ℕ}
 use native.Mathlib.Omega.{arith}
-use lib.ListN.{length, getD, List·getD-eq-default}
-use Rattle.base.proofs.Tests.{le-or-lt}
-use Rattle.base.proofs.Places.{nth-in}
 use Rattle.model.specs.Fields.{Settings, Allowed}
-use Rattle.model.specs.Tables.{State, empty-state, Ascending}
 use Rattle.model.specs.Joinings.{joinedGroups}
 use Rattle.model.specs.Quotients.{bookStates}
 use Rattle.model.specs.Calls.{bookOf}
 use Rattle.model.specs.Claims.{Accepted}
+use Rattle.model.proofs.Arcs.{ascending-at}
 use Rattle.model.proofs.Joined.{joinedGroups-joined}
 use Rattle.model.proofs.Demands.{book-writable}
 use Rattle.counts.specs.Claims.{CountsAgree, CountsHold}
@@ -20,16 +15,6 @@ use Rattle.counts.proofs.Flow.{flow-holds}
 use Rattle.counts.proofs.Built.{ends-sum-holds, ends-accept-holds, all-passed-holds}
 use Rattle.counts.proofs.Written.{record-holds, ends-few, passes-few, book-counts-length}
 use Rattle.counts.proofs.Bags.{counts-bag}
-
--- arcs that ascend in each state ascend at each place: past the end there are none
-ascending-at :
-    (states : List State) → ((s : State) → In s states → Ascending 0 (s .arcs)) → (q : ℕ) →
-    Ascending 0 (getD states q empty-state .arcs)
-ascending-at states up q = go (le-or-lt (length states) q)
-  where
-    go : (length states ≤ q) ⊎ (q < length states) → Ascending 0 (getD states q empty-state .arcs)
-    go (inl past) = subst (λ (s : State). Ascending 0 (s .arcs)) (sym (List·getD-eq-default states empty-state past)) tt
-    go (inr low) = up (getD states q empty-state) (nth-in empty-state states q low)
 
 -- what the counts of an accepted book say of each other
 counts-agree : (settings : Settings) → Allowed settings → (s : List ℕ) → Accepted settings s → CountsAgree (bookOf settings s)

@@ -50,8 +50,12 @@ front : (b : AcceptedBuild) → Front (b .settings) (b .book) (b .work) (b .out)
 front b =
     built-front (b .settings) (b .book) (b .work) (b .out) (b .out′) (b .result) (b .says .gives) (b .not-refused)
 
+-- what it wrote
+pub written-is : (b : AcceptedBuild) → written b ≡ bookTable (bookIn b)
+written-is b = front b .at-front .bytes-are
+
 -- its book is accepted
-book-accepted : (b : AcceptedBuild) → Accepted (b .settings) (b .book)
+pub book-accepted : (b : AcceptedBuild) → Accepted (b .settings) (b .book)
 unfolding buildFault
 book-accepted b = first-of (sizesFault (b .book) (b .work)) (bookFault (b .settings) (b .book)) (front b .not-refused) .1
 
@@ -74,7 +78,7 @@ distinct-is b = ap (λ (r : Built). r .distinct) (front b .answer-is)
 
 handed-over : (b : AcceptedBuild) → HandedOver (bookIn b) (written b)
 handed-over b =
-    subst (λ (bytes : List ℕ). HandedOver (bookIn b) bytes) (sym (front b .at-front .bytes-are))
+    subst (λ (bytes : List ℕ). HandedOver (bookIn b) bytes) (sym (written-is b))
     (table-handed-over (b .settings) (b .allowed) (b .book) (book-accepted b))
 
 -- ---- two builds
@@ -98,7 +102,7 @@ module _ (b c : AcceptedBuild) (like : SameBook (bookIn b) (bookIn c)) where
   same-results : SameResults b c
   same-results =
       record {
-        bytes-same = front b .at-front .bytes-are ∙ tables-same ∙ sym (front c .at-front .bytes-are);
+        bytes-same = written-is b ∙ tables-same ∙ sym (written-is c);
         lengths-same = omega (arith, length-is b, ap length tables-same, length-is c);
         states-same = omega (arith, states-are b, ap length book-states-same, states-are c);
         joins-same = omega (arith, joins-are b, book-joins-same, joins-are c);

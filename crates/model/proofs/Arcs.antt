@@ -5,11 +5,12 @@ use mathlib.Core.Logic.{_⊎_, inl, inr, ⊎-elim}
 use mathlib.Core.Bool.{Bool, true, false, cond, false≢true}
 use mathlib.Core.List.{List, [], _∷_, List·Memᴰ as In, List·Memᴰ·head as here, List·Memᴰ·tail as there}
 use mathlib.Core.List.{List·Memᴰ·not-nil, List·Memᴰ·cases-cons, List·Memᴰ·eq-of-singleton, Memᴰ·cast}
-use Prim.Native.Nat.{ℕ, suc, _≤_}
+use Prim.Native.Nat.{ℕ, zero, suc, _≤_}
 use native.Mathlib.Omega.{arith}
 use lib.Dec.{eqb, ltb}
+use lib.ListN.{getD}
 use borrow.Author.Tests.{eqb-true, eqb-false, eq-eqb, ltb-true, ltb-false}
-use Rattle.model.specs.Tables.{Arc, arc, Ascending}
+use Rattle.model.specs.Tables.{Arc, arc, Ascending, State, empty-state}
 use Rattle.model.specs.Joinings.{Transition, transition, Deterministic}
 use Rattle.model.specs.Quotients.{putArc, arcsOutOf}
 
@@ -24,6 +25,14 @@ ascending-low next (a ∷ arcs) z p m = go (ascending-low (suc (a .name)) arcs z
         let low : suc (a .name) ≤ z .name = again n in
         let first : next ≤ a .name = p .0 in
         omega arith
+
+-- arcs that ascend in each state ascend at each place: past the end there are none
+pub ascending-at :
+    (states : List State) → ((s : State) → In s states → Ascending 0 (s .arcs)) → (q : ℕ) →
+    Ascending 0 (getD states q empty-state .arcs)
+ascending-at [] up q = tt
+ascending-at (s ∷ states) up zero = up s (here refl)
+ascending-at (s ∷ states) up (suc q) = ascending-at states (λ x m. up x (there m)) q
 
 -- an arc with a name above the first one's stands after it
 pub after-first : (x : Arc) (arcs : List Arc) (z : Arc) → suc (x .name) ≤ z .name → In z (x ∷ arcs) → In z arcs

@@ -47,9 +47,10 @@ pub mod NameLists
 pub mod RowBooks
 pub mod Reading
 pub mod TableBodies
--- demands: all full joinings have one table, contextual sets by their automata, the smallest set of the class, and all that is
--- claimed
+-- demands: all full joinings have one table, where the words of the prefix tree lead in it, contextual sets by their automata, the
+-- smallest set of the class, and all that is claimed
 pub mod Joined
+pub mod NodeWalks
 pub mod ContextualTables
 pub mod InTheClass
 pub mod Demands

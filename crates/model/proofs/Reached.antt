@@ -21,7 +21,7 @@ use Rattle.model.proofs.Admits.{targetIn-here, targetIn-there}
 use Rattle.model.proofs.TableWalks.{reaches-append, steps-reaches}
 
 -- among arcs with ascending names the target by a name is that of the arc with the name
-target-of : (next : ℕ) (arcs : List Arc) (z : Arc) → Ascending next arcs → In z arcs → targetIn (z .name) arcs ≡ suc (z .to)
+pub target-of : (next : ℕ) (arcs : List Arc) (z : Arc) → Ascending next arcs → In z arcs → targetIn (z .name) arcs ≡ suc (z .to)
 target-of next [] z up m = absurd (List·Memᴰ·not-nil m)
 target-of next (a ∷ arcs) z up m = go (List·Memᴰ·cases-cons m) (target-of (suc (a .name)) arcs z (up .1))
   where

@@ -3,7 +3,7 @@
 use mathlib.Core.Path.{_≡_, refl, sym, subst}
 use mathlib.Core.Logic.{⊎-elim}
 use mathlib.Core.Bool.{true, not, _&&_, false≢true, and-eq-true-iff}
-use mathlib.Core.List.{List, [], _∷_, _++_, map, List·Memᴰ as In, List·Memᴰ·head as here, List·Memᴰ·tail as there}
+use mathlib.Core.List.{List, [], _∷_, _++_, map, List·Memᴰ as In}
 use mathlib.Core.List.{List·Memᴰ·not-nil, List·Memᴰ·append-cases, List·Memᴰ·eq-of-singleton}
 use Prim.Native.Nat.{ℕ, zero, suc, _≤_, _<_}
 use native.Mathlib.Omega.{arith}
@@ -12,9 +12,11 @@ use lib.Dec.{ltb, leb}
 use lib.ListN.{length, getD, drop, length-append}
 use Rattle.base.specs.Limits.{name-limit, bad-numbering, when, firstOf}
 use Rattle.model.specs.Fields.{File, unread, standard, table, withField, arcsOk, stateOk, readTable, readWith}
-use Rattle.model.specs.Tables.{Arc, empty-state, arcsIn, stateIn, statesIn, isFirstMet, Ascending}
+use Rattle.model.specs.Tables.{Arc, State, empty-state, arcsIn, stateIn, statesIn, isFirstMet, Ascending}
 use Rattle.model.specs.Calls.{sizesFault, tableOf, tableStates, tableFault}
 use Rattle.model.specs.Sources.{AllReached}
+use Rattle.base.proofs.Lists.{map-in}
+use Rattle.model.proofs.Arcs.{ascending-at}
 use Rattle.model.proofs.FieldLaws.{Fitting, a-name, a-class, a-row, a-state, fitting, first-of, when-not}
 use Rattle.model.proofs.Turns.{read-keeps}
 use Rattle.model.proofs.Reached.{all-reached}
@@ -107,22 +109,28 @@ bodies-ok s ok =
 
 -- ---- every state is reached
 
--- arcs that ascend in each field ascend in each state
-ascending-at :
-    (items : List (List ℕ)) → ((r : List ℕ) → In r items → Ascending 0 (stateIn r .arcs)) → (q : ℕ) →
-    Ascending 0 (getD (map stateIn items) q empty-state .arcs)
-ascending-at [] up q = tt
-ascending-at (r ∷ items) up zero = up r (here refl)
-ascending-at (r ∷ items) up (suc q) = ascending-at items (λ x m. up x (there m)) q
-
--- in an accepted table, since it is numbered first-met
-pub accepted-reached : (s work : List ℕ) → tableFault s work ≡ 0 → AllReached (tableStates s)
-unfolding tableFault tableStates statesIn
-accepted-reached s work ok =
+-- what an accepted table has passed: its fields, and the test of first-met numbering
+fields-passed :
+    (s work : List ℕ) → tableFault s work ≡ 0 → (readTable s .number ≡ 0) × (isFirstMet (tableStates s) ≡ true)
+unfolding tableFault
+fields-passed s work ok =
     let numbered = isFirstMet (tableStates s) in
     let fault = readTable s .number in
     let numbering = when (not numbered) bad-numbering in
     let fields = first-of fault numbering (first-of (sizesFault s work) (firstOf fault numbering) ok .1) in
-    all-reached (tableStates s)
-    (ascending-at (tableOf s .items) (λ r m. state-ascends r (bodies-ok s (fields .0) r m) .0))
-    (when-not numbered bad-numbering (omega arith) (fields .1))
+    (fields .0, when-not numbered bad-numbering (omega arith) (fields .1))
+
+-- so the names of arcs ascend in each state of an accepted table
+pub ascends-accepted :
+    (s work : List ℕ) → tableFault s work ≡ 0 → (q : ℕ) → Ascending 0 (getD (tableStates s) q empty-state .arcs)
+unfolding tableStates statesIn
+ascends-accepted s work ok =
+    ascending-at (map stateIn (tableOf s .items))
+    (λ x m.
+    let r = map-in stateIn (tableOf s .items) m in
+    subst (λ (y : State). Ascending 0 (y .arcs)) (sym (r .2))
+    (state-ascends (r .0) (bodies-ok s (fields-passed s work ok .0) (r .0) (r .1)) .0))
+
+-- and each is reached, since they are numbered first-met
+pub accepted-reached : (s work : List ℕ) → tableFault s work ≡ 0 → AllReached (tableStates s)
+accepted-reached s work ok = all-reached (tableStates s) (ascends-accepted s work ok) (fields-passed s work ok .1)

@@ -28,7 +28,7 @@ walkable states (suc n) q =
     flatMap (λ (a : Arc). map (λ (w : Word). a .name ∷ w) (walkable states n (a .to))) (getD states q empty-state .arcs)
 
 -- a name with a target is the name of an arc to it
-target-arc : (x t : ℕ) (arcs : List Arc) → targetIn x arcs ≡ suc t → In (arc x t) arcs
+pub target-arc : (x t : ℕ) (arcs : List Arc) → targetIn x arcs ≡ suc t → In (arc x t) arcs
 unfolding targetIn
 target-arc x t [] e = let z : ⊥ = omega (arith, e) in absurd z
 target-arc x t (a ∷ arcs) e = go (eqb x (a .name)) refl e (λ f. target-arc x t arcs f)

@@ -17,7 +17,7 @@ use Rattle.model.specs.Fields.{fieldFault, withField, readFrom, readWith
 use Rattle.model.specs.Tables.{State}
 use Rattle.model.specs.Tables.{fieldBytes, nameFields, classField, arcBytes, stateBody, stateFields, tableBytes, arcsIn}
 use Rattle.model.specs.Tables.{stateIn, statesIn, metByArcs, metByStates, isFirstMet, targetIn, walkFrom, walk}
-use Rattle.model.specs.Tables.{reachedState, admits, outcome, longestBeginning, nameSet, nextNames, nextCount}
+use Rattle.model.specs.Tables.{reachedState, admits, nameSet, plainWalk}
 use Rattle.model.specs.Classes.{putName, seenSet, lastNames, fOf}
 use Rattle.model.specs.Joinings.{beginnings, withStates, withRows, treeOf, apart, groupAt, groupsIn, mergedTo, merged}
 use Rattle.model.specs.Joinings.{memberOf, groupAccepts, transitionsInto, transitionsOf, forks, routesFrom}
@@ -77,8 +77,7 @@ unfolding flatMap walkable walkableTo onlyThese allAmong isExact statesBy candid
     any anyTwo all filterBy numbersFrom isIn indexIn same hasRow before lastOr
     nameOk allBelow above nameFault classFault rowFault stateFault stateOk arcsOk fieldFault withField readFrom readWith
     fieldBytes nameFields classField arcBytes stateBody stateFields tableBytes arcsIn stateIn statesIn metByArcs
-    metByStates isFirstMet targetIn walkFrom walk reachedState admits outcome longestBeginning nameSet nextNames
-    nextCount
+    metByStates isFirstMet targetIn walkFrom walk reachedState admits nameSet plainWalk
     putName seenSet lastNames fOf
     beginnings withStates withRows treeOf apart groupAt groupsIn mergedTo merged memberOf groupAccepts transitionsInto
     transitionsOf forks routesFrom afterSameArc byContext intoOne fOfGroup byF byRule isOpen stepsBetween openSteps

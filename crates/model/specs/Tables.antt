@@ -152,24 +152,29 @@ reachedState states row = getD states (walk states row .at-state) empty-state
 unfoldable pub admits : List State → List ℕ → Bool
 admits states row = eqb (walk states row .taken) (length row) && reachedState states row .accepts
 
--- how a walk ends: admitted, on the way (all names walked, the last state not accepting), or stops (a name has no arc)
-unfoldable pub outcome : List State → List ℕ → ℕ
-outcome states row =
-    cond (ltb (walk states row .taken) (length row)) stops (cond (reachedState states row .accepts) admitted on-the-way)
-
--- the longest beginning of the row that can be walked
-unfoldable pub longestBeginning : List State → List ℕ → List ℕ
-longestBeginning states row = take (walk states row .taken) row
-
 -- names of arcs as a set of 64 bits, bit n for name n
 unfoldable pub nameSet : List Arc → ℕ
 nameSet [] = 0
 nameSet (a ∷ arcs) = 2 ^ (a .name) + nameSet arcs
 
--- the names with an arc from the state reached, as a set
-unfoldable pub nextNames : List State → List ℕ → ℕ
-nextNames states row = nameSet (reachedState states row .arcs)
+-- what a walk tells: how it ends, a beginning of the row, the names that may come next as a set, and how many they are
+pub record Told : Type 0 where
+  pub outcome : ℕ
+  pub beginning : List ℕ
+  pub next-names : ℕ
+  pub next-count : ℕ
 
--- how many names have an arc from the state reached
-unfoldable pub nextCount : List State → List ℕ → ℕ
-nextCount states row = length (reachedState states row .arcs)
+-- what a walk tells, by its parts
+abbrev pub told : ℕ → List ℕ → ℕ → ℕ → Told
+told outcome beginning names count =
+    record { outcome = outcome; beginning = beginning; next-names = names; next-count = count }
+
+-- what the walk alone tells, whether or not a state that it comes to leads to an end: admitted, on the way (all names walked, the last
+-- state not accepting) or stops (a name has no arc); the longest beginning that can be walked; the names with an arc from the state
+-- reached. What a walk is promised to tell is `liveWalk` of the crate `endings`
+unfoldable pub plainWalk : List State → List ℕ → Told
+plainWalk states row =
+    let taken = walk states row .taken in
+    let reached = reachedState states row in
+    told (cond (ltb taken (length row)) stops (cond (reached .accepts) admitted on-the-way)) (take taken row)
+    (nameSet (reached .arcs)) (length (reached .arcs))

@@ -12,7 +12,7 @@ use lib.ListN.{length, getD}
 use Rattle.base.specs.Lists.{all, filterBy, numbersFrom, same, hasRow}
 use Rattle.base.specs.Limits.{items-met, context-kind, seen-set-kind, last-names-kind, admitted, on-the-way, stops}
 use Rattle.model.specs.Fields.{Class, class-of, Settings, Allowed, standard, File, readTable}
-use Rattle.model.specs.Tables.{State, empty-state, isFirstMet, walk, admits, outcome, longestBeginning, nextNames, nextCount}
+use Rattle.model.specs.Tables.{State, empty-state, isFirstMet, walk, admits, plainWalk}
 use Rattle.model.specs.Classes.{Word}
 use Rattle.model.specs.Joinings.{Step, step, treeOf, joinedGroups, isFullJoining}
 use Rattle.model.specs.Quotients.{bookStates, bookTable, tableAfter}
@@ -666,11 +666,12 @@ acceptingIn states = filterBy (λ (i : ℕ). getD states i empty-state .accepts)
 -- the walk of the row is as the remark says
 unfoldable pub remarkHolds : List State → Remark → Bool
 remarkHolds states r =
-    eqb (outcome states (r .row)) (r .ends)
+    let tells = plainWalk states (r .row) in
+    eqb (tells .outcome) (r .ends)
     && eqb (walk states (r .row) .taken) (r .taken)
-    && same (longestBeginning states (r .row)) (r .beginning)
-    && eqb (nextNames states (r .row)) (r .next-names)
-    && eqb (nextCount states (r .row)) (r .next-count)
+    && same (tells .beginning) (r .beginning)
+    && eqb (tells .next-names) (r .next-names)
+    && eqb (tells .next-count) (r .next-count)
 
 -- the three numbers of a class
 abbrev pub classNumbers : Class → List ℕ

@@ -59,8 +59,8 @@ fn walk_and_clear(table: &[u8], row: &[u8], work: &mut [u8]) -> Walked
     ended
 }
 
-// Walks a row over a table: the longest beginning of the row that can be walked, as a part of the row; what else there is to say
-// goes out through the lent numbers.
+// Walks a row over a table: the longest beginning of the row that begins an admitted row, as a part of the row, or the empty part where the
+// table admits none; what else there is to say goes out through the lent numbers.
 pub fn walk_row<'a>(
     table: &[u8],
     row: &'a [u8],

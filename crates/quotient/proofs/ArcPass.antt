@@ -14,6 +14,7 @@ use Rattle.model.specs.Tables.{Arc, arc, nameSet}
 use Rattle.model.specs.Joinings.{treeOf, transition, transitionsOf}
 use Rattle.model.specs.Quotients.{arcsOutOf}
 use Rattle.model.proofs.Arcs.{arcsOutOf-ascending, arcsOutOf-in, in-arcsOutOf}
+use Rattle.model.proofs.NameSets.{bit-nameSet}
 use Rattle.base.proofs.Tests.{eq-dec}
 use Rattle.base.specs.Bits.{bit}
 use Rattle.base.proofs.Bits.{bit-zero, bit-of-set, bits-told}
@@ -22,7 +23,6 @@ use Rattle.base.proofs.CellLaws.{length-withCell, cell-same, cell-other}
 use Rattle.indexed.specs.Partitions.{Joined}
 use Rattle.indexed.specs.ArcCells.{ArcsAt}
 use Rattle.quotient.specs.Gathered.{Gathered}
-use Rattle.quotient.proofs.NameSets.{bit-nameSet}
 use Rattle.indexed.proofs.TreeArcs.{TreeArc, label-low, transition-number, number-transition, one-target, from-low, name-low}
 
 -- some tree arc into a state before v leaves group g by name a

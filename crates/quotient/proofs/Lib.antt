@@ -1,6 +1,5 @@
--- The laws behind the quotient, in order: sets of names; the passes that gather arcs and sum ends; groups met; the states' fields.
+-- The laws behind the quotient, in order: the passes that gather arcs and sum ends; groups met; the states' fields.
 -- Assumes nothing.
-pub mod NameSets
 pub mod ArcPass
 pub mod EndsPass
 pub mod MetLaws

@@ -1,5 +1,6 @@
--- What the public entries say (docs/SCOPE.md, sections 4, 5, 8, 11 and 12): each entry is one call in the shape of model's Calls, so that
--- its result and every lent byte are equal to what a definition of `model`, `counts` or `written_plans` gives. Assumes nothing.
+-- What the public entries say (docs/SCOPE.md, sections 4, 5, 8, 11, 12 and 13): each entry is one call in the shape of model's Calls, so
+-- that its result and every lent byte are equal to what a definition of `model`, `counts`, `endings` or `written_plans` gives. Assumes
+-- nothing.
 use mathlib.Core.Path.{_≡_}
 use mathlib.Core.Bool.{Bool, true}
 use mathlib.Core.List.{List, [], _∷_}
@@ -8,13 +9,14 @@ use lib.Dec.{leb}
 use lib.ListN.{length}
 use Rattle.base.specs.Limits.{bad-plan, when}
 use Rattle.model.specs.Fields.{Settings}
-use Rattle.model.specs.Tables.{State, rowFields, outcome, longestBeginning, nextNames, nextCount}
+use Rattle.model.specs.Tables.{State, Told, rowFields}
 use Rattle.model.specs.Quotients.{bookStates, bookTable}
 use Rattle.model.specs.Calls.{Call, Says, over, unless}
 use Rattle.model.specs.Calls.{bookOf, buildFault, joinsOf, distinctOf, tableFault, rewritten, walkFault, tableStates}
 use Rattle.model.specs.Listing.{bookListing, listingOf}
 use Rattle.written_plans.specs.Calls.{planReading, planRows, planFault}
 use Rattle.counts.specs.Counts.{countsIf}
+use Rattle.endings.specs.Live.{liveWalk}
 use Rattle.results.specs.declared.Built.{Built}
 use Rattle.results.specs.declared.Counted.{Counted}
 use Rattle.results.specs.declared.Rewritten.{Rewritten}
@@ -121,10 +123,13 @@ abbrev pub walked-as : ℕ → ℕ → ℕ → ℕ → ℕ → Walked
 walked-as refusal result walked names count =
     record { refusal = refusal; outcome = result; «next_count» = count; walked = walked; «next_names» = names }
 
--- the walk of a row: how it ends, how long the longest beginning is that can be walked, the next names and how many they are
+-- what is told of a walk, as a result: how it ends, how long the beginning is, the next names and how many they are
+abbrev pub walked-told : Told → Walked
+walked-told t = walked-as 0 (t .outcome) (length (t .beginning)) (t .next-names) (t .next-count)
+
+-- the walk of a row over these states, which heeds the states with no way to an end
 abbrev pub walked-over : List State → List ℕ → Walked
-walked-over states row =
-    walked-as 0 (outcome states row) (length (longestBeginning states row)) (nextNames states row) (nextCount states row)
+walked-over states row = walked-told (liveWalk states row)
 
 -- a refused walk gives its number, an empty beginning, no names and a count of 0
 abbrev pub not-walked : ℕ → Walked
@@ -147,7 +152,7 @@ WalkedSays table row work work′ r = Says (walking table row work) work work′
 -- what walk_row promises: the same of the numbers that it sets, and the beginning itself, which is a part of the row
 pub record WalkSays (table row work work′ beginning : List ℕ) (refusal result names count : ℕ) : Type 0 where
   pub says : WalkedSays table row work work′ (walked-as refusal result (length beginning) names count)
-  pub beginning-is : beginning ≡ unless (walkFault table row work) [] (longestBeginning (tableStates table) row)
+  pub beginning-is : beginning ≡ unless (walkFault table row work) [] (liveWalk (tableStates table) row .beginning)
 
 -- ---- a book listed
 

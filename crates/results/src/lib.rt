@@ -32,8 +32,9 @@ pub struct Rewritten {
     pub states: u32,
 }
 
-// What a walk gives back: its refusal or 0; 1 admitted, 2 on the way, 3 stops; how many names may come next; how many names of the row
-// can be walked; the names that may come next, bit n for name n.
+// What a walk gives back: its refusal or 0; 1 admitted, 2 on the way (the row begins an admitted one), 3 stops; how many names may come
+// next; how long the row's longest beginning is that begins an admitted row; the names that may come next, those with which that beginning
+// still does, bit n for name n.
 #[repr(C)]
 pub struct Walked {
     pub refusal: u8,

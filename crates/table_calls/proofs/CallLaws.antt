@@ -1,5 +1,5 @@
 -- What a table rewritten and a row walked give back, from what opening the table says. Assumes nothing.
-use mathlib.Core.Path.{_≡_, refl, sym, ap, _∙_}
+use mathlib.Core.Path.{_≡_, refl, sym, ap, _∙_, subst}
 use mathlib.Core.Bool.{Bool, true, false, not, cond}
 use mathlib.Core.List.{List, [], _∷_}
 use Prim.Native.Nat.{ℕ, _≤_, _<_}
@@ -9,12 +9,13 @@ use lib.ListN.{length, take, drop, length-take, take-append-drop}
 use lib.Seq.{take-append-seam}
 use Rattle.base.specs.Limits.{when, bad-row, output-too-short}
 use Rattle.model.specs.Fields.{File, rowOk}
-use Rattle.model.specs.Tables.{longestBeginning, walk}
+use Rattle.model.specs.Tables.{State, plainWalk, walk}
 use Rattle.model.specs.Claims.{AllBytes}
 use Rattle.model.specs.Calls.{Gives, Refuses, tooShort, unless, tableOf, tableStates, tableFault, walkFault}
 use Rattle.model.proofs.CallLaws.{refuses-first, refuses-then, refuses-none, refuses-when}
 use Rattle.model.proofs.CallLaws.{call-refused, call-answered, answer-by, fault-roomy, call-one-short, call-one-wrote}
 use Rattle.model.proofs.Reading.{rewrites-same}
+use Rattle.endings.specs.Live.{isLive, trimmed, nowhere, liveWalk}
 use Rattle.fields.specs.declared.Place.{Place}
 use Rattle.fields.proofs.Parts.{length-names}
 use Rattle.writing.specs.Writing.{Written}
@@ -56,10 +57,31 @@ module _ (table work out : List ℕ) (bytes : AllBytes table) (none : tableFault
 pub names-count : (s : List ℕ) (p : Place) → TableRead s p → length (tableOf s .names) ≡ p .names
 names-count s p read = ap (λ (f : File). length (f .names)) (sym (read .file-is)) ∙ length-names s p (read .sound)
 
--- a beginning taken again by its length
+-- the beginning that is told is one of the row
+beginning-of : (states : List State) (row : List ℕ) → (n : ℕ) × (liveWalk states row .beginning ≡ take n row)
+unfolding liveWalk plainWalk
+beginning-of states row = go (isLive states 0)
+  where
+    go : (b : Bool) → (n : ℕ) × (cond b (plainWalk (trimmed states) row) nowhere .beginning ≡ take n row)
+    go true = (walk (trimmed states) row .taken, refl)
+    go false = (0, refl)
+
+-- taken again by its length
 take-again : (n : ℕ) (l : List ℕ) → take (length (take n l)) l ≡ take n l
 take-again n l =
     ap (λ (m : List ℕ). take (length (take n l)) m) (sym (take-append-drop n l)) ∙ take-append-seam (take n l) (drop n l)
+
+beginning-again : (states : List State) (row : List ℕ)
+    → take (length (liveWalk states row .beginning)) row ≡ liveWalk states row .beginning
+beginning-again states row =
+    let some = beginning-of states row in
+    subst (λ (l : List ℕ). take (length l) row ≡ l) (sym (some .1)) (take-again (some .0) row)
+
+-- so it is no longer than the row
+beginning-short : (states : List State) (row : List ℕ) → length (liveWalk states row .beginning) ≤ length row
+beginning-short states row =
+    let some = beginning-of states row in
+    subst (λ (l : List ℕ). length l ≤ length row) (sym (some .1)) (simp length-take (omega arith))
 
 module _ (table row work : List ℕ) where
   pub walk-refused :
@@ -85,14 +107,14 @@ module _ (table row work : List ℕ) where
 
   -- the answer tells how much of the row was walked
   pub walked-within : (r : Walked) → Gives (walking table row work) [] [] r → r .walked ≤ length row
-  unfolding walking longestBeginning
+  unfolding walking
   walked-within r gives =
-      answer-by gives (λ (w : Walked). w .walked ≤ length row) (λ k. omega arith) (λ none. simp length-take (omega arith))
+      answer-by gives (λ (w : Walked). w .walked ≤ length row) (λ k. omega arith) (λ none. beginning-short (tableStates table) row)
 
   pub beginning-told :
       (r : Walked) → Gives (walking table row work) [] [] r →
-      take (r .walked) row ≡ unless (walkFault table row work) [] (longestBeginning (tableStates table) row)
-  unfolding walking tooShort longestBeginning
+      take (r .walked) row ≡ unless (walkFault table row work) [] (liveWalk (tableStates table) row .beginning)
+  unfolding walking tooShort
   beginning-told r gives =
       ap (λ (w : Walked). take (w .walked) row) (gives .answer-is)
       ∙ ap (λ (k : ℕ). take (unless k (not-walked k) (walked-over (tableStates table) row) .walked) row)
@@ -102,6 +124,6 @@ module _ (table row work : List ℕ) where
       go :
           (b : Bool) →
           take (cond b (walked-over (tableStates table) row) (not-walked (walkFault table row work)) .walked) row
-          ≡ cond b (longestBeginning (tableStates table) row) []
-      go true = take-again (walk (tableStates table) row .taken) row
+          ≡ cond b (liveWalk (tableStates table) row .beginning) []
+      go true = beginning-again (tableStates table) row
       go false = refl

@@ -21,12 +21,12 @@ use Rattle.fields.specs.Places.{TableReadAs}
 use Rattle.fields.specs.declared.Place.{Place}
 use Rattle.fields.specs.declared.Fields.the-variants as read
 use Rattle.judging.proofs.OffsetLaws.{offset-suc, field-within, length-fields, field-at}
-use Rattle.base.specs.Cells.{cellAt, withCell}
-use Rattle.base.proofs.CellLaws.{length-withCell, cell-same, cell-other-row}
 use Rattle.tables.specs.Arcs.{StateOk}
+use Rattle.tables.specs.KeptFields.{fieldAt, withField}
 use Rattle.tables.specs.Accepting.{TableRead, StateField, TableAt, OpenedAs}
 use Rattle.tables.specs.declared.Accepted.{Accepted}
 use Rattle.tables.specs.declared.Accepted.the-variants.{Table, Refused}
+use Rattle.tables.proofs.KeptLaws.{length-withField, field-same, field-other}
 use Rattle.tables.proofs.MetLaws.{states-stop, states-go, states-end, first-met-some}
 
 -- ---- where each state's field stands
@@ -73,7 +73,7 @@ pub record Passing (s : List ℕ) (p : Place) (lent work : List ℕ) (at met i :
   pub same-length : length work ≡ length lent
   pub within : i ≤ p .items
   pub at-is : at ≡ offsetAt s (p .start) i
-  pub kept : (j : ℕ) → j < i → cellAt work j 0 ≡ offsetAt s (p .start) j
+  pub kept : (j : ℕ) → j < i → fieldAt work j ≡ offsetAt s (p .start) j
   pub decides : metByStates i met (drop i (tableStates s)) ≡ metByStates 0 1 (tableStates s)
 
 pub passing-begins : (s : List ℕ) (p : Place) (lent : List ℕ) → sizesFault s lent ≡ 0 → Passing s p lent lent (p .start) 1 0
@@ -108,7 +108,7 @@ module _ (s : List ℕ) (p : Place) (t : TableRead s p) (lent work : List ℕ) (
 
   pub passing-goes : (next : ℕ) → i < p .items → i < met
       → next ≡ metByArcs met (stateIn (bodyAt s at) .arcs)
-      → Passing s p lent (withCell work i 0 at) (nextAt s at) next (i + 1)
+      → Passing s p lent (withField work i at) (nextAt s at) next (i + 1)
   passing-goes next h low e =
       let room = sizes-fit s lent (now .sized) .work-fits in
       let few : i < 512 = omega (arith, t .sound .few-items) in
@@ -118,7 +118,7 @@ module _ (s : List ℕ) (p : Place) (t : TableRead s p) (lent work : List ℕ) (
       let there-is : i < length (tableStates s) = omega (arith, states-count s p t) in
       record {
         sized = now .sized;
-        same-length = length-withCell work i 0 at ∙ now .same-length;
+        same-length = length-withField work i at ∙ now .same-length;
         within = omega arith;
         at-is = ap (nextAt s) (now .at-is) ∙ sym (offset-suc s (p .start) i) ∙ ap (offsetAt s (p .start)) (sym (add-one i));
         kept = λ (j : ℕ) (l : j < i + 1). keep few big j l (ltb j i) refl;
@@ -130,14 +130,14 @@ module _ (s : List ℕ) (p : Place) (t : TableRead s p) (lent work : List ℕ) (
       }
     where
       keep : i < 512 → work-bytes ≤ length work → (j : ℕ) → j < i + 1 → (b : Bool) → ltb j i ≡ b
-          → cellAt (withCell work i 0 at) j 0 ≡ offsetAt s (p .start) j
+          → fieldAt (withField work i at) j ≡ offsetAt s (p .start) j
       keep few big j l true q =
           let less : j < i = ltb-true j i q in
-          cell-other-row work i 0 at j 0 (omega arith) (omega arith) (λ (z : j ≡ i). omega arith) ∙ now .kept j less
+          field-other work i at j (λ (z : j ≡ i). omega arith) ∙ now .kept j less
       keep few big j l false q =
           let same : j ≡ i = omega (arith, ltb-false j i q) in
-          subst (λ (k : ℕ). cellAt (withCell work i 0 at) k 0 ≡ offsetAt s (p .start) k) (sym same)
-          (cell-same work i 0 at few (omega arith) big ∙ now .at-is)
+          subst (λ (k : ℕ). fieldAt (withField work i at) k ≡ offsetAt s (p .start) k) (sym same)
+          (field-same work i at few big ∙ now .at-is)
 
   refuse : (metByStates 0 1 (tableStates s) ≡ length (tableStates s) → ⊥) → OpenedAs s lent work (Refused 12)
   unfolding isFirstMet

@@ -12,8 +12,8 @@ use Rattle.model.specs.Calls.{tableOf, tableStates, tableFault}
 use Rattle.judging.specs.Offsets.{bodyAt, nextAt, offsetAt}
 use Rattle.fields.specs.Places.{fileOf, Sound}
 use Rattle.fields.specs.declared.Place.{Place}
-use Rattle.base.specs.Cells.{cellAt}
 use Rattle.tables.specs.Arcs.{StateOk}
+use Rattle.tables.specs.KeptFields.{fieldAt}
 use Rattle.tables.specs.declared.Accepted.{Accepted}
 use Rattle.tables.specs.declared.Accepted.the-variants as answer
 
@@ -28,21 +28,21 @@ pub record StateField (s : List ℕ) (at : ℕ) : Type 0 where
   pub fits : nextAt s at ≤ length s
   pub ok : StateOk (bodyAt s at)
 
--- the lent area is ready for walks over the table: for each state the first column has the offset of its field
+-- the lent area is ready for walks over the table: for each state it keeps the offset of its field
 pub record Ready (s work : List ℕ) : Type 0 where
   pub room : work-bytes ≤ length work
   pub some-state : 0 < length (tableStates s)
   pub few-states : length (tableStates s) ≤ state-limit
   pub first-met : isFirstMet (tableStates s) ≡ true
-  pub field : (i : ℕ) → i < length (tableStates s) → StateField s (cellAt work i 0)
-  pub means : (i : ℕ) → i < length (tableStates s) → stateIn (bodyAt s (cellAt work i 0)) ≡ getD (tableStates s) i empty-state
+  pub field : (i : ℕ) → i < length (tableStates s) → StateField s (fieldAt work i)
+  pub means : (i : ℕ) → i < length (tableStates s) → stateIn (bodyAt s (fieldAt work i)) ≡ getD (tableStates s) i empty-state
 
 -- an accepted table
 pub record TableAt (s work : List ℕ) (p : Place) : Type 0 where
   pub read : TableRead s p
   pub items-are : p .items ≡ length (tableStates s)
   pub first-met : isFirstMet (tableStates s) ≡ true
-  pub kept-offsets : (i : ℕ) → i < p .items → cellAt work i 0 ≡ offsetAt s (p .start) i
+  pub kept-offsets : (i : ℕ) → i < p .items → fieldAt work i ≡ offsetAt s (p .start) i
   pub ready : Ready s work
 
 -- the refusal's number for an answer, 0 for none

@@ -1,13 +1,16 @@
-// One state's field, over its bytes after mark and length: whether it accepts, the names of its arcs as a set, the target of an
-// arc, and the check of first-met numbering. Every function here requires that the field passed the reader's test.
+// One state's field, over its bytes after mark and length: the names of its arcs to marked states as a set, the target of an arc, and
+// the check of first-met numbering. Every function here requires that the field passed the reader's test.
+use base::limits::STATE_LIMIT;
 use base::numbers::two_bytes;
 use base::sets::with_name;
 ghost use mathlib.Core.Path.{_≡_};
-ghost use Prim.Native.Nat.{_+_, _≤_, _<_};
+ghost use mathlib.Core.Bool.{cond};
+ghost use Prim.Native.Nat.{_+_, _^_, _≤_, _<_};
+ghost use lib.Bits.{bitOr};
 ghost use lib.ListN.{length};
-ghost use Rattle.base.specs.Limits.{number-limit};
+ghost use Rattle.base.specs.Limits.{name-limit, state-limit, number-limit};
 ghost use Rattle.model.specs.Tables.{stateIn, metByArcs, targetIn, nameSet};
-ghost use Rattle.tables.specs.Arcs.{StateOk, IsTarget, metWith};
+ghost use Rattle.tables.specs.Arcs.{StateOk, IsTarget, TargetsBelow, isMarked, markedArcs, metWith};
 
 // The target of the arc at an offset, high byte first.
 pub fn target_at(state: &[u8], i: usize) -> usize
@@ -65,16 +68,28 @@ pub fn target(state: &[u8], name: u8) -> usize
     0
 }
 
-// The names of a state's arcs as a set of 64 bits, bit n for name n.
-pub fn name_set(state: &[u8]) -> u64
+// A set with one name more where the mark of its arc's target is not 0.
+fn with_marked(names: u64, name: u8, mark: u16) -> u64
+    requires { ⌜ name < name-limit ⌝ }
+    ensures { λ r. ⌜ r ≡ cond (isMarked mark) (bitOr names (2 ^ name)) names ⌝ }
+{
+    if mark == 0 {
+        return names;
+    }
+    with_name(names, name)
+}
+
+// The names of a state's arcs to marked states, as a set of 64 bits, bit n for name n.
+pub fn name_set(state: &[u8], marks: &[u16; STATE_LIMIT]) -> u64
     requires { ⌜ StateOk (now state) ⌝ }
-    ensures { λ r. ⌜ r ≡ nameSet (stateIn (now (state .entry)) .arcs) ⌝ }
+    requires { ⌜ TargetsBelow state-limit (stateIn (now state) .arcs) ⌝ }
+    ensures { λ r. ⌜ r ≡ nameSet (markedArcs (now (marks .entry)) (stateIn (now (state .entry)) .arcs)) ⌝ }
 {
     let mut names: u64 = 0;
     let mut i = 1;
     while i < state.len() {
-        let name = state[i];
-        names = with_name(names, name);
+        let to = target_at(state, i);
+        names = with_marked(names, state[i], marks[to]);
         i += 3;
     }
     names

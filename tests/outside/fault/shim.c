@@ -109,12 +109,15 @@ static uint8_t *without_copies(const uint8_t *book, size_t book_len, size_t *len
     return copy;
 }
 
-/* The contents of a table's or a counts file's fields of one mark, by the number of the state. */
-static void contents(uint8_t *fields, size_t length, uint8_t mark, uint8_t *of_state[PLANS_STATE_LIMIT])
+/* The contents of a table's or a counts file's fields of one mark, by the number of the state, and how many there are. */
+static size_t contents(uint8_t *fields, size_t length, uint8_t mark, uint8_t *of_state[PLANS_STATE_LIMIT])
 {
+    size_t count = 0;
+
     for (size_t at = 0; at < length; at += 3 + (size_t)(fields[at + 1] << 8 | fields[at + 2]))
         if (fields[at] == mark)
-            *of_state++ = fields + at + 3;
+            of_state[count++] = fields + at + 3;
+    return count;
 }
 
 /* One less, for a number of two bytes. */
@@ -238,11 +241,106 @@ plans_rewritten plans_rewrite(const uint8_t *table, size_t table_len,
     return rewritten;
 }
 
+/* How many arcs a state has, by its content, and where one of them leads. */
+static size_t arcs_of(const uint8_t *state)
+{
+    return (size_t)(state[-2] << 8 | state[-1]) / 3;
+}
+
+static unsigned target_of(const uint8_t *state, size_t arc)
+{
+    return (unsigned)(state[2 + 3 * arc] << 8 | state[3 + 3 * arc]);
+}
+
+/* Marks the states that accept and those with an arc to a marked one, by so many sweeps from the last state to the first. */
+static void mark_ends(uint8_t *const *states, size_t count, size_t sweeps, uint8_t *marks)
+{
+    for (size_t state = 0; state < count; state++)
+        marks[state] = states[state][0];
+    for (; sweeps > 0; sweeps--)
+        for (size_t state = count; state-- > 0;)
+            for (size_t arc = 0; arc < arcs_of(states[state]); arc++)
+                marks[state] |= marks[target_of(states[state], arc)];
+}
+
+/* A walk that takes arcs to marked states only, and stops before its first step where the start has no mark. */
+static plans_walked walk_marked(uint8_t *const *states, const uint8_t *marks, const uint8_t *row, size_t row_len)
+{
+    plans_walked walked = {PLANS_OK, PLANS_STOPS, 0, 0, 0};
+    const uint8_t *state = states[0];
+
+    if (!marks[0])
+        return walked;
+    for (; walked.walked < row_len; walked.walked++) {
+        size_t arc = 0;
+
+        while (arc < arcs_of(state) && state[1 + 3 * arc] != row[walked.walked])
+            arc++;
+        if (arc == arcs_of(state) || !marks[target_of(state, arc)])
+            break;
+        state = states[target_of(state, arc)];
+    }
+    if (walked.walked == row_len)
+        walked.outcome = state[0] ? PLANS_ADMITTED : PLANS_ON_THE_WAY;
+    for (size_t arc = 0; arc < arcs_of(state); arc++)
+        if (marks[target_of(state, arc)]) {
+            walked.next_names |= UINT64_C(1) << state[1 + 3 * arc];
+            walked.next_count++;
+        }
+    return walked;
+}
+
+/* What a walk over an accepted table tells, with a fault in how it heeds states that lead to no end. */
+static plans_walked spoil_ends(const uint8_t *table, size_t table_len,
+                               const uint8_t *row, size_t row_len,
+                               uint8_t *work, plans_walked walked)
+{
+    uint8_t *states[PLANS_STATE_LIMIT], all[PLANS_STATE_LIMIT], marks[PLANS_STATE_LIMIT];
+    size_t count = contents((uint8_t *)table, table_len, PLANS_STATE_MARK, states);
+    int admits_none = real_plans_walk(table, table_len, NULL, 0, work, PLANS_WORK_BYTES).outcome == PLANS_STOPS;
+    plans_walked by_arcs, from_beginning;
+
+    memset(all, 1, sizeof all);
+    by_arcs = walk_marked(states, all, row, row_len);
+    from_beginning = walk_marked(states, all, row, walked.walked);
+    if (is("DEAD_STATES"))
+        walked = by_arcs;
+    if (is("DEAD_OUTCOME") && !admits_none)
+        walked.outcome = by_arcs.outcome;
+    if (is("DEAD_BEGINNING") && !admits_none)
+        walked.walked = by_arcs.walked;
+    if ((is("DEAD_NAMES") && !admits_none) || (is("NOWHERE_NAMES") && admits_none)) {
+        walked.next_names = from_beginning.next_names;
+        walked.next_count = from_beginning.next_count;
+    }
+    if (is("NEXT_COUNT") && !admits_none)
+        walked.next_count = from_beginning.next_count;
+    if (is("DEAD_START") && row_len == 0 && admits_none)
+        walked.outcome = PLANS_ON_THE_WAY;
+    if (is("NOWHERE_BEGINNING") && admits_none)
+        walked.walked = by_arcs.walked;
+    /* a way to an end is found only where its numbers rise, or where they fall fewer than a hundred times */
+    if (is("ONE_SWEEP")) {
+        mark_ends(states, count, 1, marks);
+        walked = walk_marked(states, marks, row, row_len);
+    }
+    if (is("HUNDRED_SWEEPS")) {
+        mark_ends(states, count, 100, marks);
+        walked = walk_marked(states, marks, row, row_len);
+    }
+    if (is("WALK_WORK") && walked.outcome != by_arcs.outcome)
+        work[PLANS_WORK_BYTES - 1] = 1;
+    return walked;
+}
+
 plans_walked plans_walk(const uint8_t *table, size_t table_len,
                         const uint8_t *row, size_t row_len,
                         uint8_t *work, size_t work_len)
 {
     plans_walked walked = real_plans_walk(table, table_len, row, row_len, work, work_len);
+
+    if (walked.refusal == PLANS_OK)
+        walked = spoil_ends(table, table_len, row, row_len, work, walked);
 
     if (is("LONGER_WALK") && row_len == PLANS_ROW_LIMIT + 1)
         walked = real_plans_walk(table, table_len, row, PLANS_ROW_LIMIT, work, work_len);

@@ -256,7 +256,7 @@ impl Run {
         // SAFETY: three buffers that do not overlap, each of the length passed
         let given = unsafe { plans_walk(table_at, self.input.len(), row_at, self.second.len(), work_at, self.work.len()) };
         let wrong = difference(&walked_of(&expected), &given).or_else(|| self.buffers_after(table, row));
-        self.counts.count_walked(&expected);
+        self.counts.count_walked(table, row, &expected);
         match wrong {
             Some(wrong) => {
                 let lengths = format!("{wrong} (working area {work} bytes)");

@@ -4,7 +4,7 @@ use reference::counts::Counted;
 use reference::fields::{read_book, read_table, split_field};
 use reference::plan_rows::{PlanRows, Refused};
 use reference::refusal::Refusal;
-use reference::walk::Walked;
+use reference::walk::{begins_admitted, plain_walk, Walked};
 use reference::Built;
 use std::collections::BTreeMap;
 
@@ -23,6 +23,9 @@ pub struct Counts {
     pub plans_refused: [usize; 17],
     /// How many walks had each outcome, by its number.
     pub outcomes: [usize; 4],
+    /// How many walks had another outcome, another beginning and other next names than arcs alone tell; and how many were over tables that
+    /// admit no row.
+    pub endings: [usize; 4],
     /// How many accepted builds joined states, for each class by its field's bytes.
     pub joined: BTreeMap<[u8; 3], usize>,
     /// The most states that the prefix tree of such a build had.
@@ -64,15 +67,25 @@ impl Counts {
         self.refused[written.as_ref().map_or_else(|refusal| usize::from(refusal.number()), |_| 0)] += 1;
     }
 
-    pub fn count_walked(&mut self, walked: &Result<Walked, Refusal>) {
+    pub fn count_walked(&mut self, table: &[u8], row: &[u8], walked: &Result<Walked, Refusal>) {
         self.inputs += 1;
         match walked {
             Ok(walked) => {
                 self.refused[0] += 1;
                 self.outcomes[walked.outcome as usize] += 1;
+                self.count_endings(table, row, walked);
             }
             Err(refusal) => self.refused[usize::from(refusal.number())] += 1,
         }
+    }
+
+    fn count_endings(&mut self, table: &[u8], row: &[u8], walked: &Walked) {
+        let table = read_table(table).expect("a table that is walked can be read");
+        let plain = plain_walk(&table, row);
+        self.endings[0] += usize::from(walked.outcome != plain.outcome);
+        self.endings[1] += usize::from(walked.beginning != plain.beginning);
+        self.endings[2] += usize::from(walked.next_names != plain.next_names);
+        self.endings[3] += usize::from(!begins_admitted(&table, &[]));
     }
 
     pub fn count_rows(&mut self, read: &Result<PlanRows, Refused>) {
@@ -88,6 +101,7 @@ impl Counts {
         self.largest_number = self.largest_number.max(more.largest_number);
         self.plans_refused.iter_mut().zip(more.plans_refused).for_each(|(sum, count)| *sum += count);
         self.outcomes.iter_mut().zip(more.outcomes).for_each(|(sum, count)| *sum += count);
+        self.endings.iter_mut().zip(more.endings).for_each(|(sum, count)| *sum += count);
         self.largest_tree = self.largest_tree.max(more.largest_tree);
         self.copies += more.copies;
         self.most_copies += more.most_copies;

@@ -8,6 +8,7 @@ mod comparing;
 mod counts;
 mod damage;
 mod drawing;
+mod ends;
 #[cfg(expat)]
 mod expat;
 mod kinds;
@@ -151,6 +152,9 @@ fn coverage(options: &Options, all: &Counts) -> Vec<(&'static str, Option<String
     #[cfg(not(expat))]
     println!("this machine has no expat: plans are not compared with it");
     println!("walks admitted, on the way, stopped: {:?}", &all.outcomes[1..]);
+    let [outcomes, beginnings, next_names, admits_none] = all.endings;
+    println!("told otherwise than by arcs alone: {outcomes} outcomes, {beginnings} beginnings, {next_names} sets of next names");
+    println!("walks over tables that admit no row: {admits_none}");
     println!("classes with builds that joined states: {}, in each {least_joined} or more such builds", all.joined.len());
     println!("largest prefix tree of such a build: {} states", all.largest_tree);
     println!("builds of books with copies of rows: {}; of more copies than different rows: {}", all.copies, all.most_copies);
@@ -169,6 +173,10 @@ fn coverage(options: &Options, all: &Counts) -> Vec<(&'static str, Option<String
             says(PLAN_REFUSALS.iter().any(|&refusal| all.plans_refused[refusal] == 0), "one is not"),
         ),
         ("every outcome is given", says(all.outcomes[1..].contains(&0), "one is not")),
+        (
+            "states that lead to no end alter outcomes, beginnings and next names",
+            says(all.endings.contains(&0), "one of them they do not"),
+        ),
         ("every class has builds that joined states", says(all.joined.len() < CLASSES, "one has none")),
         ("books with copies of rows are built", says(all.copies == 0, "none is")),
         ("books of more copies than different rows are built", says(all.most_copies == 0, "none is")),

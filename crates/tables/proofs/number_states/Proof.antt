@@ -6,8 +6,8 @@ use Prim.Native.Nat.{ℕ, _+_, _-_}
 use native.Mathlib.Omega.{arith}
 use Rattle.model.specs.Tables.{stateIn, metByArcs}
 use Rattle.model.proofs.CallLaws.{sizes-fit}
-use Rattle.base.specs.Cells.{withCell}
 use Rattle.tables.specs.Arcs.{StateOk}
+use Rattle.tables.specs.KeptFields.{withField}
 use Rattle.tables.specs.Accepting.{StateField}
 use Rattle.tables.proofs.TableLaws.{Passing, passing-begins, field-here, passing-goes, passing-stops, passing-refused}
 use Rattle.tables.proofs.TableLaws.{passing-accepted}
@@ -45,8 +45,8 @@ returns c =
     passing-stops (args .s .now) (args .p) (start .pre .0) (args .work .now) (loop .work) (loop .at) (loop .met) (loop .i)
     (loop .inv) (omega arith) (omega arith)
 
-set-cell-requires : tie.Need-set-cell-requires Inv-loop μ-loop
-set-cell-requires c κs =
+keep-field-requires : tie.Need-keep-field-requires Inv-loop μ-loop
+keep-field-requires c κs =
     let fits = here (c .before .before) .fits in
     let start = c .before .before .before .before .before .before in
     let few = start .pre .0 .sound .few-items in
@@ -54,7 +54,7 @@ set-cell-requires c κs =
     let short = sizes .input-fits in
     let room = sizes .work-fits in
     let length-is = c .before .before .before .loop .inv .same-length in
-    (omega arith, (omega arith, (omega arith, omega arith)))
+    (omega arith, (omega arith, omega arith))
 
 body-requires : tie.Need-body-requires Inv-loop μ-loop
 body-requires c κs = here (c .before .before .before .before .before) .fits
@@ -83,10 +83,10 @@ loop-again c =
     passing-goes (args .s .now) (args .p) (start .pre .0) (args .work .now) (loop .work) (loop .at) (loop .met) (loop .i)
     (loop .inv) (met .result) (omega arith) (omega arith) next in
     subst (λ (w : List ℕ). Passing (args .s .now) (args .p) (args .work .now) w (c .next-field .result) (met .result) (loop .i + 1))
-    (sym (c .before .before .before .before .before .set-cell .ensures))
+    (sym (c .before .before .before .before .before .keep-field .ensures))
     (subst
     (λ (a : ℕ).
-    Passing (args .s .now) (args .p) (args .work .now) (withCell (loop .work) (loop .i) 0 (loop .at)) a (met .result) (loop .i + 1))
+    Passing (args .s .now) (args .p) (args .work .now) (withField (loop .work) (loop .i) (loop .at)) a (met .result) (loop .i + 1))
     (sym (c .next-field .ensures)) gone)
 
 same-length-2 : tie.Need-same-length-2 Inv-loop μ-loop
@@ -120,7 +120,7 @@ number-states-spec =
     loop-holds
     same-length
     returns
-    set-cell-requires
+    keep-field-requires
     body-requires
     met-by-arcs-requires
     next-field-requires

@@ -2,6 +2,7 @@
 
 mod books;
 mod counted;
+mod endings;
 mod languages;
 mod listings;
 #[cfg(expat)]
@@ -40,6 +41,11 @@ pub const KINDS: &[Kind] = &[
     kind("rows walked", 100, walks::rows),
     kind("rows of each length from 0 to 41 and of some more, walked", 40, walks::row_lengths),
     kind("rows walked over damaged, cut and moved tables", 60, walks::damaged),
+    kind("rows walked over tables with states that lead to no end", 60, endings::rows),
+    kind("rows walked over tables of up to 512 states and 65,535 bytes with one end far off, or none", 10, endings::long_ways),
+    kind("days tapped by the next names, over tables with states that lead to no end", 40, endings::tapped),
+    kind("rows walked over such tables with a bit altered, and working areas of 0 to 100,000 bytes", 40, endings::altered),
+    kind("rows walked over built tables: what arcs alone tell", 40, endings::built),
     kind("any bytes built, rewritten and walked", 30, sizes::any_input),
     kind("builds with outputs of each length from 0 to one more than the table", 35, sizes::build_outputs),
     kind("rewritings with outputs of each length from 0 to one more than the table", 35, sizes::rewrite_outputs),

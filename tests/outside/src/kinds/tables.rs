@@ -3,16 +3,19 @@
 use crate::comparing::{Mismatch, Run};
 use crate::damage::{damaged_everywhere, moved_fields};
 use crate::drawing::{all_classes, draw_small_book, draw_table};
+use crate::ends::draw_with_dead_states;
 use reference::fields::{read_table, STATES_LIMIT};
 use reference::random::Random;
 use reference::table::Table;
 use reference::{build, Lent, INPUT_LIMIT, WORK_BYTES};
 
-/// A table of few states: one that a small book gives, or any.
+/// A table of few states: one that a small book gives, or any, or one with states that lead to no end.
 pub fn draw_small_table(random: &mut Random) -> Table {
-    if random.once_in(2) {
-        let states = random.between(1, 12);
-        return draw_table(random, states);
+    let states = random.between(1, 12);
+    match random.below(4) {
+        0 => return draw_table(random, states),
+        1 => return draw_with_dead_states(random, states),
+        _ => {}
     }
     let book = draw_small_book(random).bytes();
     let built = build(&book, Lent { work: WORK_BYTES, output: INPUT_LIMIT }, random).expect("a small book is accepted");

@@ -1,9 +1,10 @@
-//! The worked days of docs/SCOPE.md, its example, its edges, how many rows differ, how often each way is used, the refusals it numbers,
-//! and its readings of plans.
+//! The worked days of docs/SCOPE.md, its example, its edges, how many rows differ, how often each way is used, states with no way to an
+//! end, the refusals it numbers, and its readings of plans.
 
 mod counts;
 mod different_rows;
 mod edges;
+mod endings;
 mod examples;
 mod impossible;
 mod open_steps;

@@ -1,12 +1,15 @@
 -- `walk` meets its contract: one law of CallLaws for each answer. Assumes nothing.
 use mathlib.Core.Path.{_≡_, sym, _∙_}
 use mathlib.Core.List.{List, []}
-use Prim.Native.Nat.{ℕ}
+use Prim.Native.Nat.{ℕ, _<_}
+use native.Mathlib.Omega.{arith}
 use borrow.Author.Tests.{not-true, not-false}
 use lib.ListN.{length}
 use Rattle.model.specs.Calls.{tableOf}
+use Rattle.model.specs.Claims.{AllBytes}
 use Rattle.model.proofs.CallLaws.{gives-as}
 use Rattle.model.proofs.Books.{tells-rowOk}
+use Rattle.tables.proofs.ReadyLaws.{few-arcs}
 use Rattle.tables.proofs.TableLaws.{TableOpened, opened-table, opened-refused}
 use Rattle.table_calls.proofs.CallLaws.{names-count, walk-refused, walk-row-refused, walk-ended}
 use borrow.Author.Needs.{needs}
@@ -36,6 +39,11 @@ opened c = opened-table (called c .open-table .ensures) (c .opened .given .1)
 counted : (c : tie.After-opened) → length (tableOf (table c) .names) ≡ c .opened .given .0 .0 .names
 counted c = names-count (table c) (c .opened .given .0 .0) (opened c .kept .read)
 
+bytes : (c : tie.After-opened) → AllBytes (table c)
+bytes c =
+    let known = called c .before .before .before .before .shared-slice-known .given in
+    λ (i : ℕ) (h : i < length (table c)). omega (arith, known i)
+
 open-table-requires : tie.Need-open-table-requires
 open-table-requires c κs = search needs
 
@@ -64,8 +72,14 @@ walk-over-requires c κs =
     let tested = c .before .before in
     let at = tested .before .before in (
       opened at .kept .ready,
-      tells-rowOk (at .opened .given .0 .0 .names) (row at) .fact
-          (sym (tested .row-ok .ensures) ∙ not-false (tested .row-ok .result) (c .before .if1 .left)) .0,
+      (
+        opened at .kept .items-are,
+        (
+          few-arcs (table at) (work at) (bytes at) (opened at .not-refused),
+          tells-rowOk (at .opened .given .0 .0 .names) (row at) .fact
+              (sym (tested .row-ok .ensures) ∙ not-false (tested .row-ok .result) (c .before .if1 .left)) .0,
+        ),
+      ),
     )
 
 enum-known-opened-2 : tie.Need-enum-known-opened-2
@@ -79,10 +93,11 @@ same-length-2 c = search needs
 
 returns-2 : tie.Need-returns-2
 returns-2 c =
-    let tested = c .before .before .before in
+    let tested = c .before .before .before .before .before in
     let at = tested .before .before in
     walk-ended (table at) (row at) (work at) _ (opened at .not-refused) (counted at)
-    (sym (tested .row-ok .ensures) ∙ not-false (tested .row-ok .result) (c .before .before .if1 .left)) (c .walk-over .ensures)
+    (sym (tested .row-ok .ensures) ∙ not-false (tested .row-ok .result) (c .before .before .before .before .if1 .left))
+    (c .before .before .walk-over .ensures)
 
 same-length-3 : tie.Need-same-length-3
 same-length-3 c = search needs

@@ -1,0 +1,1 @@
+// Definitions and their theory only: see specs/ and proofs/. There is no code in this crate.
