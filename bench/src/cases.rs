@@ -193,8 +193,8 @@ pub fn chain_table() -> Vec<u8> {
 /// The state with the one end of the zigzag table.
 const ZIGZAG_END: usize = 260;
 
-/// Where the arcs of the zigzag table lead that are on no way to the end: each to any state behind it, to the last two in turn, to the last,
-/// or to itself.
+/// Where the arcs of the zigzag table lead that are on no way to the end: each to any state behind it, to the last two in turn, to the
+/// last, or to itself.
 #[derive(Clone, Copy)]
 pub enum Filling {
     Behind,
