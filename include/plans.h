@@ -19,8 +19,8 @@
  * - A call uses no global state: calls on different buffers may run at the same time. It takes less than 40 KiB of stack (measured,
  *   docs/FIGURES.md).
  * - The library takes two symbols from outside, memcpy and memset.
- * - plans_build, plans_build_counted, their calls for wards, plans_rewrite and plans_walk execute no division: their sources divide by
- *   nothing but 256, to split a number into its bytes, which the compiler does by shifts (both checked, docs/PROOFS.md).
+ * - plans_build, plans_build_counted, plans_rewrite and plans_walk execute no division: their sources divide by nothing but 256, to
+ *   split a number into its bytes, which the compiler does by shifts (both checked, docs/PROOFS.md).
  */
 #ifndef PLANS_H
 #define PLANS_H
@@ -33,7 +33,7 @@ extern "C" {
 #endif
 
 /* The version of this header and of the library beside it. scripts/header writes this line from the file VERSION. */
-#define PLANS_VERSION "4.0.0"
+#define PLANS_VERSION "3.2.0"
 
 /* The least length of a working area, in bytes. */
 #define PLANS_WORK_BYTES 65536
@@ -41,10 +41,10 @@ extern "C" {
 /* The longest table, book, plan or list of names, in bytes. */
 #define PLANS_INPUT_LIMIT 65535
 
-/* No table that a build writes, for wards or not, is longer, in bytes (proved). A table from elsewhere may have up to PLANS_INPUT_LIMIT. */
+/* No table that plans_build writes is longer, in bytes (proved). A table from elsewhere may have up to PLANS_INPUT_LIMIT. */
 #define PLANS_TABLE_BYTES 5830
 
-/* No counts file that a build writes, for wards or not, is longer, in bytes (proved). */
+/* No counts file that plans_build_counted writes is longer, in bytes (proved). */
 #define PLANS_COUNTS_BYTES 3584
 
 /* A text of so many bytes is long enough for the listing of every book (proved). */
@@ -82,8 +82,7 @@ enum {
     PLANS_COUNT_MARK = 5  /* of one state: numbers of two bytes, how many rows end in it, then how often each of its arcs is passed */
 };
 
-/* The kinds of classes, with their settings. A book without a class field has PLANS_CONTEXT, 2, 2; to the ward kitchens' calls, those
- * with `_ward`, it has PLANS_CONTEXT, 2, 1. */
+/* The kinds of classes, with their settings. A book without a class has PLANS_CONTEXT, 2, 1. */
 enum {
     PLANS_CONTEXT = 0,   /* k from 1 to 8, h from 1 to k */
     PLANS_SEEN_SET = 1,  /* 0, 0 */
@@ -171,9 +170,8 @@ typedef struct {
 
 /*
  * Builds the table of a book, to the front of `out`: the prefix tree of its rows, joined by the rules of its class until none
- * applies, its states numbered first-met. A book without a class field has the class PLANS_CONTEXT, 2, 2. Every book with the same
- * names, class and set of rows gives the same bytes, and the same `distinct`, which is the size of that set: of forty rows with
- * `distinct` 10, thirty are copies of others.
+ * applies, its states numbered first-met. Every book with the same names, class and set of rows gives the same bytes, and the same
+ * `distinct`, which is the size of that set: of forty rows with `distinct` 10, thirty are copies of others.
  * Reads `book`; writes `work` (zeros) and `out`. Bytes of `out` beyond the table are left as they were, and where the call is
  * refused all of `out` is. Refusals, the first that applies: 1; those of the fields, in the book's order; 10; 13. An output of
  * PLANS_TABLE_BYTES is always enough.
@@ -208,7 +206,7 @@ plans_rewritten plans_rewrite(const uint8_t *table, size_t table_len,
 /*
  * Walks the row, a name's number in each byte, over the table from its state 0: tells whether the row is admitted or begins an admitted
  * row, how much of it does, and which names may come next. In a table from elsewhere a state may lead to no accepting state; such a table
- * is legal, and a walk stops before a name that leads to such a state. No table that a build writes has one (proved).
+ * is legal, and a walk stops before a name that leads to such a state. No table that plans_build writes has one (proved).
  * After PLANS_STOPS row[walked] is the name that may not come, unless the row is empty: where the table admits no row, every row stops,
  * the empty one too, with `walked`, `next_names` and `next_count` 0.
  * Reads `table` and `row`; writes `work` (zeros). Refusals, the first that applies: 1; those of the table's fields, in the table's
@@ -229,23 +227,6 @@ plans_walked plans_walk(const uint8_t *table, size_t table_len,
 plans_written plans_list(const uint8_t *book, size_t book_len,
                          uint8_t *work, size_t work_len,
                          uint8_t *text, size_t text_len);
-
-/*
- * plans_build, plans_build_counted and plans_list for the ward kitchens: a book without a class field has the class PLANS_CONTEXT, 2, 1
- * here, and PLANS_CONTEXT, 2, 2 to those three. That is all that is different; parameters, results and refusals are the same. A book with
- * a class field gives both calls of a pair the same result and the same bytes; a book without one gives each call what the same book with
- * that call's class field written in gives (both proved). A table tells by its class field which of the two wrote it.
- */
-plans_built plans_build_ward(const uint8_t *book, size_t book_len,
-                             uint8_t *work, size_t work_len,
-                             uint8_t *out, size_t out_len);
-plans_counted plans_build_counted_ward(const uint8_t *book, size_t book_len,
-                                       uint8_t *work, size_t work_len,
-                                       uint8_t *out, size_t out_len,
-                                       uint8_t *counts, size_t counts_len);
-plans_written plans_list_ward(const uint8_t *book, size_t book_len,
-                              uint8_t *work, size_t work_len,
-                              uint8_t *text, size_t text_len);
 
 /*
  * Reads a plan, and writes a row field for each of its elements of one name to the front of `out`, in the order of their start tags:

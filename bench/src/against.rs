@@ -1,6 +1,5 @@
 //! Builds of the typical days, and a walk over a built table of 512 states, by this library and by another one, an earlier one as a rule,
-//! in one run: both are loaded as shared libraries, compared, and timed in turn. Every book has a class field, as versions before 4 gave
-//! a book without one another default class.
+//! in one run: both are loaded as shared libraries, compared, and timed in turn.
 
 use crate::book::{Class, CLASSES};
 use crate::cases;
@@ -78,7 +77,7 @@ impl Library {
             let walk = transmute::<*mut c_void, Walk>(walk);
             match version {
                 1 => (Build::First(transmute::<*mut c_void, Call<FirstBuilt>>(build)), walk),
-                2..=4 => (Build::Now(transmute::<*mut c_void, Call<Built>>(build)), walk),
+                2 | 3 => (Build::Now(transmute::<*mut c_void, Call<Built>>(build)), walk),
                 _ => return Err(format!("{path}: the results of version {version} are not known here")),
             }
         };

@@ -3,7 +3,6 @@
 #[derive(Clone, Copy, PartialEq, Eq)]
 pub enum Bar {
     TypicalDefault,
-    TypicalWard,
     Typical,
     Large,
     Worst,
@@ -14,7 +13,6 @@ pub enum Bar {
     Copied,
     CountedTypical,
     CountedLongest,
-    Unnamed,
     ClinicPlan,
     DensePlan,
     NestedPlan,
@@ -23,9 +21,8 @@ pub enum Bar {
     ReadingStack,
 }
 
-const BARS: [(Bar, &str, f64); 19] = [
-    (Bar::TypicalDefault, "typical (2,2), the default, memsets", 8.0),
-    (Bar::TypicalWard, "typical (2,1), the wards', memsets", 8.0),
+const BARS: [(Bar, &str, f64); 17] = [
+    (Bar::TypicalDefault, "typical (2,1), memsets", 8.0),
     (Bar::Typical, "typical, any class, memsets", 30.0),
     (Bar::Large, "512-state books, memsets", 200.0),
     (Bar::Worst, "worst books found, memsets", 4000.0),
@@ -36,7 +33,6 @@ const BARS: [(Bar, &str, f64); 19] = [
     (Bar::Copied, "days copied sixfold to once, library, ratio", 4.0),
     (Bar::CountedTypical, "typical, with counts to without, ratio", 1.25),
     (Bar::CountedLongest, "256 rows of 40, with counts to without", 1.5),
-    (Bar::Unnamed, "no class field to class written in, ratio", 1.05),
     (Bar::ClinicPlan, "plan of a clinic, library to expat, ratio", 0.4),
     (Bar::DensePlan, "tag-dense plan, library to expat, ratio", 0.75),
     (Bar::NestedPlan, "nested to tag-dense plan, library, ratio", 3.0),

@@ -30,10 +30,6 @@ pub const CLASSES: [Class; 13] = [
 ];
 
 impl Class {
-    /// The class of a book without a class field, and the same to the ward kitchens' calls.
-    pub const DEFAULT: Class = Class::Context(2, 2);
-    pub const WARD_DEFAULT: Class = Class::Context(2, 1);
-
     pub fn settings(self) -> [u8; 3] {
         match self {
             Class::Context(k, h) => [0, k, h],
@@ -116,17 +112,9 @@ impl Book {
         bytes
     }
 
-    /// The book's bytes without its class field.
-    pub fn unnamed(&self) -> Vec<u8> {
-        let mut bytes = Vec::new();
-        put_names(&mut bytes, &self.names);
-        put_rows(&mut bytes, &self.rows);
-        bytes
-    }
-
     /// The book of these bytes, which `bytes` wrote.
     pub fn read(bytes: &[u8]) -> Book {
-        let mut book = Book { names: Vec::new(), class: Class::DEFAULT, rows: Vec::new() };
+        let mut book = Book { names: Vec::new(), class: Class::Context(2, 1), rows: Vec::new() };
         for (mark, body) in fields(bytes) {
             match mark {
                 1 => book.names.push(body.to_vec()),

@@ -69,7 +69,7 @@ fn varied_day(random: &mut Random) -> Vec<u8> {
 
 fn day_book(rows: Vec<Vec<u8>>) -> Book {
     let names = DAY_NAMES.iter().map(|name| name.as_bytes().to_vec()).collect();
-    Book { names, class: Class::DEFAULT, rows }
+    Book { names, class: Class::Context(2, 1), rows }
 }
 
 /// 40 days.
@@ -106,7 +106,7 @@ pub fn random_rows(names: usize) -> Book {
         let row: Vec<u8> = (0..length).map(|_| random.below(names) as u8).collect();
         gathered.add(&row);
     }
-    Book { names: short_names(names), class: Class::DEFAULT, rows: gathered.rows }
+    Book { names: short_names(names), class: Class::Context(2, 1), rows: gathered.rows }
 }
 
 /// Rows as long as they may be, each one name of its own and then one name that they share: 512 states, so that the last is shorter.
@@ -119,7 +119,7 @@ pub fn nearly_one_name() -> Book {
         row[0] = 1 + rows.len() as u8;
         rows.push(row);
     }
-    Book { names: short_names(1 + rows.len()), class: Class::DEFAULT, rows }
+    Book { names: short_names(1 + rows.len()), class: Class::Context(2, 1), rows }
 }
 
 /// Rows as long as they may be with different first names, and else of names drawn from all: of their 512 states (8,8) joins none.
@@ -159,7 +159,7 @@ pub fn longest() -> [(&'static str, Book); 3] {
         ("256 rows of 40, of 12", (0..BOOK_ROWS).map(|number| twelve[number % 12].clone()).collect()),
         ("256 equal rows of 40", vec![draw(ROW_LIMIT); BOOK_ROWS]),
     ]
-    .map(|(name, rows)| (name, Book { names: short_names(NAME_LIMIT), class: Class::DEFAULT, rows }))
+    .map(|(name, rows)| (name, Book { names: short_names(NAME_LIMIT), class: Class::Context(2, 1), rows }))
 }
 
 /// Where the search keeps the worst book of a class.
@@ -213,7 +213,7 @@ pub fn zigzag(filling: Filling) -> (Vec<u8>, Vec<u8>) {
     order.sort_by_key(|&state| if state < ZIGZAG_END { 2 * (ZIGZAG_END - state) - 1 } else { 2 * (state - ZIGZAG_END) });
     let mut table = Vec::new();
     put_names(&mut table, &short_names(NAME_LIMIT));
-    put_field(&mut table, 2, &Class::DEFAULT.settings());
+    put_field(&mut table, 2, &Class::Context(2, 1).settings());
     let mut arcs: Vec<Vec<usize>> =
         (0..firsts).map(|first| (1 + first * NAME_LIMIT..STATE_LIMIT).take(NAME_LIMIT).collect()).collect();
     arcs.resize(STATE_LIMIT, Vec::new());

@@ -3,7 +3,7 @@
 use crate::bars::{Bar, Bars};
 use crate::book::{fields, Book, CLASSES};
 use crate::cases;
-use crate::library::{self, Counted, COUNTS_BYTES, STANDARD};
+use crate::library::{self, Counted, COUNTS_BYTES};
 use crate::measure::{Effort, Timer, Times};
 use crate::sides::Lent;
 use std::hint::black_box;
@@ -58,7 +58,7 @@ impl Countings {
                 black_box(library::build(black_box(book), &mut plain.work, &mut plain.out));
             };
             let mut with = || {
-                black_box(library::build_counted_by(STANDARD, black_box(book), &mut counted.work, &mut counted.out, counts));
+                black_box(library::build_counted(black_box(book), &mut counted.work, &mut counted.out, counts));
             };
             *times = times.or_less(timer.time([&mut without, &mut with], effort));
         }
@@ -86,7 +86,7 @@ impl Counting {
 
     fn compare(&mut self, plain: &mut Lent, counted: &mut Lent, counts: &mut [u8]) -> Result<(), String> {
         let built = library::build(&self.book, &mut plain.work, &mut plain.out);
-        let given = library::build_counted_by(STANDARD, &self.book, &mut counted.work, &mut counted.out, counts);
+        let given = library::build_counted(&self.book, &mut counted.work, &mut counted.out, counts);
         let Counted { refusal, length, states, joins, distinct, counts_length } = given;
         if refusal != 0 || [length, states, joins, distinct] != [built.length, built.states, built.joins, built.distinct] {
             return Err(format!("without counts {built:?}, with them {given:?}"));

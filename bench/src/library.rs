@@ -3,35 +3,30 @@
 #[path = "../../tests/outside/src/library.rs"]
 mod calls;
 
-pub use calls::{BookCalls, Built, Call, Counted, Rewritten, RowsGiven, Walked, Written, STANDARD, WARD};
+pub use calls::{Built, Call, Counted, Rewritten, RowsGiven, Walked, Written};
 
 pub const WORK_BYTES: usize = 65_536;
 pub const INPUT_LIMIT: usize = 65_535;
 pub const COUNTS_BYTES: usize = 3_584;
 
-/// By the standard call.
 pub fn build(book: &[u8], work: &mut [u8], out: &mut [u8]) -> Built {
-    build_by(STANDARD, book, work, out)
-}
-
-pub fn build_by(calls: BookCalls, book: &[u8], work: &mut [u8], out: &mut [u8]) -> Built {
-    call(calls.build, book, work, out)
+    call(calls::plans_build, book, work, out)
 }
 
 /// The counts go to `counts`.
-pub fn build_counted_by(calls: BookCalls, book: &[u8], work: &mut [u8], out: &mut [u8], counts: &mut [u8]) -> Counted {
+pub fn build_counted(book: &[u8], work: &mut [u8], out: &mut [u8], counts: &mut [u8]) -> Counted {
     let (book_len, work_len, out_len, counts_len) = (book.len(), work.len(), out.len(), counts.len());
     let (work, out, counts) = (work.as_mut_ptr(), out.as_mut_ptr(), counts.as_mut_ptr());
     // SAFETY: as in call
-    unsafe { (calls.build_counted)(book.as_ptr(), book_len, work, work_len, out, out_len, counts, counts_len) }
+    unsafe { calls::plans_build_counted(book.as_ptr(), book_len, work, work_len, out, out_len, counts, counts_len) }
 }
 
 pub fn rewrite(table: &[u8], work: &mut [u8], out: &mut [u8]) -> Rewritten {
     call(calls::plans_rewrite, table, work, out)
 }
 
-pub fn list_by(calls: BookCalls, book: &[u8], work: &mut [u8], text: &mut [u8]) -> Written {
-    call(calls.list, book, work, text)
+pub fn list(book: &[u8], work: &mut [u8], text: &mut [u8]) -> Written {
+    call(calls::plans_list, book, work, text)
 }
 
 pub fn walk(table: &[u8], row: &[u8], work: &mut [u8]) -> Walked {

@@ -1,6 +1,5 @@
 //! What builds and walks cost, against a second implementation in two variants that is written for speed; walks, against rewritings;
-//! what counts cost, against builds without them; books without a class field, against the same with it written in; what reading plans
-//! costs, against expat; and all against bars.
+//! what counts cost, against builds without them; what reading plans costs, against expat; and all against bars.
 //! With `search SECONDS`: looks for books that cost the library most, and keeps them under bench/books. With `against FILE FILE`: builds
 //! and a walk by one shared library against those by another.
 
@@ -21,7 +20,6 @@ mod run;
 mod search;
 mod sides;
 mod stack;
-mod unnamed;
 mod walkings;
 
 use std::env;

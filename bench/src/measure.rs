@@ -46,9 +46,6 @@ impl<const N: usize> Times<N> {
 /// How often a round makes the memset: the first ones after a long call find other data in the caches.
 const MEMSETS: usize = 32;
 
-/// How often in a row a call is made that takes turns with others, for the same reason.
-const IN_A_ROW: usize = 8;
-
 /// The area of the memset, the same for all calls that are timed.
 pub struct Timer {
     area: Vec<u8>,
@@ -66,36 +63,14 @@ impl Timer {
             let begun = Instant::now();
             let mut rounds = 0;
             while rounds < effort.rounds || begun.elapsed() < effort.time {
-                least.memset = least.memset.min(self.memset());
+                for value in 0..MEMSETS {
+                    least.memset = least.memset.min(nanoseconds(&mut || set(&mut self.area, value as u8)));
+                }
                 *least_of_call = least_of_call.min(nanoseconds(call));
                 rounds += 1;
             }
         }
         least
-    }
-
-    /// Times two calls that take turns, with this effort for each, so that a busy spell of the machine falls on both: where the ratio of
-    /// the two is to be finer than a tenth.
-    pub fn time_in_turn(&mut self, mut calls: [&mut dyn FnMut(); 2], effort: Effort) -> Times<2> {
-        let mut least = Times::NONE;
-        let begun = Instant::now();
-        let mut rounds = 0;
-        while rounds < effort.rounds || begun.elapsed() < 2 * effort.time {
-            least.memset = least.memset.min(self.memset());
-            for (call, least_of_call) in calls.iter_mut().zip(&mut least.calls) {
-                for _ in 0..IN_A_ROW {
-                    *least_of_call = least_of_call.min(nanoseconds(*call));
-                }
-            }
-            rounds += 1;
-        }
-        least
-    }
-
-    /// The least time of the memsets of a round.
-    fn memset(&mut self) -> f64 {
-        let times = (0..MEMSETS).map(|value| nanoseconds(&mut || set(&mut self.area, value as u8)));
-        times.fold(f64::INFINITY, f64::min)
     }
 }
 

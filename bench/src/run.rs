@@ -1,5 +1,4 @@
-//! The bench: every case compared and timed, growth, walks beside rewritings, counts, books without a class field, plans, stack, and the
-//! bars.
+//! The bench: every case compared and timed, growth, walks beside rewritings, counts, plans, stack, and the bars.
 
 use crate::bars::{Bar, Bars};
 use crate::book::{Book, Class, CLASSES, ROW_LIMIT};
@@ -9,7 +8,6 @@ use crate::measure::{Effort, Times};
 use crate::readings::Readings;
 use crate::sides::Sides;
 use crate::stack;
-use crate::unnamed::Unnamed;
 use crate::walkings::Walkings;
 use std::time::Duration;
 
@@ -49,14 +47,12 @@ pub fn run() -> Result<bool, String> {
     let mut growth = growth();
     let mut walkings = Walkings::new()?;
     let mut countings = Countings::new();
-    let mut unnamed = Unnamed::new();
     let mut readings = Readings::new();
     for case in timed.iter_mut().chain(&mut growth) {
         case.compare(&mut sides)?;
     }
     walkings.compare(&mut sides)?;
     countings.compare()?;
-    unnamed.compare()?;
     readings.compare()?;
     for _ in 0..PASSES {
         for case in timed.iter_mut().chain(&mut growth) {
@@ -64,7 +60,6 @@ pub fn run() -> Result<bool, String> {
         }
         walkings.time(EFFORT);
         countings.time(EFFORT);
-        unnamed.time(EFFORT);
         readings.time(EFFORT);
     }
     show_cases(&timed, &mut bars);
@@ -72,7 +67,6 @@ pub fn run() -> Result<bool, String> {
     show_growth(&growth);
     walkings.show(&mut bars);
     countings.show(&mut bars);
-    unnamed.show(&mut bars);
     readings.show(&mut bars);
     show_stack(&mut bars);
     Ok(bars.show())
@@ -82,14 +76,12 @@ fn builds() -> Result<Vec<Case>, String> {
     let mut builds = Vec::new();
     for class in CLASSES {
         let bars: &[Bar] = match class {
-            Class::DEFAULT => &[Bar::Typical, Bar::TypicalDefault],
-            Class::WARD_DEFAULT => &[Bar::Typical, Bar::TypicalWard],
+            Class::Context(2, 1) => &[Bar::Typical, Bar::TypicalDefault],
             _ => &[Bar::Typical],
         };
         builds.push(Case::build(TYPICAL, &cases::typical().with_class(class), bars));
     }
-    builds
-        .extend([Class::DEFAULT, Class::WARD_DEFAULT].map(|class| Case::build(COPIED, &cases::copied().with_class(class), &[])));
+    builds.push(Case::build(COPIED, &cases::copied(), &[]));
     for (name, book) in cases::large() {
         builds.extend(CLASSES.map(|class| Case::build(name, &book.with_class(class), &[Bar::Large])));
     }
@@ -174,11 +166,10 @@ fn show_cases(timed: &[Case], bars: &mut Bars) {
 
 /// The copied days against the same days once, of the same class.
 fn hold_copied(timed: &[Case], bars: &mut Bars) {
-    for copied in timed.iter().filter(|case| case.name == COPIED) {
-        let once = timed.iter().find(|case| case.name == TYPICAL && case.class == copied.class).expect("the days once are timed");
-        let [copied_cost, once_cost] = [copied, once].map(|case| case.times.in_memsets()[0]);
-        bars.take(Bar::Copied, copied_cost / once_cost, &format!("{COPIED} {}", copied.class));
-    }
+    let copied = timed.iter().find(|case| case.name == COPIED).expect("the copied days are timed");
+    let once = timed.iter().find(|case| case.name == TYPICAL && case.class == copied.class).expect("so are the days once");
+    let [copied_cost, once_cost] = [copied, once].map(|case| case.times.in_memsets()[0]);
+    bars.take(Bar::Copied, copied_cost / once_cost, &format!("{COPIED} {}", copied.class));
 }
 
 fn show_growth(growth: &[Case]) {

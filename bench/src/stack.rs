@@ -3,7 +3,7 @@
 use crate::bars::Bar;
 use crate::book::{CLASSES, ROW_LIMIT};
 use crate::cases;
-use crate::library::{self, BookCalls, COUNTS_BYTES, INPUT_LIMIT, STANDARD, WARD, WORK_BYTES};
+use crate::library::{self, COUNTS_BYTES, INPUT_LIMIT, WORK_BYTES};
 use crate::plans::{self, Names};
 use std::alloc::{alloc, dealloc, handle_alloc_error, Layout};
 use std::ffi::c_void;
@@ -31,15 +31,27 @@ extern "C" {
 
 /// Each call with its bar and the bytes of stack that it uses, without those of an empty thread.
 pub fn calls() -> Vec<(Bar, String, usize)> {
-    let (mut work, mut out) = (vec![0; WORK_BYTES], vec![0; INPUT_LIMIT]);
+    let (mut work, mut out, mut counts) = (vec![0; WORK_BYTES], vec![0; INPUT_LIMIT], vec![0; COUNTS_BYTES]);
     let empty = used(&mut || ());
     let table = cases::chain_table();
     let mut calls = Vec::new();
-    for (name, book) in [("nearly one name", cases::nearly_one_name()), ("2 names", cases::random_rows(2))] {
-        for class in CLASSES {
-            calls.extend(book_calls(STANDARD, &book.with_class(class).bytes(), &format!("{}, {name}", class.label()), empty));
+    for class in CLASSES {
+        for (name, book) in [("nearly one name", cases::nearly_one_name()), ("2 names", cases::random_rows(2))] {
+            let book = book.with_class(class).bytes();
+            let case = format!("{}, {name}", class.label());
+            let bytes = used(&mut || {
+                black_box(library::build(&book, &mut work, &mut out));
+            });
+            calls.push((Bar::Stack, format!("build {case}"), bytes - empty));
+            let counting = used(&mut || {
+                black_box(library::build_counted(&book, &mut work, &mut out, &mut counts));
+            });
+            calls.push((Bar::Stack, format!("build with counts {case}"), counting - empty));
+            let listing = used(&mut || {
+                black_box(library::list(&book, &mut work, &mut out));
+            });
+            calls.push((Bar::ListingStack, format!("list {case}"), listing - empty));
         }
-        calls.extend(book_calls(WARD, &book.unnamed(), &format!("for wards, {name}"), empty));
     }
     let rewriting = used(&mut || {
         black_box(library::rewrite(&table, &mut work, &mut out));
@@ -64,25 +76,6 @@ pub fn calls() -> Vec<(Bar, String, usize)> {
         calls.push((Bar::ReadingStack, format!("read rows, {name}"), reading - empty));
     }
     calls
-}
-
-/// The same for the calls that take a book.
-fn book_calls(calls: BookCalls, book: &[u8], case: &str, empty: usize) -> [(Bar, String, usize); 3] {
-    let (mut work, mut out, mut counts) = (vec![0; WORK_BYTES], vec![0; INPUT_LIMIT], vec![0; COUNTS_BYTES]);
-    let building = used(&mut || {
-        black_box(library::build_by(calls, book, &mut work, &mut out));
-    });
-    let counting = used(&mut || {
-        black_box(library::build_counted_by(calls, book, &mut work, &mut out, &mut counts));
-    });
-    let listing = used(&mut || {
-        black_box(library::list_by(calls, book, &mut work, &mut out));
-    });
-    [
-        (Bar::Stack, format!("build {case}"), building - empty),
-        (Bar::Stack, format!("build with counts {case}"), counting - empty),
-        (Bar::ListingStack, format!("list {case}"), listing - empty),
-    ]
 }
 
 extern "C" fn run(argument: *mut c_void) -> *mut c_void {

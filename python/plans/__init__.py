@@ -15,19 +15,14 @@ How often each way through a table is used, copies of days counted, comes with i
     counted = plans.build_counted(book)
     plans.read_counts(counted.counts, counted.table)[0]
 
-A book that names no class has DEFAULT_CLASS. The ward kitchens' books that name none have WARD_CLASS; build, build_counted and
-list_book take them with `ward`:
-
-    plans.read_table(plans.build(book, ward=True).table).named_class
-
 The inferring and judging is done by the proved library (libplans.so, include/plans.h). Nothing is kept between calls. What the
 library refuses is raised as Refused. The formats are in docs/FORMATS.md.
 """
 from pathlib import Path
 
 from .differences import Difference, compare
-from .fields import (DEFAULT_CLASS, REFUSALS, WARD_CLASS, BadCounts, Book, Class, Refused, State, StateCounts, Table, read_book,
-                     read_counts, read_table, write_book, write_names, write_table)
+from .fields import (DEFAULT_CLASS, REFUSALS, BadCounts, Book, Class, Refused, State, StateCounts, Table, read_book, read_counts,
+                     read_table, write_book, write_names, write_table)
 from .library import LibraryMissing
 from .models import (Built, Counted, Outcome, Rewritten, Walked, build, build_counted, judged_book, judged_table, list_book,
                      list_table, read_rows, rewrite, walk)
@@ -42,8 +37,8 @@ def _version() -> str:
 
 
 __version__ = _version()
-__all__ = ["DEFAULT_CLASS", "REFUSALS", "WARD_CLASS", "BadClass", "BadCounts", "BadText", "Book", "Built", "Class", "Counted",
-           "Difference", "LibraryMissing", "Outcome", "Problem", "Refused", "Rewritten", "State", "StateCounts", "Table", "Text",
-           "Walked", "build", "build_counted", "compare", "judged_book", "judged_table", "list_book", "list_table", "read_book",
-           "read_class", "read_counts", "read_rows", "read_table", "read_text", "rewrite", "walk", "write_book", "write_class",
-           "write_names", "write_table", "write_text"]
+__all__ = ["DEFAULT_CLASS", "REFUSALS", "BadClass", "BadCounts", "BadText", "Book", "Built", "Class", "Counted", "Difference",
+           "LibraryMissing", "Outcome", "Problem", "Refused", "Rewritten", "State", "StateCounts", "Table", "Text", "Walked", "build",
+           "build_counted", "compare", "judged_book", "judged_table", "list_book", "list_table", "read_book", "read_class",
+           "read_counts", "read_rows", "read_table", "read_text", "rewrite", "walk", "write_book", "write_class", "write_names",
+           "write_table", "write_text"]

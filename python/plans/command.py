@@ -7,8 +7,7 @@ from typing import Callable, Dict, Iterable, List, Mapping, NamedTuple, Optional
 
 from . import drawings, helps
 from .differences import Difference, compare
-from .fields import (BOOK_ROWS, DEFAULT_CLASS, ROW_LIMIT, WARD_CLASS, Book, Class, Refused, Row, StateCounts, Table, read_counts,
-                     read_table, write_book)
+from .fields import BOOK_ROWS, ROW_LIMIT, Book, Class, Refused, Row, StateCounts, Table, read_counts, read_table, write_book
 from .files import STANDARD, Failure, Input, Kind, label_of, one_place, put, read_input, say, write_output, write_outputs
 from .models import (Built, Counted, Outcome, Walked, build, build_counted, judged_book, judged_table, list_book, list_table, rewrite,
                      walk)
@@ -21,12 +20,10 @@ YES, NO, ERROR = 0, 1, 2
 
 @dataclass(frozen=True)
 class Asked:
-    """What stands on the command line after the sub-command; ward is whether a file that names no class is a ward kitchen's; counts is
-    whether counts are wanted, by that or by the sub-command."""
+    """What stands on the command line after the sub-command; counts is whether counts are wanted, by that or by the sub-command."""
     words: Tuple[str, ...]
     out: Optional[str]
     named_class: Optional[Class]
-    ward: bool
     quiet: bool
     tree: bool
     counts: bool
@@ -71,18 +68,13 @@ def put_lines(lines: Iterable[str]) -> None:
     put("".join(line + "\n" for line in lines).encode("utf-8", "backslashreplace"))
 
 
-def note(asked: Asked, lines: Iterable[str]) -> None:
-    """Each on standard error, unless -q is given."""
-    if not asked.quiet:
-        for line in lines:
-            say(line)
-
-
 def text_and_book(source: Input, asked: Asked, copies: bool) -> Tuple[Text, Book]:
     """The text and its book, with notes on it; BadText if it has none."""
     text = read_text(source.data)
     book = text.book(copies, asked.counts)
-    note(asked, notes(source, text, copies))
+    if not asked.quiet:
+        for line in notes(source, text, copies):
+            say(line)
     return text, book
 
 
@@ -108,45 +100,36 @@ def book_of(source: Input, asked: Asked, copies: bool = False, wanted: str = "a 
     return book if asked.named_class is None else Book(book.names, asked.named_class, book.rows)
 
 
-def class_missing(source: Input, named_class: Optional[Class], ward: bool) -> List[str]:
-    """Of a text or a book that names no class, where it would stand, and which class it has."""
-    if named_class is not None:
-        return []
-    place = "line 'class ='" if source.kind is Kind.TEXT else "class field"
-    taken = f"with --ward its class is {WARD_CLASS}" if ward else f"its class is {DEFAULT_CLASS}, and with --ward {WARD_CLASS}"
-    return [f"it has no {place}: {taken}"]
-
-
-def built_model(source: Input, asked: Asked, wanted: str = "a text or a book") -> Model:
-    """The model of a text or a book, built with every copy of a day where counts are asked for. Where neither the file nor --class names
-    a class, it is noted which was taken."""
-    book = book_of(source, asked, asked.counts, wanted)
-    try:
-        built = (build_counted if asked.counts else build)(book, ward=asked.ward)
-    except Refused as problem:
-        raise source.refused(problem) from None
-    note(asked, (f"{source.label}: {line}" for line in class_missing(source, book.named_class, asked.ward)))
+def counted_book(source: Input, asked: Asked) -> Tuple[Book, Counted, Table, Sequence[StateCounts]]:
+    """The book of a text or a book, with every copy of a day; what the build told; the table and its counts."""
+    book = book_of(source, asked, copies=True)
+    built = build_counted(book)
     table = read_table(built.table)
-    return Model(source, built.table, table, book, built, read_counts(built.counts, table) if isinstance(built, Counted) else None)
+    return book, built, table, read_counts(built.counts, table)
 
 
 def model_of(path: str, asked: Asked) -> Model:
     """The model of a text, a book or a table."""
     source = read_input(path)
-    if source.kind is not Kind.TABLE:
-        return built_model(source, asked, "a text or a book" if asked.counts else "a text, a book or a table")
-    if asked.named_class is not None:
-        raise Failure(f"{source.label}: this is a table, which has its class; --class is for texts and books")
     try:
-        table = judged_table(source.data)
-        return Model(source, rewrite(source.data).table, table, None, None)
+        if source.kind is Kind.TABLE:
+            if asked.named_class is not None:
+                raise Failure(f"{source.label}: this is a table, which has its class; --class is for texts and books")
+            table = judged_table(source.data)
+            return Model(source, rewrite(source.data).table, table, None, None)
+        if asked.counts:
+            book, built, table, counts = counted_book(source, asked)
+            return Model(source, built.table, table, book, built, counts)
+        book = book_of(source, asked, wanted="a text, a book or a table")
+        built = build(book)
+        return Model(source, built.table, read_table(built.table), book, built)
     except Refused as problem:
         raise source.refused(problem) from None
 
 
 def listing(asked: Asked) -> int:
     model = model_of(asked.words[0], asked)
-    text = list_table(model.data) if model.book is None else list_book(model.book, ward=asked.ward)
+    text = list_table(model.data) if model.book is None else list_book(model.book)
     write_output(asked.out, text.encode("ascii"), [model.source], binary=False)
     return YES
 
@@ -167,18 +150,23 @@ def count_lines(table: Table, counts: Sequence[StateCounts]) -> List[str]:
 
 
 def counting(asked: Asked) -> int:
-    model = built_model(read_input(asked.words[0]), asked)
-    rows, built = model.book.rows, model.built
-    lines = [f"days {len(rows)} distinct {built.distinct}", *day_lines(rows),
-             f"states {built.states} joins {built.joins}", *count_lines(model.table, model.counts)]
-    write_output(asked.out, "".join(line + "\n" for line in lines).encode("ascii"), [model.source], binary=False)
+    source = read_input(asked.words[0])
+    try:
+        book, built, table, counts = counted_book(source, asked)
+    except Refused as problem:
+        raise source.refused(problem) from None
+    lines = [f"days {len(book.rows)} distinct {built.distinct}", *day_lines(book.rows),
+             f"states {built.states} joins {built.joins}", *count_lines(table, counts)]
+    write_output(asked.out, "".join(line + "\n" for line in lines).encode("ascii"), [source], binary=False)
     return YES
 
 
 def written(asked: Asked, sources: Sequence[Input], outputs: Sequence[Tuple[Optional[str], bytes, str]]) -> int:
     """Each output written, and of each that is a file what there is to say."""
     write_outputs([(path, data) for path, data, _ in outputs], sources)
-    note(asked, (f"{label_of(path, '')}: {what}" for path, _, what in outputs if path not in (None, STANDARD)))
+    for path, _, what in outputs:
+        if path not in (None, STANDARD) and not asked.quiet:
+            say(f"{label_of(path, '')}: {what}")
     return YES
 
 
@@ -186,14 +174,18 @@ def building(asked: Asked) -> int:
     if asked.counts and one_place(asked.out, asked.counts_out):
         place = label_of(STANDARD if asked.out is None else asked.out, "standard output")
         raise usage("build", f"the table and its counts cannot both go to {place}")
-    model = built_model(read_input(asked.words[0]), asked)
-    built = model.built
-    told = [str(model.table.named_class), counted(built.states, "state"), counted(built.joins, "join"),
-            different(built.distinct, len(model.book.rows), "row"), counted(len(built.table), "byte")]
+    source = read_input(asked.words[0])
+    try:
+        book = book_of(source, asked, copies=asked.counts)
+        built = build_counted(book) if asked.counts else build(book)
+    except Refused as problem:
+        raise source.refused(problem) from None
+    told = [counted(built.states, "state"), counted(built.joins, "join"), different(built.distinct, len(book.rows), "row"),
+            counted(len(built.table), "byte")]
     outputs = [(asked.out, built.table, ", ".join(told))]
     if isinstance(built, Counted):
         outputs.append((asked.counts_out, built.counts, counted(len(built.counts), "byte")))
-    return written(asked, [model.source], outputs)
+    return written(asked, [source], outputs)
 
 
 def day_of(words: Sequence[str]) -> Row:
@@ -253,30 +245,24 @@ def ends_missing(table: Table) -> List[str]:
     return [words.format(enumerated(dead))] if dead else []
 
 
-def accepted(kind: str, parts: Iterable[object], more: Iterable[str]) -> List[str]:
-    """That a file of this kind is accepted, what it has, and what else is to be said of it."""
-    return [f"accepted: a {kind} of {', '.join(str(part) for part in parts if part is not None)}", *more]
-
-
-def accepted_file(source: Input, asked: Asked) -> List[str]:
-    """What is said of an accepted file; BadText or Refused if it is not."""
-    if source.kind is Kind.TEXT:
-        text, book = text_and_book(source, asked, copies=False)
-        parts = all_and_different(text.days, "day"), counted(len(book.names), "name"), text.named_class
-        return accepted("text", parts, class_missing(source, text.named_class, asked.ward))
+def accepted_fields(source: Input) -> List[str]:
+    """What accepted fields are, and what else is to be said of them; Refused if they are not."""
     if source.kind is Kind.BOOK:
         book = judged_book(source.data)
-        parts = counted(len(book.names), "name"), book.named_class, all_and_different(book.rows, "row")
-        return accepted("book", parts, class_missing(source, book.named_class, asked.ward))
+        return [f"accepted: a book of {counted(len(book.names), 'name')}, {all_and_different(book.rows, 'row')}"]
     table = judged_table(source.data)
-    parts = counted(len(table.names), "name"), table.named_class, counted(len(table.states), "state")
-    return accepted("table", parts, ends_missing(table))
+    parts = [counted(len(table.names), "name"), str(table.named_class), counted(len(table.states), "state")]
+    return [f"accepted: a table of {', '.join(parts)}", *ends_missing(table)]
 
 
 def judged(source: Input, asked: Asked) -> Tuple[bool, List[str]]:
     """Whether a file is accepted, and the lines that say so."""
     try:
-        return True, [f"{source.label}: {said}" for said in accepted_file(source, asked)]
+        if source.kind is Kind.TEXT:
+            text, book = text_and_book(source, asked, copies=False)
+            counts = f"{all_and_different(text.days, 'day')}, {counted(len(book.names), 'name')}"
+            return True, [f"{source.label}: accepted: a text of {counts}"]
+        return True, [f"{source.label}: {said}" for said in accepted_fields(source)]
     except BadText as problem:
         return False, source.faulty_lines(problem)
     except Refused as problem:
@@ -290,20 +276,14 @@ def checking(asked: Asked) -> int:
     status = YES
     for path in asked.words:
         try:
-            good, lines = judged(read_input(path), asked)
+            accepted, lines = judged(read_input(path), asked)
         except Failure as problem:
             problem.say()
             status = ERROR
             continue
         put_lines(lines)
-        status = max(status, YES if good else NO)
+        status = max(status, YES if accepted else NO)
     return status
-
-
-def class_in(model: Model) -> str:
-    """The class of a model, and that its book did not name it, if so."""
-    unnamed = model.book is not None and model.book.named_class is None
-    return f"{model.table.named_class} in {model.source.label}{' (it names none)' if unnamed else ''}"
 
 
 def difference_lines(ours: Model, theirs: Model, found: Difference) -> List[str]:
@@ -311,7 +291,7 @@ def difference_lines(ours: Model, theirs: Model, found: Difference) -> List[str]
     lines = [f"names: only in {label}: {', '.join(names)}"
              for label, names in ((one, found.only_first), (two, found.only_second)) if names]
     if ours.table.named_class != theirs.table.named_class:
-        lines.append(f"class: {class_in(ours)}, {class_in(theirs)}")
+        lines.append(f"class: {ours.table.named_class} in {one}, {theirs.table.named_class} in {two}")
     if len(ours.table.states) != len(theirs.table.states):
         lines.append(f"states: {len(ours.table.states)} in {one}, {len(theirs.table.states)} in {two}")
     elif ours.table.states != theirs.table.states:
@@ -391,7 +371,8 @@ def read_all_rows(plans: Sequence[Plan], names: Optional[Names], asked: Asked) -
     for plan in plans:
         try:
             own = rows_alone(plan, asked.element) if names is None else rows_of(plan, names, asked.element)
-            note(asked, [rows_told(plan, own, asked.element)])
+            if not asked.quiet:
+                say(rows_told(plan, own, asked.element))
             rows.append(own or ())
         except Failure as problem:
             problem.say()
@@ -433,7 +414,9 @@ def rows_to_book(asked: Asked) -> int:
         return NO
     judge_book(plans, rows, book)
     data = write_book(book)
-    note(asked, row_notes(plans, book))
+    if not asked.quiet:
+        for line in row_notes(plans, book):
+            say(line)
     inputs = [plan.source for plan in plans] + ([names.source] if names.source else [])
     return written(asked, inputs, [(asked.out, data, counted(len(data), "byte"))])
 
@@ -446,15 +429,15 @@ class Subcommand(NamedTuple):
 
 
 SUBCOMMANDS: Dict[str, Subcommand] = {
-    "list": Subcommand(listing, ("--class", "--ward", "-o"), "one file"),
-    "counts": Subcommand(counting, ("--class", "--ward", "-o"), "one file"),
-    "build": Subcommand(building, ("--counts", "--class", "--ward", "-o"), "one file"),
-    "walk": Subcommand(walking, ("--class", "--ward"), "a file and names"),
+    "list": Subcommand(listing, ("--class", "-o"), "one file"),
+    "counts": Subcommand(counting, ("--class", "-o"), "one file"),
+    "build": Subcommand(building, ("--counts", "--class", "-o"), "one file"),
+    "walk": Subcommand(walking, ("--class",), "a file and names"),
     "check": Subcommand(checking, (), "one file or more"),
-    "diff": Subcommand(differing, ("--ward",), "two files"),
+    "diff": Subcommand(differing, (), "two files"),
     "text": Subcommand(to_text, ("-o",), "one file"),
     "book": Subcommand(to_book, ("--class", "-o"), "one file"),
-    "picture": Subcommand(picturing, ("--tree", "--counts", "--class", "--ward", "-o"), "one file"),
+    "picture": Subcommand(picturing, ("--tree", "--counts", "--class", "-o"), "one file"),
     "rows": Subcommand(rows_to_book, ("--element", "--names", "--class", "-o"), "one file or more"),
 }
 
@@ -476,7 +459,7 @@ def parsed(name: str, words: Sequence[str]) -> Optional[Asked]:
     """What is asked; None where help is."""
     try:
         counts = "counts=" if name == "build" else "counts"  # build's have a file; picture's are drawn
-        given, rest = getopt.gnu_getopt(list(words), "o:qh", ["class=", "ward", "tree", counts, "element=", "names=", "help"])
+        given, rest = getopt.gnu_getopt(list(words), "o:qh", ["class=", "tree", counts, "element=", "names=", "help"])
         options = dict(given)
         if "-h" in options or "--help" in options:
             return None
@@ -491,7 +474,7 @@ def parsed(name: str, words: Sequence[str]) -> Optional[Asked]:
         raise usage(name, str(problem)) from None
     except getopt.GetoptError as problem:
         raise usage(name, plain(cut(str(problem), 120))) from None
-    return Asked(tuple(rest), options.get("-o"), named_class, "--ward" in options, "-q" in options, "--tree" in options,
+    return Asked(tuple(rest), options.get("-o"), named_class, "-q" in options, "--tree" in options,
                  name == "counts" or "--counts" in options, options.get("--counts"), options.get("--element", ""),
                  options.get("--names"))
 

@@ -69,16 +69,13 @@ class Class:
         return "seen set" if self.kind == SEEN else f"last {self.one}"
 
 
-# what a book without a class field has: by the calls that everybody uses, and by those of the ward kitchens
-DEFAULT_CLASS = Class(CONTEXT, 2, 2)
-WARD_CLASS = Class(CONTEXT, 2, 1)
+DEFAULT_CLASS = Class(CONTEXT, 2, 1)
 Row = Tuple[str, ...]
 
 
 @dataclass(frozen=True)
 class Book:
-    """Names in ascending order, the class if the book names one, and rows of names. Where it names none, it has DEFAULT_CLASS, and for
-    the ward kitchens WARD_CLASS."""
+    """Names in ascending order, the class if the book names one, and rows of names."""
     names: Tuple[str, ...]
     named_class: Optional[Class]
     rows: Tuple[Row, ...]

@@ -17,8 +17,7 @@ days, and other days are held against it.
 
 A FILE is a text, a book or a table; - is standard input.
   -o FILE        where to write; without it, to standard output
-  --class CLASS  the class of a text or a book: "2 2", seen or "last 1"
-  --ward         a file that names no class is a ward's: "2 1", not "2 2"
+  --class CLASS  the class of a text or a book: "2 1", seen or "last 1"
   -q             no word but the answer and errors
   --version      which version this is
 'plans walk --help' says more of walk, with an example; so does each.
@@ -26,37 +25,29 @@ Exit status: 0 yes or done, 1 no, 2 an error. More: man plans
 """
 
 LIST = """\
-plans list FILE [--class CLASS] [--ward] [-o FILE] [-q]
+plans list FILE [--class CLASS] [-o FILE] [-q]
 
 Prints the model of a text, a book or a table. The first line has the number of
 states and, but for a table, of joins and of different days (distinct). Then
 each state has a line: its number, + if a day may end there or - if not, and
-each name that has an arc there with the state that it leads to. A text or a
-book that names no class has "2 2"; with --ward, which is for the ward kitchens'
-files, "2 1"; which was taken is told on standard error, without -q. Where the
-file or --class names a class, --ward changes nothing.
+each name that has an arc there with the state that it leads to.
 
   $ printf 'tea\\ntea cake\\ntea\\n' | plans list -q -
   states 3 joins 0 distinct 2
   0 - tea>1
   1 + cake>2
   2 +
-  $ printf 'tea tea tea\\n' | plans list -q --ward -
-  states 2 joins 2 distinct 1
-  0 - tea>1
-  1 + tea>1
 """
 
 COUNTS = """\
-plans counts FILE [--class CLASS] [--ward] [-o FILE] [-q]
+plans counts FILE [--class CLASS] [-o FILE] [-q]
 
 Prints how often the days of a text or a book use each way through their model,
 copies counted. First each different day with how often it is there, the most
 frequent first; days that are there equally often in the order of their names.
 Then each state as 'plans list' has it, with how many days end there (ends) and
 how often each arc is passed (passes). A day that passes an arc twice counts two
-there. No copy is left out here, so a text has at most 256 days. With --ward a
-file that names no class is a ward kitchen's ('plans list --help').
+there. No copy is left out here, so a text has at most 256 days.
 
   $ printf 'tea\\ntea cake cake cake\\ntea\\n' | plans counts -q - --class "1 1"
   days 3 distinct 2
@@ -69,15 +60,14 @@ file that names no class is a ward kitchen's ('plans list --help').
 """
 
 BUILD = """\
-plans build FILE [--counts FILE] [--class CLASS] [--ward] [-o TABLE] [-q]
+plans build FILE [--counts FILE] [--class CLASS] [-o TABLE] [-q]
 
 Writes the table of a text or a book. CLASS says how generous the model is:
 "k h" (context; k from 1 to 8, h from 1 to k), seen, or "last j" (j 0 to 8).
-Without it the class is the file's own or, if it names none, "2 2", and with
---ward, for the ward kitchens' files, "2 1". With -o it says the class and how
-many states, joins, different rows and copies there are. With --counts it writes
-the table's counts file too: how often the days use each state and each arc. No
-copy is left out then, so a text has at most 256 days.
+Without it the class is the file's own or, if it names none, "2 1". With -o it
+says how many states, joins and different rows there are, and how many copies.
+With --counts it writes the table's counts file too: how often the days use each
+state and each arc. No copy is left out then, so a text has at most 256 days.
 
   $ printf 'tea\\ntea cake cake\\n' | plans build -q - --class seen -o tea.table
   $ plans list tea.table
@@ -86,23 +76,21 @@ copy is left out then, so a text has at most 256 days.
   1 + cake>2
   2 - cake>3
   3 +
-  $ printf 'class = seen\\ntea\\n-\\n' > t.txt
-  $ plans build t.txt -o tea.table --counts tea.counts
-  t.txt: 2 days, 2 different days; 1 name:
-    tea 1
-  tea.table: seen set, 2 states, 0 joins, 2 different rows, 23 bytes
+  $ printf 'tea\\ntea\\n' | plans build - -o tea.table --counts tea.counts
+  standard input: 2 days, 1 different day (1 is a copy); 1 name:
+    tea 2
+  tea.table: 2 states, 0 joins, 1 different row (1 is a copy), 23 bytes
   tea.counts: 12 bytes
 """
 
 WALK = """\
-plans walk FILE [NAME...] [--class CLASS] [--ward] [-q]
+plans walk FILE [NAME...] [--class CLASS] [-q]
 
 Says whether the day of these names is allowed by the model of FILE, a text, a
 book or a table; if not, how far it goes; and what may come next. Without a name
 it is the empty day; a walk takes at most 40 names. On the way is a day that is
 not allowed but begins an allowed one; a name may come next if with it the day
-still does. With --ward a file that names no class is a ward kitchen's ('plans
-list --help'). The exit status is 0 if the day is allowed, else 1.
+still does. The exit status is 0 if the day is allowed, else 1.
 
   $ printf 'tea\\ntea cake tea\\n' | plans walk -q - tea cake
   on the way: a day may not end here
@@ -114,10 +102,9 @@ plans check FILE... [-q]
 
 Says of each file whether it is accepted; if not, which refusal it gets, and at
 which offset the field begins that it is about. Of a text each faulty line is
-told. Of an accepted file it says the class; of a text or a book without one,
-which it then has, for the ward kitchens too; of a table, which states lead to
-no end: no day that comes there can become an allowed one. The exit status is 0
-if all are accepted, 1 if one is not, and 2 if one cannot be read.
+told. Of an accepted table it says too which states lead to no end: no day that
+comes there can become an allowed one. The exit status is 0 if all are accepted,
+1 if one is not, and 2 if one cannot be read.
 
   $ printf '\\001\\000\\0019' > bad.table
   $ printf '\\001\\000\\001a\\002\\000\\003\\001\\000\\000' > theirs.table
@@ -129,12 +116,11 @@ if all are accepted, 1 if one is not, and 2 if one cannot be read.
 """
 
 DIFF = """\
-plans diff FILE FILE [--ward] [-q]
+plans diff FILE FILE [-q]
 
 Says whether two tables, or the tables of texts or books, are the same to the
 byte; if not, what differs, and a shortest day that one allows and the other
-does not. With --ward each of the two that names no class is a ward kitchen's
-('plans list --help'). The exit status is 0 if they are the same, else 1.
+does not. The exit status is 0 if they are the same, else 1.
 
   $ printf 'tea\\ntea cake\\n' | plans build -q - -o ours.table
   $ printf 'tea\\ntea cake cake\\n' | plans build -q - -o theirs.table
@@ -170,19 +156,18 @@ or tabs. A line with a single - is the empty day; # begins a comment.
 """
 
 PICTURE = """\
-plans picture FILE [--tree] [--counts] [--class CLASS] [--ward] [-o FILE] [-q]
+plans picture FILE [--tree] [--counts] [--class CLASS] [-o FILE] [-q]
 
 Draws the model with Graphviz (the command dot, Debian's package graphviz). The
 output's name ends in .svg, .png, .pdf or .dot; standard output gets svg. With
 --tree the prefix tree is drawn beside it, and states that were joined have one
 colour. With --counts arrows are as wide as the days use them; beside each name
 stands how often it is passed, in each accepting state how many days end there.
-States of a table that lead to no end are grey. With --ward a file that names no
-class is a ward kitchen's ('plans list --help').
+States of a table that lead to no end are grey.
 
   $ printf 'tea\\n' | plans picture -q - -o tea.dot
   $ grep label tea.dot | head -n 1
-  label="context (2,2): 2 states, 0 joins, 1 different row"
+  label="context (2,1): 2 states, 0 joins, 1 different row"
   $ printf 'tea\\ntea\\n' | plans picture -q --counts - -o tea.dot
   $ grep -o 'label="[^"]* 2"' tea.dot
   label="tea 2"

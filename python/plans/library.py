@@ -1,4 +1,4 @@
-"""The library's calls through ctypes, as include/plans.h declares them. Every buffer lives for one call."""
+"""The library's six calls through ctypes, as include/plans.h declares them. Every buffer lives for one call."""
 import ctypes
 import functools
 import os
@@ -8,8 +8,8 @@ from typing import Callable, List, Tuple
 from .fields import BOOK_ROWS, INPUT_LIMIT, ROW_LIMIT
 
 HERE = Path(__file__).resolve().parent
-# the library by its soname: one with another first number has results of another layout, or calls of another meaning
-FILE = "libplans.so.4"
+# the library by its soname: one with another first number has results of another layout
+FILE = "libplans.so.3"
 
 WORK_BYTES = 65536
 LISTING_BYTES = 32768
@@ -55,11 +55,6 @@ LENT = [ctypes.c_void_p, ctypes.c_size_t]
 TAKEN = {"plans_build": READ + LENT + LENT, "plans_build_counted": READ + LENT + LENT + LENT,
          "plans_rewrite": READ + LENT + LENT, "plans_walk": READ + READ + LENT, "plans_list": READ + LENT + LENT,
          "plans_read_rows": READ + READ + [ctypes.c_uint8] + LENT + LENT}
-# each call that reads a book has one beside it for the ward kitchens, which takes and gives the same
-WARD = "_ward"
-OF_BOOKS = ("plans_build", "plans_build_counted", "plans_list")
-RESULTS.update({name + WARD: RESULTS[name] for name in OF_BOOKS})
-TAKEN.update({name + WARD: TAKEN[name] for name in OF_BOOKS})
 
 
 def _folders() -> List[Path]:
@@ -106,11 +101,11 @@ def written_by(name: str, data: bytes, room: int) -> Tuple[ctypes.Structure, byt
     return result, out.raw[:result.length]
 
 
-def built_counted(name: str, book: bytes, room: int = INPUT_LIMIT, counts_room: int = COUNTS_BYTES) -> Tuple[CountedLayout, bytes, bytes]:
-    """What a counted build gives back, and the bytes that it wrote: the table and the counts."""
+def built_counted(book: bytes, room: int = INPUT_LIMIT, counts_room: int = COUNTS_BYTES) -> Tuple[CountedLayout, bytes, bytes]:
+    """What the counted build gives back, and the bytes that it wrote: the table and the counts."""
     work = ctypes.create_string_buffer(WORK_BYTES)
     out, counts = ctypes.create_string_buffer(room), ctypes.create_string_buffer(counts_room)
-    result = _call(name)(book, len(book), work, WORK_BYTES, out, room, counts, counts_room)
+    result = _call("plans_build_counted")(book, len(book), work, WORK_BYTES, out, room, counts, counts_room)
     return result, out.raw[:result.length], counts.raw[:result.counts_length]
 
 

@@ -71,21 +71,15 @@ def _written(call: str, data: bytes, room: int) -> Tuple:
     return result, out
 
 
-def _of_book(call: str, ward: bool) -> str:
-    """The call that reads a book, or the one beside it for the ward kitchens."""
-    return call + library.WARD if ward else call
-
-
-def build(book: Union[Book, Bytes], *, ward: bool = False) -> Built:
-    """The table of a book. A book without a class field has DEFAULT_CLASS; with `ward`, which is for the ward kitchens' books, it has
-    WARD_CLASS. A book that cannot be written is a ValueError (see write_book)."""
-    result, table = _written(_of_book("plans_build", ward), _book_bytes(book), INPUT_LIMIT)
+def build(book: Union[Book, Bytes]) -> Built:
+    """The table of a book. A book that cannot be written is a ValueError (see write_book)."""
+    result, table = _written("plans_build", _book_bytes(book), INPUT_LIMIT)
     return Built(table, result.states, result.joins, result.distinct)
 
 
-def build_counted(book: Union[Book, Bytes], *, ward: bool = False) -> Counted:
+def build_counted(book: Union[Book, Bytes]) -> Counted:
     """The table of a book as build gives it, and its counts. Refused and ValueError as of build."""
-    result, table, counts = library.built_counted(_of_book("plans_build_counted", ward), _book_bytes(book))
+    result, table, counts = library.built_counted(_book_bytes(book))
     if result.refusal:
         raise Refused(result.refusal)
     return Counted(table, result.states, result.joins, result.distinct, counts)
@@ -120,9 +114,9 @@ def judged_table(data: bytes) -> Table:
     return _judged(rewrite, read_table, data)
 
 
-def list_book(book: Union[Book, Bytes], *, ward: bool = False) -> str:
-    """The listing of a book's table, as build gives it."""
-    return _written(_of_book("plans_list", ward), _book_bytes(book), library.LISTING_BYTES)[1].decode("ascii")
+def list_book(book: Union[Book, Bytes]) -> str:
+    """The listing of a book's table."""
+    return _written("plans_list", _book_bytes(book), library.LISTING_BYTES)[1].decode("ascii")
 
 
 def list_table(table: Union[Table, Bytes]) -> str:

@@ -7,10 +7,6 @@
 
 enum { BEFORE = 0xEE };
 
-const book_calls tablet_calls = {plans_build, plans_build_counted, plans_list};
-const book_calls ward_calls = {plans_build_ward, plans_build_counted_ward, plans_list_ward};
-const book_calls *made = &tablet_calls;
-
 static unsigned passed;
 static unsigned failed;
 
@@ -107,7 +103,7 @@ static void take_back(lent all, const writing *from, size_t length, writing *to)
 plans_built build(const writing *book, size_t work_len, size_t out_len, writing *table)
 {
     lent all = lend_all(book, work_len, out_len);
-    plans_built built = made->build(all.input, book->length, all.work, work_len, all.out, out_len);
+    plans_built built = plans_build(all.input, book->length, all.work, work_len, all.out, out_len);
 
     if (built.refusal != PLANS_OK)
         check("a refusal gives zeros else", !built.length && !built.states && !built.joins && !built.distinct);
@@ -121,7 +117,7 @@ plans_counted build_counted(const writing *book, size_t work_len, size_t out_len
 {
     lent all = lend_all(book, work_len, out_len);
     uint8_t *to = lend(counts_len);
-    plans_counted counted = made->build_counted(all.input, book->length, all.work, work_len, all.out, out_len, to, counts_len);
+    plans_counted counted = plans_build_counted(all.input, book->length, all.work, work_len, all.out, out_len, to, counts_len);
 
     if (counted.refusal != PLANS_OK)
         check("a refusal gives zeros else",
@@ -145,7 +141,7 @@ plans_rewritten rewrite(const writing *from, size_t work_len, size_t out_len, wr
 plans_written list(const writing *book, size_t work_len, size_t text_len, writing *text)
 {
     lent all = lend_all(book, work_len, text_len);
-    plans_written written = made->list(all.input, book->length, all.work, work_len, all.out, text_len);
+    plans_written written = plans_list(all.input, book->length, all.work, work_len, all.out, text_len);
 
     check("what is written has a length, and a refusal has none", (written.refusal == PLANS_OK) == (written.length > 0));
     take_back(all, book, written.length, text);

@@ -21,18 +21,6 @@ unsigned summed_up(void);
 uint8_t *lend(size_t length);
 uint8_t *lend_copy(const uint8_t *bytes, size_t length);
 
-/* The calls that take a book: those of the tablet, or those of a ward kitchen. */
-typedef struct {
-    plans_built (*build)(const uint8_t *, size_t, uint8_t *, size_t, uint8_t *, size_t);
-    plans_counted (*build_counted)(const uint8_t *, size_t, uint8_t *, size_t, uint8_t *, size_t, uint8_t *, size_t);
-    plans_written (*list)(const uint8_t *, size_t, uint8_t *, size_t, uint8_t *, size_t);
-} book_calls;
-
-extern const book_calls tablet_calls, ward_calls;
-
-/* Those that build, build_counted and list make. */
-extern const book_calls *made;
-
 /* The calls; `work_len`, `out_len`, `counts_len` and `text_len` are the lengths lent. What is written goes to `table`, `counts`, `text` or
  * `rows`. */
 plans_built build(const writing *book, size_t work_len, size_t out_len, writing *table);

@@ -1,7 +1,6 @@
 /* The library used as the tablet's program uses it: builds a book, also with its counts, walks rows, offers the names that may come next,
- * also over tables in which some days, or all, have no end, lists a book, reads the rows of plans, and meets each refusal. What is done
- * with books is done once more by a ward kitchen's calls. All of it runs in a thread with a stack of STACK_BYTES, which scripts/test-c
- * sets; 0 leaves the system's own. */
+ * also over tables in which some days, or all, have no end, lists a book, reads the rows of plans, and meets each refusal. All of it runs
+ * in a thread with a stack of STACK_BYTES, which scripts/test-c sets; 0 leaves the system's own. */
 #include <pthread.h>
 #include <stdio.h>
 #include <string.h>
@@ -39,20 +38,14 @@ static void put_day(const char *day)
     put_field(&book, PLANS_ROW_MARK, row, length);
 }
 
-/* A book with the four names, no class field and no row. */
-static void start_unnamed(void)
-{
-    book.length = 0;
-    for (size_t i = 0; i < NAMES; i++)
-        put_field(&book, PLANS_NAME_MARK, names[i], strlen(names[i]));
-}
-
-/* The same with the class. */
+/* A book with the four names and the class, and no row. */
 static void start_book(uint8_t kind, uint8_t first, uint8_t second)
 {
     const uint8_t class_bytes[] = {kind, first, second};
 
-    start_unnamed();
+    book.length = 0;
+    for (size_t i = 0; i < NAMES; i++)
+        put_field(&book, PLANS_NAME_MARK, names[i], strlen(names[i]));
     put_field(&book, PLANS_CLASS_MARK, class_bytes, sizeof class_bytes);
 }
 
@@ -96,75 +89,6 @@ static void worked_days(void)
     }
 }
 
-static int same_bytes(const writing *some, const writing *others)
-{
-    return some->length == others->length && memcmp(some->bytes, others->bytes, some->length) == 0;
-}
-
-/* A book without a class field, of the days of P6 and P7: the tablet's calls read it with k = 2, h = 2, those of a ward kitchen with k = 2,
- * h = 1. With these written in, both give what the book without gave. */
-static void unnamed_days(void)
-{
-    static const char *const days[] = {"bsl", "dsl", "bsb"};
-    static writing unnamed_table, unnamed_counts, unnamed_text, text;
-    const book_calls *const calls[] = {&tablet_calls, &ward_calls};
-    static const struct {
-        uint8_t h;
-        uint32_t states;
-        uint8_t outcome;
-        uint32_t walked;
-    } expected[] = {{2, 7, PLANS_STOPS, 2}, {1, 6, PLANS_ADMITTED, 3}};
-
-    for (size_t whose = 0; whose < 2; whose++) {
-        plans_counted counted;
-        plans_walked walked;
-
-        made = calls[whose];
-        start_unnamed();
-        for (size_t i = 0; i < 3; i++)
-            put_day(days[i]);
-        check("a book without a class field", build_all().states == expected[whose].states);
-        unnamed_table = table;
-        counted = count_all();
-        check("with its counts", counted.states == expected[whose].states && same_bytes(&table, &unnamed_table));
-        unnamed_counts = counts;
-        list(&book, PLANS_WORK_BYTES, PLANS_LISTING_BYTES, &unnamed_text);
-        check("its listing", unnamed_text.bytes[strlen("states ")] == '0' + expected[whose].states);
-        walked = walk_day("dsb");
-        check("dsb, which nobody wrote", walked.outcome == expected[whose].outcome && walked.walked == expected[whose].walked);
-        start_book(PLANS_CONTEXT, 2, expected[whose].h);
-        for (size_t i = 0; i < 3; i++)
-            put_day(days[i]);
-        for (size_t by = 0; by < 2; by++) {
-            made = calls[by];
-            build_all();
-            check("its class written in gives both the same table", same_bytes(&table, &unnamed_table));
-            count_all();
-            check("the same counts", same_bytes(&table, &unnamed_table) && same_bytes(&counts, &unnamed_counts));
-            list(&book, PLANS_WORK_BYTES, PLANS_LISTING_BYTES, &text);
-            check("and the same listing", same_bytes(&text, &unnamed_text));
-        }
-    }
-    made = &tablet_calls;
-}
-
-/* An output of the length of the ward's table of these days is too short for the tablet's. */
-static void unnamed_lengths(void)
-{
-    plans_built built;
-
-    start_unnamed();
-    put_day("bsl");
-    put_day("dsl");
-    put_day("bsb");
-    made = &ward_calls;
-    built = build_all();
-    check("an output just long enough for the ward's table", build(&book, PLANS_WORK_BYTES, built.length, &again).refusal == PLANS_OK);
-    check("13: one byte short", build(&book, PLANS_WORK_BYTES, built.length - 1, &again).refusal == PLANS_OUTPUT_TOO_SHORT);
-    made = &tablet_calls;
-    check("13: the tablet's is longer", build(&book, PLANS_WORK_BYTES, built.length, &again).refusal == PLANS_OUTPUT_TOO_SHORT);
-}
-
 /* A day of four names, by the last four binary digits of a number: breakfast for 0 and snack for 1. */
 static void put_number(unsigned number)
 {
@@ -186,7 +110,7 @@ static void copied_days(void)
     for (unsigned i = 0; i < 30; i++)
         put_number(i * 7 % 10);
     check("of forty days thirty are copies", build_all().distinct == 10);
-    check("copies leave the table as it is", same_bytes(&table, &again));
+    check("copies leave the table as it is", table.length == again.length && memcmp(table.bytes, again.bytes, table.length) == 0);
     put_day("bbb");
     check("a beginning of another day is a day of its own", build_all().distinct == 11);
     put_day("");
@@ -281,7 +205,7 @@ static void no_way_to_an_end(void)
     put_field(&table, PLANS_STATE_MARK, end, sizeof end);
     put_field(&table, PLANS_STATE_MARK, no_way, sizeof no_way);
     check("such a table is legal", rewrite(&table, PLANS_WORK_BYTES, table.length, &again).refusal == PLANS_OK);
-    check("it is rewritten as it is", same_bytes(&again, &table));
+    check("it is rewritten as it is", again.length == table.length && memcmp(again.bytes, table.bytes, table.length) == 0);
     tells("dinner is not offered", "", PLANS_ON_THE_WAY, 0, "b");
     tells("the day that ends", "b", PLANS_ADMITTED, 1, "");
     tells("a day that never ends is not on the way", "d", PLANS_STOPS, 0, "b");
@@ -379,7 +303,7 @@ static void counted_days(void)
     check("they are", memcmp(counts.bytes, fields, length) == 0);
     check("its numbers are those without", counted.length == built.length && counted.states == built.states &&
                                                counted.joins == built.joins && counted.distinct == built.distinct);
-    check("its table is that without", same_bytes(&table, &again));
+    check("its table is that without", table.length == again.length && memcmp(table.bytes, again.bytes, table.length) == 0);
     counted = build_counted(&book, PLANS_WORK_BYTES, built.length, length, &again, &counts);
     check("outputs just long enough", counted.refusal == PLANS_OK);
     counted = build_counted(&book, PLANS_WORK_BYTES, built.length, length - 1, &again, &counts);
@@ -452,7 +376,7 @@ static void rewrite_it(void)
     plans_rewritten rewritten = rewrite(&table, PLANS_WORK_BYTES, built.length, &again);
 
     check("a table is rewritten", rewritten.refusal == PLANS_OK && rewritten.states == built.states);
-    check("to the same bytes", same_bytes(&again, &table));
+    check("to the same bytes", again.length == table.length && memcmp(again.bytes, table.bytes, table.length) == 0);
 }
 
 /* Worked day P2 of docs/SCOPE.md, whose listing is that of its example. */
@@ -762,14 +686,14 @@ static void refused_states(void)
     check("a walk of none", walk(&table, NULL, 0, PLANS_WORK_BYTES).outcome == PLANS_ON_THE_WAY);
 }
 
-/* What is done with books, by the calls of the tablet or of a ward kitchen: the checks are the same. */
-static void use_books(const book_calls *calls)
+static void *tablet(void *unused)
 {
-    made = calls;
     worked_days();
     copied_days();
     class_kinds();
     tap_a_day();
+    no_way_to_an_end();
+    no_day_at_all();
     counted_days();
     counted_copies();
     tap_common_first();
@@ -779,17 +703,6 @@ static void use_books(const book_calls *calls)
     refused_fields();
     refused_counts();
     longest_rows();
-    made = &tablet_calls;
-}
-
-static void *tablet(void *unused)
-{
-    use_books(&tablet_calls);
-    use_books(&ward_calls);
-    unnamed_days();
-    unnamed_lengths();
-    no_way_to_an_end();
-    no_day_at_all();
     refused_states();
     read_plans();
     refused_lists();

@@ -8,26 +8,20 @@
 
 enum { THREADS = 8, ROUNDS = 200 };
 
-/* What the calls that take a book give. */
+/* What one thread lends, and what it gets. */
 typedef struct {
+    uint8_t work[PLANS_WORK_BYTES];
     uint8_t table[PLANS_TABLE_BYTES];
+    uint8_t again[PLANS_TABLE_BYTES];
     uint8_t counts[PLANS_COUNTS_BYTES];
     uint8_t text[PLANS_LISTING_BYTES];
+    uint8_t rows[PLANS_ROWS_BYTES];
     size_t table_len;
     size_t counts_len;
     size_t text_len;
+    size_t rows_len;
     uint32_t distinct;
     plans_walked walked;
-} from_book;
-
-/* What one thread lends, and what it gets: from the standard calls, from the ward kitchens', and from a plan. */
-typedef struct {
-    uint8_t work[PLANS_WORK_BYTES];
-    uint8_t again[PLANS_TABLE_BYTES];
-    from_book standard;
-    from_book ward;
-    uint8_t rows[PLANS_ROWS_BYTES];
-    size_t rows_len;
     unsigned wrong;
 } areas;
 
@@ -39,7 +33,7 @@ static size_t list_len; /* the book's names, which are its first bytes */
 static areas alone;
 static areas lent[THREADS];
 
-/* The rows of worked days P6 and P7 of docs/SCOPE.md, with a copy of the first, and no class field. */
+/* Worked day P6 of docs/SCOPE.md, with a copy of its first row. */
 static void write_book(void)
 {
     static const char *const names[] = {"breakfast", "dinner", "lunch", "snack"};
@@ -49,57 +43,42 @@ static void write_book(void)
     for (size_t i = 0; i < 4; i++)
         plans_write_name(&book, names[i]);
     list_len = book.length;
+    plans_write_class(&book, PLANS_CONTEXT, 2, 1);
     for (size_t i = 0; i < 4; i++)
         plans_write_row(&book, days[i], sizeof days[i]);
 }
 
-/* Every call that takes a book or a table once. Returns whether none was refused, and the table rewritten, and that built with counts, is
- * the table. */
-static int call_with_book(int ward, areas *to, from_book *from)
-{
-    plans_counted counted = (ward ? plans_build_counted_ward : plans_build_counted)(
-        book.bytes, book.length, to->work, sizeof to->work, to->again, sizeof to->again, from->counts, sizeof from->counts);
-    plans_built built = (ward ? plans_build_ward : plans_build)(book.bytes, book.length, to->work, sizeof to->work, from->table,
-                                                                sizeof from->table);
-    int same_table = counted.length == built.length && memcmp(to->again, from->table, built.length) == 0;
-    plans_rewritten again = plans_rewrite(from->table, built.length, to->work, sizeof to->work, to->again, sizeof to->again);
-    plans_written written = (ward ? plans_list_ward : plans_list)(book.bytes, book.length, to->work, sizeof to->work, from->text,
-                                                                  sizeof from->text);
-
-    from->walked = plans_walk(from->table, built.length, day, sizeof day, to->work, sizeof to->work);
-    from->table_len = built.length;
-    from->counts_len = counted.counts_length;
-    from->text_len = written.length;
-    from->distinct = built.distinct;
-    return built.refusal == PLANS_OK && counted.refusal == PLANS_OK && same_table && again.refusal == PLANS_OK &&
-           written.refusal == PLANS_OK && from->walked.refusal == PLANS_OK && again.length == built.length &&
-           memcmp(to->again, from->table, built.length) == 0;
-}
-
-/* Every call once. Returns whether none was refused, and tables are the same that are to be. */
+/* Every call once. Returns whether none was refused, and the table rewritten, and that built with counts, is the table. */
 static int call_all(areas *to)
 {
+    plans_counted counted = plans_build_counted(book.bytes, book.length, to->work, sizeof to->work, to->again, sizeof to->again,
+                                                to->counts, sizeof to->counts);
+    plans_built built = plans_build(book.bytes, book.length, to->work, sizeof to->work, to->table, sizeof to->table);
+    int same_table = counted.length == built.length && memcmp(to->again, to->table, built.length) == 0;
+    plans_rewritten again = plans_rewrite(to->table, built.length, to->work, sizeof to->work, to->again, sizeof to->again);
+    plans_written written = plans_list(book.bytes, book.length, to->work, sizeof to->work, to->text, sizeof to->text);
     plans_plan_rows read = plans_read_rows((const uint8_t *)plan, strlen(plan), book.bytes, list_len, 1, to->work, sizeof to->work,
                                            to->rows, sizeof to->rows);
 
+    to->walked = plans_walk(to->table, built.length, day, sizeof day, to->work, sizeof to->work);
+    to->table_len = built.length;
+    to->counts_len = counted.counts_length;
+    to->text_len = written.length;
     to->rows_len = read.length;
-    return read.refusal == PLANS_OK && read.rows == 2 && call_with_book(0, to, &to->standard) && call_with_book(1, to, &to->ward);
-}
-
-static int same_from_book(const from_book *some, const from_book *others)
-{
-    return some->table_len == others->table_len && memcmp(some->table, others->table, others->table_len) == 0 &&
-           some->counts_len == others->counts_len && memcmp(some->counts, others->counts, others->counts_len) == 0 &&
-           some->text_len == others->text_len && memcmp(some->text, others->text, others->text_len) == 0 &&
-           some->distinct == others->distinct && some->walked.outcome == others->walked.outcome &&
-           some->walked.walked == others->walked.walked && some->walked.next_names == others->walked.next_names &&
-           some->walked.next_count == others->walked.next_count;
+    to->distinct = built.distinct;
+    return built.refusal == PLANS_OK && counted.refusal == PLANS_OK && same_table && again.refusal == PLANS_OK &&
+           written.refusal == PLANS_OK && to->walked.refusal == PLANS_OK && read.refusal == PLANS_OK && read.rows == 2 &&
+           again.length == built.length && memcmp(to->again, to->table, built.length) == 0;
 }
 
 static int as_alone(const areas *to)
 {
-    return same_from_book(&to->standard, &alone.standard) && same_from_book(&to->ward, &alone.ward) &&
-           to->rows_len == alone.rows_len && memcmp(to->rows, alone.rows, alone.rows_len) == 0;
+    return to->table_len == alone.table_len && memcmp(to->table, alone.table, alone.table_len) == 0 &&
+           to->counts_len == alone.counts_len && memcmp(to->counts, alone.counts, alone.counts_len) == 0 &&
+           to->text_len == alone.text_len && memcmp(to->text, alone.text, alone.text_len) == 0 &&
+           to->rows_len == alone.rows_len && memcmp(to->rows, alone.rows, alone.rows_len) == 0 && to->distinct == alone.distinct &&
+           to->walked.outcome == alone.walked.outcome && to->walked.walked == alone.walked.walked &&
+           to->walked.next_names == alone.walked.next_names && to->walked.next_count == alone.walked.next_count;
 }
 
 static void *call_often(void *own)
@@ -117,8 +96,7 @@ int main(void)
     unsigned failed = 0;
 
     write_book();
-    if (!call_all(&alone) || alone.standard.walked.outcome != PLANS_STOPS || alone.ward.walked.outcome != PLANS_ADMITTED ||
-        alone.standard.distinct != 3) {
+    if (!call_all(&alone) || alone.walked.outcome != PLANS_ADMITTED || alone.distinct != 3) {
         printf("FAILED: one thread alone\n0 passed, 1 failed\n");
         return 1;
     }

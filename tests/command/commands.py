@@ -10,13 +10,6 @@ ROOT = Path(__file__).resolve().parents[2]
 PLANS = str(ROOT / "scripts" / "plans")
 
 
-def no_class(name: str, ward: bool = False) -> str:
-    """What is said of a text or a book that names no class; a text's name ends in .txt."""
-    place = "line 'class ='" if name.endswith(".txt") else "class field"
-    taken = "with --ward its class is context (2,1)" if ward else "its class is context (2,2), and with --ward context (2,1)"
-    return f"{name}: it has no {place}: {taken}\n"
-
-
 class InFolder(unittest.TestCase):
     """A test with a folder of its own."""
 

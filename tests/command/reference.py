@@ -4,9 +4,7 @@ rule is asked, so that the rule is asked of deterministic automata only; docs/SC
 from typing import NamedTuple, Optional, Tuple
 
 CONTEXT, SEEN = 0, 1
-# of a book that names no class; and for the ward kitchens
-DEFAULT_CLASS = (CONTEXT, 2, 2)
-WARD_CLASS = (CONTEXT, 2, 1)
+DEFAULT_CLASS = (CONTEXT, 2, 1)
 
 
 class Sample(NamedTuple):
@@ -26,16 +24,11 @@ def book_bytes(sample: Sample) -> bytes:
     return b"".join(fields + [field(3, bytes(row)) for row in sample.rows])
 
 
-def class_of(sample: Sample, ward: bool) -> Tuple[int, int, int]:
-    """The class of a book: its own, or that of a book which names none, for the ward kitchens another one."""
-    return sample.named_class or (WARD_CLASS if ward else DEFAULT_CLASS)
-
-
 class Quotient:
     """The groups of a book's prefix tree: arcs, accepting groups, and f of each (kinds 1 and 2)."""
 
-    def __init__(self, sample: Sample, ward: bool):
-        self.kind, self.one, self.two = class_of(sample, ward)
+    def __init__(self, sample: Sample):
+        self.kind, self.one, self.two = sample.named_class or DEFAULT_CLASS
         beginnings = [row[:end] for row in sample.rows for end in range(len(row) + 1)]
         self.tree = {word: number for number, word in enumerate(dict.fromkeys([(), *beginnings]))}
         self.group = list(range(len(self.tree)))
@@ -101,8 +94,8 @@ class Quotient:
         return None
 
 
-def joined(sample: Sample, ward: bool = False) -> Quotient:
-    quotient = Quotient(sample, ward)
+def joined(sample: Sample) -> Quotient:
+    quotient = Quotient(sample)
     step = quotient.open_step()
     while step is not None:
         quotient.join(*step)
@@ -125,8 +118,8 @@ def states_of(quotient: Quotient) -> list:
     return states
 
 
-def table_bytes(sample: Sample, states: list, ward: bool = False) -> bytes:
-    front = book_bytes(Sample(sample.names, class_of(sample, ward), ()))
+def table_bytes(sample: Sample, states: list) -> bytes:
+    front = book_bytes(Sample(sample.names, sample.named_class or DEFAULT_CLASS, ()))
     arcs = (b"".join(bytes([name]) + target.to_bytes(2, "big") for name, target in leaving) for _, leaving in states)
     return front + b"".join(field(4, bytes([accepts]) + leaving) for (accepts, _), leaving in zip(states, arcs))
 
@@ -156,9 +149,9 @@ def listing(sample: Sample, states: list, joins: int) -> str:
     return "".join(line + "\n" for line in lines)
 
 
-def listing_of(sample: Sample, ward: bool = False) -> str:
-    """What the listing program prints for the book; or the call that lists for the ward kitchens."""
-    quotient = joined(sample, ward)
+def listing_of(sample: Sample) -> str:
+    """What the listing program prints for the book."""
+    quotient = joined(sample)
     states = states_of(quotient)
     return listing(sample, states, len(quotient.tree) - len(states))
 

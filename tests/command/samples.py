@@ -18,7 +18,7 @@ def a_name(draw: random.Random) -> str:
 def a_class(draw: random.Random):
     """Any class, or None for a book without the field."""
     k = draw.randint(1, 8)
-    return draw.choice([None, (0, 2, 1), (0, 2, 2), (0, k, draw.randint(1, k)), (1, 0, 0), (2, draw.randint(0, 8), 0)])
+    return draw.choice([None, (0, 2, 1), (0, k, draw.randint(1, k)), (1, 0, 0), (2, draw.randint(0, 8), 0)])
 
 
 def a_sample(draw: random.Random, names=(1, 2, 5, 30, 64), rows=(1, 2, 10, 40, 256), lengths=(0, 1, 3, 8, 40)) -> Sample:

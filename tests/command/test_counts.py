@@ -108,7 +108,7 @@ class Refusals(InFolder):
         data = plans.write_book(BOOK)
         whole = len(plans.build(BOOK).table)
         for room, counts_room, number in [(whole, len(BYTES), 0), (whole - 1, len(BYTES), 13), (whole, len(BYTES) - 1, 13), (whole, 1, 13)]:
-            result, table, counts = library.built_counted("plans_build_counted", data, room, counts_room)
+            result, table, counts = library.built_counted(data, room, counts_room)
             self.assertEqual(result.refusal, number)
             self.assertEqual((len(table), len(counts)), (0, 0) if number else (whole, len(BYTES)))
             self.assertEqual((result.states, result.joins, result.distinct), (0, 0, 0) if number else (3, 2, 3))
@@ -264,7 +264,7 @@ class Command(InFolder):
 class BuiltWithCounts(InFolder):
     TABLE = plans.write_table(TABLE)
     NOTES = "days.txt: 5 days, 3 different days (2 are copies); 2 names:\n  cake 3, tea 4\n"
-    TOLD = f"days.table: context (1,1), 3 states, 2 joins, 3 different rows (2 are copies), {len(TABLE)} bytes\n"
+    TOLD = f"days.table: 3 states, 2 joins, 3 different rows (2 are copies), {len(TABLE)} bytes\n"
     TWO = ["-o", "days.table", "--counts", "days.counts"]
 
     def setUp(self):

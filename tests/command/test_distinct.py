@@ -6,7 +6,7 @@ import random
 import re
 
 import plans
-from commands import InFolder, no_class
+from commands import InFolder
 from plans import library
 from plans.showing import different
 from reference import book_bytes, field
@@ -61,7 +61,7 @@ class Agreement(InFolder):
         self.put("week.xml", "<week>" + 3 * "<day><lunch/></day>" + "<day/></week>")
         self.answers(0, "", "rows", "week.xml", "--element", "day", "-o", "week.book", said=(
             "week.xml: 4 rows\n1 plan: 4 rows, 2 different rows (2 are copies); 2 names:\n  day 0, lunch 3\nweek.book: 29 bytes\n"))
-        self.answers(0, "states 2 joins 0 distinct 2\n0 + lunch>1\n1 +\n", "list", "-q", "week.book")
+        self.answers(0, "states 2 joins 0 distinct 2\n0 + lunch>1\n1 +\n", "list", "week.book")
 
 
 class Words(InFolder):
@@ -75,22 +75,20 @@ class Words(InFolder):
     def test_the_forty_days(self):
         self.put("days.txt", 4 * "".join(f"lunch {name}\n" for name in "abcdefghij"))
         self.answers(0, "", "book", "-q", "days.txt", "-o", "days.book")
-        told = "out: context (2,2), 12 states, 0 joins, 10 different rows (30 are copies), 135 bytes\n"
-        self.answers(0, "", "build", "days.book", "-o", "out", said=no_class("days.book") + told)
+        told = "out: 12 states, 0 joins, 10 different rows (30 are copies), 135 bytes\n"
+        self.answers(0, "", "build", "days.book", "-o", "out", said=told)
         self.answers(0, "", "build", "-q", "days.book", "-o", "out")
         self.answers(0, "days.book: accepted: a book of 11 names, 40 rows, 10 different rows (30 are copies)\n"
-                     + no_class("days.book")
-                     + "days.txt: accepted: a text of 40 days, 10 different days (30 are copies), 11 names\n"
-                     + no_class("days.txt"), "check", "-q", "days.book", "days.txt")
+                        "days.txt: accepted: a text of 40 days, 10 different days (30 are copies), 11 names\n",
+                     "check", "-q", "days.book", "days.txt")
 
     def test_more_days_than_a_book_may_have(self):
         """All that were typed are counted; the book that is built has each once."""
         self.put("days.txt", 150 * "lunch\nlunch tea\n")
-        self.answers(0, "days.txt: accepted: a text of 300 days, 2 different days (298 are copies), 2 names\n"
-                     + no_class("days.txt"), "check", "-q", "days.txt")
+        self.answers(0, "days.txt: accepted: a text of 300 days, 2 different days (298 are copies), 2 names\n", "check", "-q", "days.txt")
         said = self.plans("build", "days.txt", "-o", "out").stderr.decode().splitlines()
         self.assertEqual(said[0], "days.txt: 300 days, 2 different days (298 are copies); 2 names:")
-        self.assertEqual(said[-1], "out: context (2,2), 3 states, 0 joins, 2 different rows, 38 bytes")
+        self.assertEqual(said[-1], "out: 3 states, 0 joins, 2 different rows, 38 bytes")
 
 
 class NoNumber(InFolder):

@@ -114,7 +114,7 @@ class ManPage(unittest.TestCase):
 
     def test_synopsis_is_that_of_help(self):
         synopsis = re.search(r"\.SH SYNOPSIS\n\.nf\n(.*?)\.fi", self.PAGE, re.DOTALL)[1]
-        plain = re.sub(r"\\f[BIR]|\\\n", "", synopsis).replace("\\-", "-").splitlines()  # a line may be broken after a backslash
+        plain = re.sub(r"\\f[BIR]", "", synopsis).replace("\\-", "-").splitlines()
         self.assertEqual(plain, [text.splitlines()[0] for text in helps.SUBCOMMANDS.values()])
 
     def test_formatted_without_a_warning(self):

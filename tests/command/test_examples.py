@@ -1,5 +1,4 @@
-"""What lies under examples/: each text with its listing, and where it names no class with that for the ward kitchens, the shipped books,
-the worked days and the sources' examples."""
+"""What lies under examples/: each text with its listing, the shipped books, the worked days and the sources' examples."""
 import itertools
 import re
 import unittest
@@ -15,18 +14,15 @@ from samples import sample_of
 ROOT = Path(__file__).resolve().parents[2]
 EXAMPLES = ROOT / "examples"
 PROGRAM = ROOT / "crates" / "worked_days"
-WARDS = EXAMPLES / "wards"
 TEXTS = sorted(EXAMPLES.glob("*/*.txt"))
 
-# The table of docs/SCOPE.md, section 10: states of the prefix tree, states, joins, different rows. Q1 to Q4 stand in
+# The table of docs/SCOPE.md, section 10: states of the prefix tree, states, joins, different rows. Q1 to Q3 stand in
 # crates/model/specs/WorkedDays.antt.
 WORKED_DAYS = {
     "P1": (1, 1, 0, 1), "P2": (3, 2, 1, 1), "P3": (3, 3, 0, 1), "P4": (7, 5, 2, 2), "P5": (7, 6, 1, 2), "P6": (8, 6, 2, 3),
     "P7": (8, 7, 1, 3), "P8": (3, 2, 1, 2), "P9": (3, 1, 2, 2), "P10": (3, 2, 1, 2), "P11": (5, 4, 1, 2), "P12": (3, 3, 0, 1),
-    "Q1": (6, 5, 1, 2), "Q2": (7, 5, 2, 4), "Q3": (6, 5, 1, 2), "Q4": (8, 7, 1, 3), "example": (3, 2, 1, 1),
+    "Q1": (6, 5, 1, 2), "Q2": (7, 5, 2, 4), "Q3": (6, 4, 2, 2), "example": (3, 2, 1, 1),
 }
-# those that name no class, for the ward kitchens
-FOR_WARDS = {"Q3": (6, 4, 2, 2), "Q4": (8, 6, 2, 3)}
 
 
 def book_at(path: Path) -> plans.Book:
@@ -79,24 +75,11 @@ class Shipped(unittest.TestCase):
             self.assertEqual(path.with_suffix(".book").read_bytes(), plans.write_book(book_at(path)), path)
 
     def test_listings(self):
-        listings = [path for path in EXAMPLES.glob("*/*.listing") if path.parent != WARDS]
-        self.assertEqual(sorted(path.with_suffix(".txt") for path in listings), TEXTS)
+        self.assertEqual(sorted(path.with_suffix(".txt") for path in EXAMPLES.glob("*/*.listing")), TEXTS)
         for path in TEXTS:
             listing = path.with_suffix(".listing").read_text()
             self.assertEqual(listing, listing_of(sample_of(book_at(path))), path)
             self.assertEqual(listing, plans.list_book(book_at(path)), path)
-
-    def test_listings_for_the_ward_kitchens(self):
-        """Of each text that names no class another one; of the others the same."""
-        for path in TEXTS:
-            book = book_at(path)
-            listing = (path.with_suffix(".listing") if book.named_class else WARDS / (path.stem + ".listing")).read_text()
-            self.assertEqual(listing, listing_of(sample_of(book), ward=True), path)
-            self.assertEqual(listing, plans.list_book(book, ward=True), path)
-        unnamed = [path for path in TEXTS if book_at(path).named_class is None]
-        self.assertEqual(sorted(path.stem for path in WARDS.iterdir()), sorted(path.stem for path in unnamed))
-        for path in unnamed:
-            self.assertNotEqual(path.with_suffix(".listing").read_text(), (WARDS / (path.stem + ".listing")).read_text())
 
     def test_rows_are_admitted(self):
         for path in TEXTS:
@@ -116,30 +99,27 @@ class WorkedDays(unittest.TestCase):
         self.assertEqual({path.stem for path in (EXAMPLES / "worked_days").glob("*.txt")}, set(WORKED_DAYS))
 
     def test_counts(self):
-        for ward, days in [(False, WORKED_DAYS), (True, {**WORKED_DAYS, **FOR_WARDS})]:
-            for name, counts in days.items():
-                book = book_at(EXAMPLES / "worked_days" / (name + ".txt"))
-                self.assertEqual(book.named_class is None, name in FOR_WARDS)
-                built = plans.build(book, ward=ward)
-                self.assertEqual((len(prefix_tree(book.rows)), built.states, built.joins, built.distinct), counts, (name, ward))
+        for name, counts in WORKED_DAYS.items():
+            path = EXAMPLES / "worked_days" / (name + ".txt")
+            built = plans.build(book_at(path))
+            self.assertEqual((len(prefix_tree(book_at(path).rows)), built.states, built.joins, built.distinct), counts, name)
 
 
 class Program(unittest.TestCase):
     """The program worked_days reads the books of these texts, and its output is compared with their listings."""
-    TEXTS = {path.stem: path for folder in ["worked_days", "sources"] for path in (EXAMPLES / folder).glob("*.txt")}
-    BOOKS = {path.stem: path for path in (PROGRAM / "data").iterdir()}
 
     def test_data_are_the_books_of_the_texts(self):
-        self.assertEqual(sorted(self.BOOKS), sorted(self.TEXTS))
-        for name, path in self.BOOKS.items():
-            self.assertEqual(path.read_bytes(), plans.write_book(book_at(self.TEXTS[name])), name)
+        texts = {path.stem: path for folder in ["worked_days", "sources"] for path in (EXAMPLES / folder).glob("*.txt")}
+        books = {path.stem: path for path in (PROGRAM / "data").iterdir()}
+        self.assertEqual(sorted(books), sorted(texts))
+        for name, path in books.items():
+            self.assertEqual(path.read_bytes(), plans.write_book(book_at(texts[name])), name)
 
     def test_output_has_the_listings(self):
         output = (PROGRAM / "stdout").read_text()
-        for name, path in self.TEXTS.items():
-            self.assertIn(f"{name}.book\n{path.with_suffix('.listing').read_text()}", output)
-        for name in FOR_WARDS:
-            self.assertIn(f"{name}.book, for wards\n{(WARDS / (name + '.listing')).read_text()}", output)
+        for path in (PROGRAM / "data").iterdir():
+            listing = next(EXAMPLES.glob(f"*/{path.stem}.listing")).read_text()
+            self.assertIn(f"{path.name}\n{listing}", output)
 
 
 class Sources(unittest.TestCase):

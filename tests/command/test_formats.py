@@ -2,7 +2,6 @@
 import re
 import unittest
 from pathlib import Path
-from typing import Optional
 
 import plans
 from plans import library
@@ -50,13 +49,11 @@ def book_at(path: Path) -> plans.Book:
     return plans.read_text(path.read_bytes()).book()
 
 
-def counts(path: Path, listings: Optional[Path] = None) -> tuple:
-    """States of the prefix tree, states, joins, different rows: the second and third as the listing has them, which is beside the text or
-    in the folder of listings that is given."""
+def counts(path: Path) -> tuple:
+    """States of the prefix tree, states, joins, different rows: the second and third as the listing has them."""
     rows = book_at(path).rows
-    listing = ((listings or path.parent) / (path.stem + ".listing")).read_text()
     first_line = rf"states (\d+) joins (\d+) distinct {len(set(rows))}\n"
-    return len(prefix_tree(rows)), *map(int, re.match(first_line, listing).groups()), len(set(rows))
+    return len(prefix_tree(rows)), *map(int, re.match(first_line, path.with_suffix(".listing").read_text()).groups()), len(set(rows))
 
 
 class Formats(unittest.TestCase):
@@ -75,15 +72,6 @@ class Formats(unittest.TestCase):
         said = re.findall(r"(no|one|two) rows? ends? there .*; (?:lunch|snack) is passed (once|twice|three times|four times) ", section)
         read = [state for one in counted for state in plans.read_counts(one.counts, one.table)]
         self.assertEqual([(words[ends], words[passed]) for ends, passed in said], [(one.ends, one.passes[0][1]) for one in read])
-
-    def test_book_without_a_class_field(self):
-        blocks = FORMATS.split("\n## A book without a class field\n")[1].split("\n## ")[0].split("```\n")
-        book, table, ward_table = map(bytes_of, blocks[1::2])
-        self.assertIsNone(plans.read_book(book).named_class)
-        for shown, before, ward in [(table, blocks[2], False), (ward_table, blocks[4], True)]:
-            self.assertEqual(plans.build(book, ward=ward).table, shown)
-            field = bytes.fromhex(re.search("as if `([0-9A-F ]+)`", before)[1])
-            self.assertEqual(plans.build(book[:8] + field + book[8:]).table, shown)
 
     def test_state_that_leads_to_no_end(self):
         heading = "A table with a state that leads to no end"
@@ -131,19 +119,13 @@ class Formats(unittest.TestCase):
             self.assertEqual(caught.exception.number, number)
 
     def test_shipped_books(self):
-        numbers = r"(\d+), (\d+), (\d+), (\d+) \|"
-        shown = re.findall(rf"^\| `(\w+)` \| [^|]* \| ([^|]*) \| (\d+), (\d+) \| {numbers}$", FORMATS, re.MULTILINE)
+        shown = re.findall(r"^\| `(\w+)` \| [^|]* \| [^|]* \| (\d+), (\d+) \| (\d+), (\d+), (\d+), (\d+) \|$", FORMATS, re.MULTILINE)
         self.assertEqual(sorted(row[0] for row in shown), sorted(path.stem for path in (EXAMPLES / "books").glob("*.txt")))
-        wards = re.findall(rf"^\| `(\w+)` .*\n\| \| \| none: for wards (.*) \| \| {numbers}$", FORMATS, re.MULTILINE)
-        self.assertEqual([row[0] for row in wards], [row[0] for row in shown if row[1].startswith("none: ")])
-        for name, named_class, *found in shown:
+        for name, *numbers in shown:
             path = EXAMPLES / "books" / (name + ".txt")
             book = book_at(path)
-            self.assertEqual(named_class, str(book.named_class or f"none: {plans.DEFAULT_CLASS}"))
-            self.assertEqual(tuple(map(int, found)), (len(book.rows), len(book.names)) + counts(path), name)
-        for name, named_class, *found in wards:
-            self.assertEqual(named_class, str(plans.WARD_CLASS))
-            self.assertEqual(tuple(map(int, found)), counts(EXAMPLES / "books" / (name + ".txt"), EXAMPLES / "wards"), name)
+            found = (len(book.rows), len(book.names)) + counts(path)
+            self.assertEqual(tuple(map(int, numbers)), found, name)
 
 
 class Sources(unittest.TestCase):

@@ -4,9 +4,7 @@ import unittest
 from pathlib import Path
 
 INPUT_LIMIT = 65535
-ROOT = Path(__file__).resolve().parents[2]
-PROGRAM = ROOT / "target" / "bin" / "listing"
-EXAMPLES = ROOT / "examples"
+PROGRAM = Path(__file__).resolve().parents[2] / "target" / "bin" / "listing"
 EXAMPLE = bytes.fromhex("01 00 05 73 6E 61 63 6B 02 00 03 00 01 01 03 00 02 00 00")
 
 
@@ -16,15 +14,6 @@ class Listing(unittest.TestCase):
 
     def test_the_example_book(self):
         self.assertEqual(self.printed(EXAMPLE), "states 2 joins 1 distinct 1\n0 - snack>1\n1 + snack>1\n")
-
-    def test_books_without_a_class_field(self):
-        """Their class is context (2,2); the ward kitchens' listings are in examples/wards."""
-        shipped, worked_days = EXAMPLES / "books", EXAMPLES / "worked_days"
-        days = ROOT / "crates" / "worked_days" / "data"
-        for name, books, listings in [("course", shipped, shipped), ("four", shipped, shipped),
-                                      ("Q3", days, worked_days), ("Q4", days, worked_days)]:
-            listed = (listings / f"{name}.listing").read_text()
-            self.assertEqual(self.printed((books / f"{name}.book").read_bytes()), listed, name)
 
     def test_empty_input(self):
         self.assertEqual(self.printed(b""), "refused 4\n")

@@ -110,7 +110,7 @@ class Drawings(unittest.TestCase):
         self.assertEqual(whole, [])
 
     def test_titles(self):
-        for text, title in [("snack\n", "context (2,2): 2 states, 0 joins, 1 different row"),
+        for text, title in [("snack\n", "context (2,1): 2 states, 0 joins, 1 different row"),
                             ("class = seen\nsnack\nsnack snack\n", "seen set: 2 states, 1 join, 2 different rows"),
                             ("class = last 0\nsnack\n-\nsnack\n", "last 0: 1 state, 1 join, 2 different rows")]:
             built = plans.build(plans.read_text(text).book())

@@ -23,43 +23,16 @@ def row_of(shown: str) -> tuple:
 
 class Scope(unittest.TestCase):
     def test_worked_days(self):
-        line = r"^\| ([PQ]\d+)( for wards)? \| ([^|]*) \| ([^|]*) \| (\d+), (\d+), (\d+), (\d+) \|"
+        line = r"^\| ([PQ]\d+) \| ([^|]*) \| ([^|]*) \| (\d+), (\d+), (\d+), (\d+) \|"
         shown = re.findall(line, section("10. Worked days"), re.MULTILINE)
-        self.assertEqual({row[0] for row in shown if not row[1]}, {path.stem for path in DAYS.glob("[PQ]*.txt")})
-        self.assertEqual([row[0] for row in shown if row[1]], [row[0] for row in shown if row[2] == "none" and not row[1]])
-        for day, ward, class_shown, rows, *numbers in shown:
+        self.assertEqual({row[0] for row in shown}, {path.stem for path in DAYS.glob("[PQ]*.txt")})
+        for day, class_shown, rows, *numbers in shown:
             named_class = None if class_shown == "none" else plans.read_class(class_shown)
             book = plans.Book(NAMES, named_class, tuple(map(row_of, rows.split(", "))))
             self.assertEqual(plans.read_text((DAYS / (day + ".txt")).read_bytes()).book(), book, day)
-            built = plans.build(book, ward=bool(ward))
+            built = plans.build(book)
             found = (len(prefix_tree(book.rows)), built.states, built.joins, built.distinct)
-            self.assertEqual(tuple(map(int, numbers)), found, day + ward)
-
-    def test_rows_of_P6_without_a_class_field(self):
-        book = plans.read_text((DAYS / "Q4.txt").read_bytes()).book()
-        for ward, day in [(False, "P7"), (True, "P6")]:
-            named = plans.read_text((DAYS / (day + ".txt")).read_bytes()).book()
-            self.assertEqual(named.rows, book.rows)
-            self.assertEqual(plans.build(book, ward=ward), plans.build(named))
-            self.assertEqual(plans.build(named, ward=True), plans.build(named))
-
-    def test_walks_over_both_tables_of_Q4(self):
-        book = plans.read_text((DAYS / "Q4.txt").read_bytes()).book()
-        outcomes = [plans.walk(plans.build(book, ward=ward).table, row_of("dsb")).outcome for ward in (False, True)]
-        self.assertEqual(outcomes, [plans.Outcome.STOPS, plans.Outcome.ADMITTED])
-        output = (ROOT / "crates" / "worked_days" / "stdout").read_text()
-        shown = re.findall(r"^dinner snack breakfast over .*: outcome (\d)$", output, re.MULTILINE)
-        self.assertEqual(list(map(int, shown)), [outcome.value for outcome in outcomes])
-
-    def test_default_classes(self):
-        default = (r"Without a class field its class is context, k = (\d), h = (\d), and to the "
-                   r"ward kitchens' entries context, k = (\d), h = (\d);")
-        k, h, ward_k, ward_h = map(int, re.search(default, " ".join(section("3. Fields").split())).groups())
-        self.assertEqual((plans.Class(0, k, h), plans.Class(0, ward_k, ward_h)), (plans.DEFAULT_CLASS, plans.WARD_CLASS))
-        definitions = (ROOT / "crates" / "model" / "specs" / "Fields.antt").read_text()
-        self.assertIn(f"\nstandard = record {{ default-class = class-of context-kind {k} {h} }}\n", definitions)
-        self.assertIn(f"\nward = record {{ default-class = class-of context-kind {ward_k} {ward_h} }}\n", definitions)
-        self.assertIn(f"A book without a class field is listed with context, k = {k}, h = {h}.", section("8. The listing"))
+            self.assertEqual(tuple(map(int, numbers)), found, day)
 
     def test_joining_step_by_step(self):
         shown = section("7. From rows to a table").split("```\n")[1]

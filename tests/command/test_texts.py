@@ -5,8 +5,7 @@ import time
 import tracemalloc
 import unittest
 
-from plans import (DEFAULT_CLASS, WARD_CLASS, BadClass, BadText, Book, Class, build, read_book, read_class, read_text, write_book,
-                   write_text)
+from plans import BadClass, BadText, Book, Class, build, read_book, read_class, read_text, write_book, write_text
 from plans.showing import nearest, plain, shown, suggested
 from samples import a_sample, book_of, loosened
 
@@ -35,13 +34,11 @@ class ThereAndBack(unittest.TestCase):
         self.assertEqual(text.names(), {"dinner": 1, "lunch": 3, "tea": 0})
         self.assertEqual(write_text(book), "names = tea\nlunch dinner\n-\nlunch\nlunch\n")
 
-    def test_class_that_a_book_without_one_has_is_kept(self):
-        for line, named_class in [("class = 2 2\n", DEFAULT_CLASS), ("class = 2 1\n", WARD_CLASS)]:
-            book = read_text(line + "lunch\n").book()
-            self.assertEqual(book.named_class, named_class)
-            self.assertEqual(write_text(book), line + "lunch\n")
+    def test_class_equal_to_the_default_is_kept(self):
+        book = read_text("class = 2 1\nlunch\n").book()
+        self.assertEqual(book.named_class, Class(0, 2, 1))
+        self.assertEqual(write_text(book), "class = 2 1\nlunch\n")
         self.assertIsNone(read_text("lunch\n").book().named_class)
-        self.assertEqual(write_text(read_text("lunch\n").book()), "lunch\n")
 
     def test_names_that_look_like_settings(self):
         self.assertEqual(read_text("class names\nnames: class:\n").book().names, ("class", "class:", "names", "names:"))

@@ -7,8 +7,7 @@ LIBRARY = Path(os.environ["PLANS_LIB"]) / "libplans.a"
 
 # Every entry of the library is held to it that nothing divides but by 256, also one that comes later, but for these, with what they
 # divide by: a listing has decimal numbers, and a plan's names are found by hashes and by halving a list. None of them is a build entry.
-DECIMAL = frozenset({"10"})
-DIVIDING = {"plans_list": DECIMAL, "plans_list_ward": DECIMAL, "plans_read_rows": frozenset({"2", "HASHES"})}
+DIVIDING = {"plans_list": frozenset({"10"}), "plans_read_rows": frozenset({"2", "HASHES"})}
 
 # The entries that build.
-BUILDS = ("plans_build", "plans_build_counted", "plans_build_ward", "plans_build_counted_ward")
+BUILDS = ("plans_build", "plans_build_counted")

@@ -132,15 +132,11 @@ class Entries(unittest.TestCase):
 
 class Seeds(unittest.TestCase):
     def test_division_in_any_function_that_a_build_reaches(self):
-        reached = {name: TREE.reached(ENTRIES[name]).functions for name in BUILDS}
-        every = {path: function for functions in reached.values() for path, function in functions.items()}
-        for turn, (path, function) in enumerate(every.items()):
-            # the builds that reach a function take turns
-            names = [name for name in BUILDS if path in reached[name]]
-            name = names[turn % len(names)]
-            with self.subTest(path, entry=name):
-                (found,) = found_with(function.module.file, function.body + 1, "let seed = 7 / 3;", ENTRIES[name])
-                self.assertTrue(found.endswith(f": {path} divides by 3"), found)
+        for name in BUILDS:
+            for path, function in TREE.reached(ENTRIES[name]).functions.items():
+                with self.subTest(path, entry=name):
+                    (found,) = found_with(function.module.file, function.body + 1, "let seed = 7 / 3;", ENTRIES[name])
+                    self.assertTrue(found.endswith(f": {path} divides by 3"), found)
 
     def test_each_form_of_division_and_call(self):
         for seed, told in FOUND.items():

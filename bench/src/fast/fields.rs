@@ -49,7 +49,7 @@ fn class_of(body: &[u8]) -> Result<Class, Refusal> {
 
 /// Reads names and class, up to the first field that is neither.
 pub fn read_front(bytes: &[u8]) -> Result<Front, Refusal> {
-    let mut front = Front { names: 0, names_end: 0, class: Class::DEFAULT, class_given: false, end: 0 };
+    let mut front = Front { names: 0, names_end: 0, class: Class::Context(2, 1), class_given: false, end: 0 };
     let mut last: &[u8] = &[];
     while front.end < bytes.len() {
         let (mark, body) = field_at(bytes, front.end)?;

@@ -59,8 +59,8 @@ pub no_name : (kind : FileKind) (stage mark : ℕ) → mark ≡ 1 → 1 < stage 
 no_name kind stage mark m h = rw (m, lt-leb stage 1 h)
 
 module _ (kind : FileKind) (stage mark : ℕ) (takes : Bool) where
-  pub no_class : takes ≡ takes_class kind → mark ≡ 2 → (takes && eqb stage 1) ≡ false → may_come kind stage mark ≡ false
-  no_class k m h = rw (m, sym k, h)
+  pub no-class : takes ≡ takes_class kind → mark ≡ 2 → (takes && eqb stage 1) ≡ false → may_come kind stage mark ≡ false
+  no-class k m h = rw (m, sym k, h)
 
   pub no_row : takes ≡ takes_rows kind → mark ≡ 3 → (takes && leb 1 stage) ≡ false → may_come kind stage mark ≡ false
   no_row k m h = rw (m, sym k, h)

@@ -53,15 +53,8 @@ pub struct Settings {
     pub second: u8,
 }
 
-// The settings of docs/SCOPE.md, section 3.5: context, k = 2, h = 2.
+// The settings of docs/SCOPE.md, section 3.5: context, k = 2, h = 1.
 pub const STANDARD: Settings = Settings {
-    kind: CONTEXT_KIND,
-    first: 2,
-    second: 2,
-};
-
-// Those of the ward kitchens' entries: context, k = 2, h = 1.
-pub const WARD: Settings = Settings {
     kind: CONTEXT_KIND,
     first: 2,
     second: 1,

@@ -1,6 +1,6 @@
--- What is handed over with a build that has counts, with whichever allowed settings: the standard ones of build_counted and
--- plans_build_counted, the wards' of build_counted_ward and plans_build_counted_ward. First a build with counts, then what is said of every
--- one, refused or not, then of those that are not refused. `counted-handed_over` of proofs/Counted.antt proves it. Assumes nothing.
+-- What is handed over with a build that has counts, with whichever allowed settings; calls of build_counted, and of plans_build_counted for
+-- C, are those with the standard ones. First a build with counts, then what is said of every one, refused or not, then of those that are
+-- not refused. `counted-handed_over` of proofs/Counted.antt proves it. Assumes nothing.
 use Rattle.std.specs.Prelude.{◌≡◌, List, ℕ, ◌<◌, ◌≤◌, length, take}
 use Rattle.base.specs.Limits.{counts_bytes, output_too_short}
 use Rattle.model.specs.Fields.{Settings, Allowed, File}
@@ -13,7 +13,7 @@ use Rattle.results.specs.Says.{BuildSays, CountedSays, not_counted, uncounted}
 use Rattle.handed_over.specs.Handed.{HandedOver}
 
 -- a build with counts: its settings, the book, the working area and both outputs before and after, and what is given back; what
--- build_counted and build_counted_ward promise is such a `says`, with their settings
+-- build_counted promises is such a `says`, with the standard settings
 pub record CountedBuild : Type 0 where
   pub settings : Settings
   pub allowed : Allowed settings

@@ -1,6 +1,6 @@
--- What is handed over with build: demand 3, undivided, said of the bytes that builds wrote, with whichever allowed settings; those of
--- build_table and plans_build are the standard ones, those of build_ward and plans_build_ward the wards'. First what one table is, then
--- builds, then all of it. `build_handed_over` of proofs/Handed.antt proves it. Assumes nothing.
+-- What is handed over with build: demand 3, undivided, said of the bytes that builds wrote, with whichever allowed settings; calls
+-- of build_table, and of plans_build for C, are those with the standard ones. First what one table is, then builds, then all of it.
+-- `build_handed_over` of proofs/Handed.antt proves it. Assumes nothing.
 use Rattle.std.specs.Prelude.{◌≡◌, true, List, ℕ, take}
 use Rattle.base.specs.Lists.{has_row}
 use Rattle.model.specs.Fields.{Settings, Allowed, File}
@@ -41,7 +41,7 @@ pub record HandedOver (book : File) (table : List ℕ) : Type 1 where
       (r : Word) → TableAdmits table r → l r
 
 -- a build that is not refused: its settings, the book, the working area and the output before and after, and what is given back;
--- what build_table promises is such a `says`, with the standard settings, and what build_ward promises is one with the wards'
+-- what build_table promises is such a `says`, with the standard settings
 pub record AcceptedBuild : Type 0 where
   pub settings : Settings
   pub allowed : Allowed settings

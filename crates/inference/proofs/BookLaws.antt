@@ -80,10 +80,10 @@ module _ (s : List ℕ) (f : File) (a b : ℕ) (body rest : List ℕ) (size : le
         bytes = bytes_after body rest h.bytes.1.1.1;
       }
 
-  with_class_fact :
+  with_class :
       f.stage ≡ 1 → class_ok body ≡ true → Keeps s f (2 ∷ (a ∷ (b ∷ (body ++ rest)))) → Keeps s (with_field f 2 body) rest
   unfolding with_field
-  with_class_fact at ok h =
+  with_class at ok h =
       record {
         class_ok_fact = (class_parts body ok).1;
         no_rows = λ p. h.no_rows (omega arith);
@@ -116,7 +116,7 @@ module _ (s : List ℕ) (f : File) (a b : ℕ) (body rest : List ℕ) (size : le
       (mark : ℕ) → Fitting book f mark body → Keeps s f (mark ∷ (a ∷ (b ∷ (body ++ rest)))) →
       Keeps s (with_field f mark body) rest
   book_step mark (a_name e low fits) h = at_mark (Keeps s) f a b body rest mark 1 e (with_name low) h
-  book_step mark (a_class k e at fits) h = at_mark (Keeps s) f a b body rest mark 2 e (with_class_fact at fits) h
+  book_step mark (a_class k e at fits) h = at_mark (Keeps s) f a b body rest mark 2 e (with_class at fits) h
   book_step mark (a_row k e high fits) h = at_mark (Keeps s) f a b body rest mark 3 e (with_row fits) h
   book_step mark (a_state k e high fits) h = absurd (false≢true k)
 

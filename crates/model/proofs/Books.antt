@@ -86,9 +86,9 @@ with_name f body low fits ok =
       rows_ok = λ r m. absurd (Memᴰ.not-nil (subst (λ (z : List (List ℕ)). In r z) (ok.no_rows (omega arith)) m));
     }
 
-with_class_fact : (f : File) (body : List ℕ) → f.stage ≡ 1 → class_ok body ≡ true → BookOk f → BookOk (with_field f 2 body)
+with_class : (f : File) (body : List ℕ) → f.stage ≡ 1 → class_ok body ≡ true → BookOk f → BookOk (with_field f 2 body)
 unfolding with_field
-with_class_fact f body at fits ok =
+with_class f body at fits ok =
     record {
       names_ok = ok.names_ok;
       named = λ h. ok.named (omega arith);
@@ -124,7 +124,7 @@ pub book_step :
 book_step kind none f mark body (a_name e low fits) ok =
     subst (λ (m : ℕ). BookOk (with_field f m body)) (sym e) (with_name f body low fits ok)
 book_step kind none f mark body (a_class k e at fits) ok =
-    subst (λ (m : ℕ). BookOk (with_field f m body)) (sym e) (with_class_fact f body at fits ok)
+    subst (λ (m : ℕ). BookOk (with_field f m body)) (sym e) (with_class f body at fits ok)
 book_step kind none f mark body (a_row k e high fits) ok =
     subst (λ (m : ℕ). BookOk (with_field f m body)) (sym e) (with_row f body high fits ok)
 book_step kind none f mark body (a_state k e high fits) ok = absurd (false≢true (sym none ∙ k))
@@ -139,14 +139,10 @@ read_book_lem settings allowed s ok =
     (λ f mark a b body rest size fit h. book_step book refl f mark body (fitting book f mark body fit) h)
     (suc (length s)) (unread settings.default_class) s (nothing_read settings.default_class allowed) ok
 
--- an accepted book is read without a fault
-pub accepted_read : (settings : Settings) (s : List ℕ) → Accepted settings s → (read_book settings s).number ≡ 0
-unfolding book_fault
-accepted_read settings s ok = (first_of_lem (read_book settings s).number (tree_fault (book_of settings s).items) ok).0
-
--- so it is sound
+-- so is an accepted book
 pub accepted_book :
     (settings : Settings) → Allowed settings → (s : List ℕ) → Accepted settings s →
     ((book_of settings s).stage ≡ 3) × BookOk (book_of settings s)
-unfolding book_of
-accepted_book settings allowed s ok = read_book_lem settings allowed s (accepted_read settings s ok)
+unfolding book_of book_fault
+accepted_book settings allowed s ok =
+    read_book_lem settings allowed s (first_of_lem (read_book settings s).number (tree_fault (book_of settings s).items) ok).0

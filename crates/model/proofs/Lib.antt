@@ -28,7 +28,7 @@ pub mod Reached
 pub mod Paired
 pub mod Numbering
 -- reading: states that can be written, what one field and one turn of reading tell, tables read back and rewritten, lists of
--- names and the books that rows make of them, books with a class field and without one, and the states of accepted tables
+-- names and the books that rows make of them, and the states of accepted tables
 pub mod Writable
 pub mod MetOrder
 pub mod ArcCount
@@ -45,7 +45,6 @@ pub mod WrittenLengths
 pub mod Rewriting
 pub mod NameLists
 pub mod RowBooks
-pub mod Defaults
 pub mod Reading
 pub mod TableBodies
 -- demands: all full joinings have one table, where the words of the prefix tree lead in it, contextual sets by their automata, the

@@ -23,7 +23,7 @@ abbrev names_after : ℕ → ℕ → List (List ℕ) → Class → List ℕ → 
 names_after l stage names d s = (read_from l name_list (file stage names d []) s).file_is.names
 
 -- a field of a list of names is a name
-pub only_name :
+only_name :
     (f : File) (mark : ℕ) (body : List ℕ) → Fitting name_list f mark body → (mark ≡ 1) × (f.stage ≤ 1) × NameFits f.names body
 only_name f mark body (a_name e low fits) = (e, low, fits)
 only_name f mark body (a_class k e at fits) = absurd (false≢true k)
@@ -92,7 +92,7 @@ module _ (kind : FileKind) (c d : Class) (rest : List ℕ) (r : Read) where
 
 module _ (settings : Settings) where
   -- an accepted list of names, and what is read after it
-  pub after-names :
+  after-names :
       (s rest : List ℕ) (r : Read) → (read_names s).number ≡ 0 →
       ReadsTo book (file 1 (names_of s) settings.default_class []) rest r → read_book settings (s ++ rest) ≡ r
   unfolding read_with
@@ -107,7 +107,7 @@ module _ (settings : Settings) where
         without_class = λ s rows ok rows_ok.
             after-names s (row_fields rows) (accepted_file (file 3 (names_of s) settings.default_class rows)) ok
             (reads-rows 1 (names_of s) settings.default_class rows (omega arith) rows_ok.some rows_ok.each rows_ok.few);
-        with_class_fact = λ s c rows ok class_ok_fact rows_ok.
+        with_class = λ s c rows ok class_ok_fact rows_ok.
             let r = accepted_file (file 3 (names_of s) c rows) in
             after-names s (class_field c ++ row_fields rows) r ok
             (reads-class book refl (names_of s) settings.default_class c (row_fields rows) r class_ok_fact

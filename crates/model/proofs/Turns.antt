@@ -1,12 +1,12 @@
--- One turn of reading: the input's end, a refusal, or a field and what is left; one turn of two readings side by side; and the law by
--- which what each field keeps holds of an accepted file. Assumes nothing.
+-- One turn of reading: the input's end, a refusal, or a field and what is left; and the law by which what each field keeps
+-- holds of an accepted file. Assumes nothing.
 use mathlib.Core.Path.{◌≡◌, refl, sym, ap, ap₂, ◌∙◌, subst}
-use mathlib.Core.Bool.{Bool, true, false, cond, false≢true}
+use mathlib.Core.Bool.{Bool, true, false, cond}
 use mathlib.Core.List.{List, [], ◌∷◌, ◌++◌}
-use Prim.Native.Nat.{ℕ, zero, suc, ◌+◌, ◌*◌, ◌≤◌, ◌<◌}
+use Prim.Native.Nat.{ℕ, zero, suc, ◌+◌, ◌*◌, ◌≤◌}
 use native.Mathlib.Omega.{arith}
 use lib.Dec.{eqb, ltb, eqb-suc-zero}
-use lib.ListN.{length, get_or, take, drop, length-append, length-drop, take-append-drop}
+use lib.ListN.{length, get_or, take, drop, length-append, take-append-drop}
 use lib.Seq.{length-take-le, take_at, drop_at}
 use borrow.Author.Tests.{ltb-false, le-ltb, eqb-true, eq-eqb, ne_eqb}
 use Rattle.base.specs.Limits.{cut_off, unfinished}
@@ -39,13 +39,6 @@ module _ (l : ℕ) (kind : FileKind) (f : File) (s : List ℕ) where
 three_more : (n : ℕ) → 3 + n ≡ suc (suc (suc n))
 three_more n = omega arith
 
--- what comes after the field at the front
-pub after-field :
-    (mark a b : ℕ) (body rest : List ℕ) → length body ≡ 256 * a + b → after_field (mark ∷ (a ∷ (b ∷ (body ++ rest)))) ≡ rest
-after-field mark a b body rest size =
-    let n = 256 * a + b in
-    ap (λ (k : ℕ). drop k (mark ∷ (a ∷ (b ∷ (body ++ rest))))) (three_more n) ∙ drop_at body rest n size
-
 -- the field at the front is read, and what comes after it is left
 pub one_field :
     (l : ℕ) (kind : FileKind) (f : File) (mark a b : ℕ) (body rest : List ℕ) → length body ≡ 256 * a + b →
@@ -56,7 +49,7 @@ one_field l kind f mark a b body rest size ok =
     let s = mark ∷ (a ∷ (b ∷ (body ++ rest))) in
     let total : length s ≡ 3 + (length body + length rest) = omega (arith, length-append body rest) in
     let here-body : take n (body ++ rest) ≡ body = take_at body rest n size in
-    let here-rest : drop (3 + n) s ≡ rest = after-field mark a b body rest size in
+    let here-rest : drop (3 + n) s ≡ rest = ap (λ (k : ℕ). drop k s) (three_more n) ∙ drop_at body rest n size in
     let fault = field_fault kind f mark (take n (body ++ rest)) in
     let no_fault : fault ≡ 0 = ap (λ (x : List ℕ). field_fault kind f mark x) here-body ∙ ok in
     let whole : runs_past s ≡ false = or_false (le-ltb (length s) 3 (omega arith)) (le-ltb (length s) (3 + n) (omega arith)) in
@@ -116,44 +109,6 @@ turn l kind f s = go (eqb (length s) 0) refl (runs_past s) refl
     go false e false p =
         let q = false_or (ltb (length s) 3) (ltb (length s) (3 + stated_length s)) p in
         turn_whole l kind f s e p (ltb-false (length s) 3 q.0) (ltb-false (length s) (3 + stated_length s) q.1)
-
--- a field takes at least one byte
-fewer_left : (s : List ℕ) → eqb (length s) 0 ≡ false → length (after_field s) < length s
-fewer_left [] e = absurd (false≢true (sym e))
-fewer_left (x ∷ s) e = omega (arith, length-drop (3 + stated_length (x ∷ s)) (x ∷ s))
-
--- two readings of the same bytes, from files to which the first field has the same fault or none: what holds of the two ends, of a
--- refusal and itself, and of the two readings after that field, holds of the two readings
-pub turns-alike :
-    (P : Read → Read → Type 0) (l m : ℕ) (kind : FileKind) (f g : File) (s : List ℕ) →
-    P (at_end kind f) (at_end kind g) → ((n : ℕ) → P (refused n) (refused n)) →
-    field_fault kind f (get_or s 0 0) (body_of s) ≡ field_fault kind g (get_or s 0 0) (body_of s) →
-    (length (after_field s) < length s →
-    P (read_from l kind (with_field f (get_or s 0 0) (body_of s)) (after_field s))
-    (read_from m kind (with_field g (get_or s 0 0) (body_of s)) (after_field s))) →
-    P (read_from (suc l) kind f s) (read_from (suc m) kind g s)
-turns-alike P l m kind f g s ends refuses same after =
-    go (eqb (length s) 0) refl (runs_past s) refl (eqb (fault f) 0) refl
-  where
-    Result : Type 0
-    Result = P (read_from (suc l) kind f s) (read_from (suc m) kind g s)
-
-    fault : File → ℕ
-    fault h = field_fault kind h (get_or s 0 0) (body_of s)
-
-    both : (x y : Read) → read_from (suc l) kind f s ≡ x → read_from (suc m) kind g s ≡ y → P x y → Result
-    both x y p q h = subst (λ (z : Read). P z (read_from (suc m) kind g s)) (sym p) (subst (λ (z : Read). P x z) (sym q) h)
-
-    go : (t : Bool) → eqb (length s) 0 ≡ t → (u : Bool) → runs_past s ≡ u → (v : Bool) → eqb (fault f) 0 ≡ v → Result
-    go true e u p v q = both (at_end kind f) (at_end kind g) (at-stop l kind f s e) (at-stop m kind g s e) ends
-    go false e true p v q =
-        both (refused cut_off) (refused cut_off) (at_cut l kind f s e p) (at_cut m kind g s e p) (refuses cut_off)
-    go false e false p false q =
-        both (refused (fault f)) (refused (fault f)) (at-fault l kind f s e p q)
-        (at-fault m kind g s e p (subst (λ (n : ℕ). eqb n 0 ≡ false) same q) ∙ ap refused (sym same)) (refuses (fault f))
-    go false e false p true q =
-        both _ _ (at_field l kind f s e p q) (at_field m kind g s e p (subst (λ (n : ℕ). eqb n 0 ≡ true) same q))
-        (after (fewer_left s e))
 
 -- what holds of a file and of what is left to read, and is kept by each field without a fault, holds at an accepted end
 module _ (kind : FileKind) (P : File → List ℕ → Type 0)

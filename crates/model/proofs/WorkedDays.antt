@@ -1,5 +1,5 @@
 -- The worked days hold: what the days, notes and listing of docs/SCOPE.md say is so of the definitions. In order: the
--- tests that compute, all in one lemma, whose line `unfolding` names every definition that computes; the default classes, told by
+-- tests that compute, all in one lemma, whose line `unfolding` names every definition that computes; the default class, told by
 -- Q3's states; and the theorem. Assumes nothing.
 use mathlib.Core.Path.{◌≡◌, refl, sym, ap, ap₂, ◌∙◌, subst}
 use mathlib.Core.Logic.{⊎_elim}
@@ -12,7 +12,7 @@ use lib.Dec.{eqb, leb}
 use lib.ListN.{length}
 use Rattle.base.specs.Limits.{setting_limit}
 use Rattle.base.specs.Lists.{any, any_two, all, filter_by, numbers_from, is_in, index_in, same, has_row, before, last_or}
-use Rattle.model.specs.Fields.{Class, class_of, ClassOk, Settings, standard, ward, settings_ok}
+use Rattle.model.specs.Fields.{Class, class_of, ClassOk, standard, settings_ok}
 use Rattle.model.specs.Fields.{name_ok, all_below, above, name_fault, class_fault, row_fault, state_fault, state_ok, arcs_ok}
 use Rattle.model.specs.Fields.{field_fault, with_field, read_from, read_with}
 use Rattle.model.specs.Tables.{State}
@@ -30,7 +30,7 @@ use Rattle.model.specs.Calls.{book_of, book_fault, joins_of, different_rows, dis
 use Rattle.model.specs.Claims.{all_among}
 use Rattle.model.specs.Listing.{digits, arc_text, state_line, state_lines, first_line, listing, refusal_text, listing_fault, listing_of}
 use Rattle.model.specs.WorkedDays.{same_rows, rows_of_length, short_rows, accepting_in, remark_holds, is_file, day_holds}
-use Rattle.model.specs.WorkedDays.{example_holds, days_hold, Day, p2, q3, q4_ward, finite_days, TellsDefault, DaysClaimed}
+use Rattle.model.specs.WorkedDays.{example_holds, days_hold, Day, p2, q3, finite_days, TellsDefault, DaysClaimed}
 use Rattle.base.proofs.Tests.{Tells, decided, tells_itself, tells_eqb, tells_leb, tells_and, tells_or, tells_not}
 use Rattle.base.proofs.Tests.{tells_same, tells_all}
 use Rattle.base.proofs.Lists.{in-flatMap, in-filterBy}
@@ -40,8 +40,8 @@ use Rattle.model.proofs.Walkable.{walkable, walkableTo, onlyThese, admits-only}
 -- ---- what computes
 
 -- no row of five names can be walked over the day's states, and those of at most four that they admit are the ones written down
-is_exact : Settings → Day → Bool
-is_exact settings day = onlyThese (book_states (book_of settings day.book_bytes)) 4 day.admitted_rows
+is_exact : Day → Bool
+is_exact day = onlyThese (book_states (book_of standard day.book_bytes)) 4 day.admitted_rows
 
 -- the states of Q3's book where this class is the default
 states_by : Class → List State
@@ -53,31 +53,23 @@ candidates =
     flat_map (λ (kind : ℕ).
     flat_map (λ (x : ℕ). map (class_of kind x) (numbers_from (suc x) 0)) (numbers_from (suc setting_limit) 0)) (numbers_from 3 0)
 
--- a class field may hold the class, it is no context of more than three names, and Q3's states by it are those by another class
-gives_states : Class → Class → Bool
-gives_states by c =
+-- a class field may hold the class, it is no context of more than three names, and Q3's states by it are those by default
+gives_states : Class → Bool
+gives_states c =
     (settings_ok c.kind c.first c.second && not (eqb c.kind 0 && leb 4 c.first))
-    && same (state_fields (states_by c)) (state_fields (states_by by))
-
--- that class alone gives Q3's states by it, contexts of more than three names left out; and they are fewer than the tree's
-record Alone (by : Class) : Type 0 where
-  classes : filter_by (gives_states by) candidates ≡ by ∷ []
-  states : ℕ
-  few : leb states 5 ≡ true
-  states_are : length (states_by by) ≡ states
+    && same (state_fields (states_by c)) (state_fields (states_by standard.default_class))
 
 -- what computes
 record Computed : Type 0 where
   -- all days, all remarks and the listing
   days : days_hold ≡ true
   -- the rows admitted on the finite days
-  finite : all (is_exact standard) finite_days ≡ true
-  ward_finite : is_exact ward q4_ward ≡ true
+  finite : all is_exact finite_days ≡ true
   -- the bytes of P2's table
   p2_bytes : book_table (book_of standard p2.book_bytes) ≡ p2.table_is
-  -- each default class alone gives its states of Q3
-  default_alone : Alone standard.default_class
-  ward_alone : Alone ward.default_class
+  -- the default class alone gives Q3's states, contexts of more than three names left out
+  classes : filter_by gives_states candidates ≡ standard.default_class ∷ []
+  default_states : length (states_by standard.default_class) ≡ 4
   -- contexts of more than three names join nothing, since Q3's rows have at most three, and leave all six tree states
   long_contexts : (m h : ℕ) → length (states_by (class_of 0 (suc (suc (suc (suc m)))) h)) ≡ 6
 
@@ -95,22 +87,13 @@ unfolding flat_map walkable walkableTo onlyThese all_among is_exact states_by ca
     book_of book_fault joins_of different_rows distinct_of table_of table_states
     digits arc_text state_line state_lines first_line listing refusal_text listing_fault listing_of
     same_rows rows_of_length short_rows accepting_in remark_holds is_file day_holds example_holds days_hold
-computed =
-    record {
-      days = refl;
-      finite = refl;
-      ward_finite = refl;
-      p2_bytes = refl;
-      default_alone = record { classes = refl; states = 5; few = refl; states_are = refl };
-      ward_alone = record { classes = refl; states = 4; few = refl; states_are = refl };
-      long_contexts = λ m h. refl;
-    }
+computed = record { days = refl; finite = refl; p2_bytes = refl; classes = refl; default_states = refl; long_contexts = λ m h. refl }
 
 -- P2's table, by its bytes
 pub p2-table_is : book_table (book_of standard p2.book_bytes) ≡ p2.table_is
 p2-table_is = computed.p2_bytes
 
--- ---- the default classes
+-- ---- the default class
 
 -- a class that a class field may hold is among those candidates
 in_candidates : (c : Class) → ClassOk c → In c candidates
@@ -141,40 +124,38 @@ in_candidates c ok = go c.kind c.first c.second ok
         (tells_and (tells_eqb kind 1) (tells_and (tells_eqb x 0) (tells_eqb y 0)))
         (tells_and (tells_eqb kind 2) (tells_and (tells_leb x setting_limit) (tells_eqb y 0))))).fact e)
 
-module _ (by : Class) (alone : Alone by) where
-  -- a context of more than three names does not give Q3's states by that class
-  no-long-context : (c : Class) → c.kind ≡ 0 → 4 ≤ c.first → states_by c ≡ states_by by → ⊥
-  no-long-context c context long e =
-      let more : suc (suc (suc (suc (c.first - 4)))) ≡ c.first = omega arith in
-      let c-is : class_of 0 (suc (suc (suc (suc (c.first - 4))))) c.second ≡ c =
-      ap₂ (λ (kind x : ℕ). class_of kind x c.second) (sym context) more in
-      let six : length (states_by c) ≡ 6 =
-      subst (λ (d : Class). length (states_by d) ≡ 6) c-is (computed.long_contexts (c.first - 4) c.second) in
-      let fewer : length (states_by c) ≡ alone.states = ap (λ (states : List State). length states) e ∙ alone.states_are in
-      let few : alone.states ≤ 5 = (tells_leb alone.states 5).fact alone.few in
-      omega arith
+-- a context of more than three names does not give Q3's states
+no_long_context : (c : Class) → c.kind ≡ 0 → 4 ≤ c.first → states_by c ≡ states_by standard.default_class → ⊥
+no_long_context c context long e =
+    let more : suc (suc (suc (suc (c.first - 4)))) ≡ c.first = omega arith in
+    let c-is : class_of 0 (suc (suc (suc (suc (c.first - 4))))) c.second ≡ c =
+    ap₂ (λ (kind x : ℕ). class_of kind x c.second) (sym context) more in
+    let six : length (states_by c) ≡ 6 =
+    subst (λ (d : Class). length (states_by d) ≡ 6) c-is (computed.long_contexts (c.first - 4) c.second) in
+    let four : length (states_by c) ≡ 4 = ap (λ (states : List State). length states) e ∙ computed.default_states in
+    omega arith
 
-  -- that class alone gives them
-  class-told : (c : Class) → ClassOk c → states_by c ≡ states_by by → c ≡ by
-  unfolding gives_states
-  class-told c ok e =
-      ⊎_elim (λ long. absurd (no-long-context c long.0 long.1 e))
-      (λ short.
-      Memᴰ.eq_of_singleton
-      (subst (λ (cs : List Class). In c cs) alone.classes
-      (in-filterBy (gives_states by) candidates (in_candidates c ok)
-      ((tells_and
-      (tells_and (tells_itself (settings_ok c.kind c.first c.second)) (tells_not long-context))
-      (tells_same (state_fields (states_by c)) (state_fields (states_by by)))).test
-      ((ok, short), ap (λ (states : List State). state_fields states) e)))))
-      (decided long-context)
-    where
-      long-context : Tells (eqb c.kind 0 && leb 4 c.first) ((c.kind ≡ 0) × (4 ≤ c.first))
-      long-context = tells_and (tells_eqb c.kind 0) (tells_leb 4 c.first)
+-- the default class alone gives them
+class_told : (c : Class) → ClassOk c → states_by c ≡ states_by standard.default_class → c ≡ standard.default_class
+unfolding gives_states
+class_told c ok e =
+    ⊎_elim (λ long. absurd (no_long_context c long.0 long.1 e))
+    (λ short.
+    Memᴰ.eq_of_singleton
+    (subst (λ (cs : List Class). In c cs) computed.classes
+    (in-filterBy gives_states candidates (in_candidates c ok)
+    ((tells_and
+    (tells_and (tells_itself (settings_ok c.kind c.first c.second)) (tells_not long-context))
+    (tells_same (state_fields (states_by c)) (state_fields (states_by standard.default_class)))).test
+    ((ok, short), ap (λ (states : List State). state_fields states) e)))))
+    (decided long-context)
+  where
+    long-context : Tells (eqb c.kind 0 && leb 4 c.first) ((c.kind ≡ 0) × (4 ≤ c.first))
+    long-context = tells_and (tells_eqb c.kind 0) (tells_leb 4 c.first)
 
-tells_default : (settings : Settings) → Alone settings.default_class → TellsDefault settings q3
+default_told : TellsDefault q3
 unfolding book_of read_with states_by
-tells_default settings alone others ok e = class-told settings.default_class alone others.default_class ok e
+default_told settings ok e = class_told settings.default_class ok e
 
 -- ---- the theorem
 
@@ -186,9 +167,6 @@ worked_days-hold =
       computed = computed.days;
       any_length = λ day m.
           admits-only (book_states (book_of standard day.book_bytes)) 4 day.admitted_rows
-          ((tells_all (λ d. tells_itself (is_exact standard d)) finite_days).fact computed.finite day m);
-      ward_any_length =
-          admits-only (book_states (book_of ward q4_ward.book_bytes)) 4 q4_ward.admitted_rows computed.ward_finite;
-      default_told = tells_default standard computed.default_alone;
-      ward_told = tells_default ward computed.ward_alone;
+          ((tells_all (λ d. tells_itself (is_exact d)) finite_days).fact computed.finite day m);
+      default_told = default_told;
     }

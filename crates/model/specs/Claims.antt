@@ -94,7 +94,7 @@ pub record RowsMakeBooks (settings : Settings) : Type 0 where
   pub without_class :
       (s : List ℕ) (rows : List Word) → (read_names s).number ≡ 0 → RowsOk (names_of s) rows →
       read_book settings (s ++ row_fields rows) ≡ accepted_file (file items_met (names_of s) settings.default_class rows)
-  pub with_class_fact :
+  pub with_class :
       (s : List ℕ) (c : Class) (rows : List Word) → (read_names s).number ≡ 0 → ClassOk c → RowsOk (names_of s) rows →
       read_book settings (s ++ (class_field c ++ row_fields rows)) ≡ accepted_file (file items_met (names_of s) c rows)
 

@@ -39,13 +39,9 @@ pub record Settings : Type 0 where
 abbrev pub Allowed : Settings → Type 0
 Allowed settings = ClassOk settings.default_class
 
--- the settings of docs/SCOPE.md, section 3.5: context, k = 2, h = 2
+-- the settings of docs/SCOPE.md, section 3.5: context, k = 2, h = 1
 abbrev pub standard : Settings
-standard = record { default_class = class_of context_kind 2 2 }
-
--- those of the ward kitchens' entries: context, k = 2, h = 1
-abbrev pub ward : Settings
-ward = record { default_class = class_of context_kind 2 1 }
+standard = record { default_class = class_of context_kind 2 1 }
 
 -- a class field's bytes: kind and two settings
 abbrev pub class_ok : List ℕ → Bool

@@ -1,13 +1,13 @@
--- The worked days (docs/SCOPE.md, section 10): twelve over four names, and four more, each with its book's bytes and what they come to,
--- written out; two of these once more, as the ward kitchens' entries read their books; the example book of the listing; one test that
--- compares everything written here with what the definitions compute; and what is claimed of the days: that test, rows of any length, and
--- the default classes. `worked_days-hold` of proofs/WorkedDays.antt proves it all. Byte values of names and text are hexadecimal, sets of
--- names binary (s l d b from the left). Assumes nothing.
+-- The worked days (docs/SCOPE.md, section 10): twelve over four names, and three more, each with its book's bytes and what they come to,
+-- written out; the example book of the listing; one test that compares everything written here with what the definitions
+-- compute; and what is claimed of the days: that test, rows of any length, and the default class. `worked_days-hold` of
+-- proofs/WorkedDays.antt proves it all. Byte values of names and text are hexadecimal, sets of names binary (s l d b from the
+-- left). Assumes nothing.
 use Rattle.std.specs.Prelude.{◌≡◌, Bool, true, false, ◌&&◌, ℕ, zero, suc, eqb, length, get_or}
 use mathlib.Core.List.{List, [], ◌∷◌, ◌++◌, map, flat_map, Memᴰ as In}
 use Rattle.base.specs.Lists.{all, filter_by, numbers_from, same, has_row}
 use Rattle.base.specs.Limits.{items_met, context_kind, seen_set_kind, last_names_kind, admitted, on_the_way, stops}
-use Rattle.model.specs.Fields.{Class, class_of, Settings, Allowed, standard, ward, File, read_table}
+use Rattle.model.specs.Fields.{Class, class_of, Settings, Allowed, standard, File, read_table}
 use Rattle.model.specs.Tables.{State, empty_state, is_first_met, walk, admits, plain_walk}
 use Rattle.model.specs.Classes.{Word}
 use Rattle.model.specs.Joinings.{Step, step, tree_of, joined_groups, is_full_joining}
@@ -486,7 +486,7 @@ p12 =
 abbrev pub worked_days : List Day
 worked_days = p1 ∷ p2 ∷ p3 ∷ p4 ∷ p5 ∷ p6 ∷ p7 ∷ p8 ∷ p9 ∷ p10 ∷ p11 ∷ p12 ∷ []
 
--- ---- four days more: two for joins that go astray and change none of the twelve, and two for the default class
+-- ---- three days more: two for joins that go astray and change none of the twelve, and one for the default class
 
 -- Q1: seen set, bs and sbb: sb and bs have the same seen set, and that alone joins nothing
 abbrev pub q1 : Day
@@ -561,7 +561,7 @@ q2 =
           remark (s ∷ b ∷ l ∷ []) admitted 3 (s ∷ b ∷ l ∷ []) 0b0000 0 ∷ [];
     }
 
--- Q3: no class field, bs and sss: the default class, context (2,2), and no other gives these states
+-- Q3: no class field, bs and sss: the default class, context (2,1), and no other gives these states
 abbrev pub q3 : Day
 q3 =
     record {
@@ -569,75 +569,9 @@ q3 =
           names_written
           ++ (3 ∷ 0 ∷ 2 ∷ 0 ∷ 3 ∷ [])
           ++ (3 ∷ 0 ∷ 3 ∷ 3 ∷ 3 ∷ 3 ∷ []);
-      class_is = class_of context_kind 2 2;
+      class_is = class_of context_kind 2 1;
       rows = (b ∷ s ∷ []) ∷ (s ∷ s ∷ s ∷ []) ∷ [];
       tree = [] ∷ (b ∷ []) ∷ (b ∷ s ∷ []) ∷ (s ∷ []) ∷ (s ∷ s ∷ []) ∷ (s ∷ s ∷ s ∷ []) ∷ [];
-      groups = 0 ∷ 1 ∷ 2 ∷ 3 ∷ 4 ∷ 4 ∷ [];
-      joining = step 5 4 ∷ [];
-      tree_states = 6;
-      table_states_fact = 5;
-      joins = 1;
-      distinct = 2;
-      table_is =
-          names_written
-          ++ (2 ∷ 0 ∷ 3 ∷ 0 ∷ 2 ∷ 2 ∷ [])
-          ++ (4 ∷ 0 ∷ 7 ∷ 0 ∷ 0 ∷ 0 ∷ 1 ∷ 3 ∷ 0 ∷ 2 ∷ [])
-          ++ (4 ∷ 0 ∷ 4 ∷ 0 ∷ 3 ∷ 0 ∷ 3 ∷ [])
-          ++ (4 ∷ 0 ∷ 4 ∷ 0 ∷ 3 ∷ 0 ∷ 4 ∷ [])
-          ++ (4 ∷ 0 ∷ 1 ∷ 1 ∷ [])
-          ++ (4 ∷ 0 ∷ 4 ∷ 1 ∷ 3 ∷ 0 ∷ 4 ∷ []);
-      accepting = 3 ∷ 4 ∷ [];
-      admitted_rows = (b ∷ s ∷ []) ∷ (s ∷ s ∷ []) ∷ (s ∷ s ∷ s ∷ []) ∷ (s ∷ s ∷ s ∷ s ∷ []) ∷ [];
-      remarks =
-          remark (s ∷ []) on_the_way 1 (s ∷ []) 0b1000 1 ∷
-          remark (b ∷ s ∷ s ∷ []) stops 2 (b ∷ s ∷ []) 0b0000 0 ∷ [];
-    }
-
--- the rows of P6 and P7, bsl, dsl and bsb, and no class field
-abbrev pub unnamed_book : List ℕ
-unnamed_book =
-    names_written
-    ++ (3 ∷ 0 ∷ 3 ∷ 0 ∷ 3 ∷ 2 ∷ [])
-    ++ (3 ∷ 0 ∷ 3 ∷ 1 ∷ 3 ∷ 2 ∷ [])
-    ++ (3 ∷ 0 ∷ 3 ∷ 0 ∷ 3 ∷ 0 ∷ [])
-
--- what is written down of a day, of another book
-abbrev pub of_book : List ℕ → Day → Day
-of_book bytes day =
-    record {
-      book_bytes = bytes;
-      class_is = day.class_is;
-      rows = day.rows;
-      tree = day.tree;
-      groups = day.groups;
-      joining = day.joining;
-      tree_states = day.tree_states;
-      table_states_fact = day.table_states_fact;
-      joins = day.joins;
-      distinct = day.distinct;
-      table_is = day.table_is;
-      accepting = day.accepting;
-      admitted_rows = day.admitted_rows;
-      remarks = day.remarks;
-    }
-
--- Q4: that book comes to what P7's does: dsb stops after ds
-abbrev pub q4 : Day
-q4 = of_book unnamed_book p7
-
-abbrev pub further_days : List Day
-further_days = q1 ∷ q2 ∷ q3 ∷ q4 ∷ []
-
--- ---- two books without a class field, as the ward kitchens' entries read them
-
--- Q3 there: context (2,1), and no other default class gives these states
-abbrev pub q3_ward : Day
-q3_ward =
-    record {
-      book_bytes = q3.book_bytes;
-      class_is = class_of context_kind 2 1;
-      rows = q3.rows;
-      tree = q3.tree;
       groups = 0 ∷ 1 ∷ 2 ∷ 3 ∷ 3 ∷ 3 ∷ [];
       joining = step 5 4 ∷ step 4 3 ∷ [];
       tree_states = 6;
@@ -659,12 +593,8 @@ q3_ward =
           remark (b ∷ s ∷ s ∷ []) stops 2 (b ∷ s ∷ []) 0b0000 0 ∷ [];
     }
 
--- Q4 there: the book comes to what P6's does: dsb is admitted
-abbrev pub q4_ward : Day
-q4_ward = of_book unnamed_book p6
-
-abbrev pub ward_days : List Day
-ward_days = q3_ward ∷ q4_ward ∷ []
+abbrev pub further_days : List Day
+further_days = q1 ∷ q2 ∷ q3 ∷ []
 
 -- ---- the example book of the listing
 
@@ -751,14 +681,14 @@ is_file f names class items =
     && same (class_numbers f.class_is) (class_numbers class)
     && same_rows f.items items
 
--- the day's book, read with these settings, is accepted and read as written down, and everything else written down of the day is what
--- the definitions compute of that book; its walks are over the table's bytes, read back
-unfoldable pub day_holds : Settings → Day → Bool
-day_holds settings day =
-    let f = book_of settings day.book_bytes in
+-- the day's book is accepted and read as written down, and everything else written down of the day is what the definitions
+-- compute of that book; its walks are over the table's bytes, read back
+unfoldable pub day_holds : Day → Bool
+day_holds day =
+    let f = book_of standard day.book_bytes in
     let written = book_table f in
     let states = table_states written in
-    eqb (book_fault settings day.book_bytes) 0
+    eqb (book_fault standard day.book_bytes) 0
     && is_file f meal_names day.class_is day.rows
     && same_rows (tree_of f.items) day.tree
     && same (joined_groups f.class_is f.items) day.groups
@@ -784,14 +714,13 @@ example_holds =
     && same (listing_of standard example_book) example_listing
     && same (listing_of standard []) empty_listing
 
--- the example holds, and the days, the wards' and the further ones before the twelve; and the repeat of P3 has the table of P3, and the
--- listing written down above
+-- the example holds, and the days, the further ones before the twelve; and the repeat of P3 has the table of P3, and the listing
+-- written down above
 unfoldable pub days_hold : Bool
 days_hold =
     example_holds
-    && all (day_holds ward) ward_days
-    && all (day_holds standard) further_days
-    && all (day_holds standard) worked_days
+    && all day_holds further_days
+    && all day_holds worked_days
     && same (book_table (book_of standard p12.book_bytes)) (book_table (book_of standard p3.book_bytes))
     && same (listing_of standard p12.book_bytes) repeat_listing
 
@@ -799,27 +728,24 @@ days_hold =
 
 -- the days whose tables have no cycle
 abbrev pub finite_days : List Day
-finite_days = p1 ∷ p3 ∷ p4 ∷ p5 ∷ p6 ∷ p7 ∷ p11 ∷ p12 ∷ q1 ∷ q4 ∷ []
+finite_days = p1 ∷ p3 ∷ p4 ∷ p5 ∷ p6 ∷ p7 ∷ p11 ∷ p12 ∷ q1 ∷ []
 
 -- of all rows, of any length and of any numbers, the states of the day's book admit those written down and no other
-abbrev pub AdmitsOnly : Settings → Day → Type 0
-AdmitsOnly settings day =
-    (r : Word) → admits (book_states (book_of settings day.book_bytes)) r ≡ has_row r day.admitted_rows
+abbrev pub AdmitsOnly : Day → Type 0
+AdmitsOnly day = (r : Word) → admits (book_states (book_of standard day.book_bytes)) r ≡ has_row r day.admitted_rows
 
 -- the book's states tell the default class: with any other that is allowed they would be others
-abbrev pub TellsDefault : Settings → Day → Type 0
-TellsDefault settings day =
-    (others : Settings) → Allowed others →
-    book_states (book_of others day.book_bytes) ≡ book_states (book_of settings day.book_bytes) →
-    others.default_class ≡ settings.default_class
+abbrev pub TellsDefault : Day → Type 0
+TellsDefault day =
+    (settings : Settings) → Allowed settings →
+    book_states (book_of settings day.book_bytes) ≡ book_states (book_of standard day.book_bytes) →
+    settings.default_class ≡ standard.default_class
 
 -- all of it
 pub record DaysClaimed : Type 0 where
   -- the definitions compute everything that is written down
   pub computed : days_hold ≡ true
   -- on a day whose table has no cycle the rows written down are all that are admitted
-  pub any_length : (day : Day) → In day finite_days → AdmitsOnly standard day
-  pub ward_any_length : AdmitsOnly ward q4_ward
+  pub any_length : (day : Day) → In day finite_days → AdmitsOnly day
   -- the book of Q3, which has no class field, would have other states with any other default class
-  pub default_told : TellsDefault standard q3
-  pub ward_told : TellsDefault ward q3_ward
+  pub default_told : TellsDefault q3

@@ -3,62 +3,25 @@
 // area zero, and leaves each output as it was where it refuses.
 pub mod printing;
 
-ghost use Rattle.model.specs.Fields.{Allowed, standard, ward};
-ghost use Rattle.fields.specs.Places.{settings_of};
+ghost use Rattle.model.specs.Fields.{standard};
 ghost use Rattle.results.specs.Says.{BuildSays, CountedSays, RewriteSays, WalkSays, WalkedSays, ListSays, RowsSays};
 
 use base::cells::clear;
 use book_calls::{building, listing};
-use fields::{STANDARD, Settings, WARD};
+use fields::STANDARD;
 use plan_calls::reading;
 use results::{Built, Counted, PlanRows, Rewritten, Walked, Written};
 use table_calls::{rewriting, walking};
 
-// Builds with these settings, and clears the working area.
-fn build_and_clear(settings: Settings, book: &[u8], work: &mut [u8], out: &mut [u8]) -> Built
-    requires { Allowed (settings_of settings) }
-    ensures { BuildSays (settings_of settings) book.now work.old work.new
-        out.old out.new result }
-{
-    let built = building::build(settings, book, work, out);
-    clear(work);
-    built
-}
-
 // Builds the table of a book: the prefix tree of its rows, joined by the rules of its class until none applies, numbered
-// first-met. A book without a class field has context, k = 2, h = 2. `build_handed_over` of the crate handed_over says what holds of the
-// table that is written: demand 3, whole.
+// first-met. `build_handed_over` of the crate handed_over says what holds of the table that is written: demand 3, whole.
 pub fn build_table(book: &[u8], work: &mut [u8], out: &mut [u8]) -> Built
     ensures { BuildSays standard book.now work.old work.new
         out.old out.new result }
 {
-    build_and_clear(STANDARD, book, work, out)
-}
-
-// build_table for the ward kitchens: a book without a class field has context, k = 2, h = 1. `entries_handed_over` of the crate handed_over
-// says how the two agree; so it does of the entries for wards below.
-pub fn build_ward(book: &[u8], work: &mut [u8], out: &mut [u8]) -> Built
-    ensures { BuildSays ward book.now work.old work.new
-        out.old out.new result }
-{
-    build_and_clear(WARD, book, work, out)
-}
-
-// Builds with these settings and with counts, and clears the working area.
-fn count_and_clear(
-    settings: Settings,
-    book: &[u8],
-    work: &mut [u8],
-    out: &mut [u8],
-    counts: &mut [u8],
-) -> Counted
-    requires { Allowed (settings_of settings) }
-    ensures { CountedSays (settings_of settings) book.now work.old work.new
-        out.old out.new counts.old counts.new result }
-{
-    let counted = building::build_with(settings, true, book, work, out, counts);
+    let built = building::build(STANDARD, book, work, out);
     clear(work);
-    counted
+    built
 }
 
 // Builds the table of a book as build_table does, and writes how often the book's rows use each state and each arc of it to a second
@@ -67,20 +30,9 @@ pub fn build_counted(book: &[u8], work: &mut [u8], out: &mut [u8], counts: &mut 
     ensures { CountedSays standard book.now work.old work.new
         out.old out.new counts.old counts.new result }
 {
-    count_and_clear(STANDARD, book, work, out, counts)
-}
-
-// build_counted for the ward kitchens, with the table that build_ward writes.
-pub fn build_counted_ward(
-    book: &[u8],
-    work: &mut [u8],
-    out: &mut [u8],
-    counts: &mut [u8],
-) -> Counted
-    ensures { CountedSays ward book.now work.old work.new
-        out.old out.new counts.old counts.new result }
-{
-    count_and_clear(WARD, book, work, out, counts)
+    let counted = building::build_with(STANDARD, true, book, work, out, counts);
+    clear(work);
+    counted
 }
 
 // Reads a table and writes it again, to the same bytes.
@@ -124,31 +76,14 @@ pub fn walk_row<'a>(
     &row[..walked]
 }
 
-// Lists with these settings, and clears the working area.
-fn list_and_clear(settings: Settings, book: &[u8], work: &mut [u8], text: &mut [u8]) -> Written
-    requires { Allowed (settings_of settings) }
-    ensures { ListSays (settings_of settings) book.now work.old work.new
-        text.old text.new result }
-{
-    let written = listing::list(settings, book, work, text);
-    clear(work);
-    written
-}
-
 // Writes the listing of a book: a line with the states, the joins and the different rows, then one for each state.
 pub fn list_book(book: &[u8], work: &mut [u8], text: &mut [u8]) -> Written
     ensures { ListSays standard book.now work.old work.new
         text.old text.new result }
 {
-    list_and_clear(STANDARD, book, work, text)
-}
-
-// list_book for the ward kitchens: the listing of the table that build_ward writes.
-pub fn list_ward(book: &[u8], work: &mut [u8], text: &mut [u8]) -> Written
-    ensures { ListSays ward book.now work.old work.new
-        text.old text.new result }
-{
-    list_and_clear(WARD, book, work, text)
+    let written = listing::list(STANDARD, book, work, text);
+    clear(work);
+    written
 }
 
 // Reads a plan, an XML file, and writes one row field for each of its elements with the chosen name: the numbers of the element's children.
@@ -177,15 +112,6 @@ pub extern "C" fn plans_build(book: &[u8], work: &mut [u8], out: &mut [u8]) -> B
     build_table(book, work, out)
 }
 
-// build_ward for C.
-#[unsafe(no_mangle)]
-pub extern "C" fn plans_build_ward(book: &[u8], work: &mut [u8], out: &mut [u8]) -> Built
-    ensures { BuildSays ward book.now work.old work.new
-        out.old out.new result }
-{
-    build_ward(book, work, out)
-}
-
 // build_counted for C.
 #[unsafe(no_mangle)]
 pub extern "C" fn plans_build_counted(
@@ -198,20 +124,6 @@ pub extern "C" fn plans_build_counted(
         out.old out.new counts.old counts.new result }
 {
     build_counted(book, work, out, counts)
-}
-
-// build_counted_ward for C.
-#[unsafe(no_mangle)]
-pub extern "C" fn plans_build_counted_ward(
-    book: &[u8],
-    work: &mut [u8],
-    out: &mut [u8],
-    counts: &mut [u8],
-) -> Counted
-    ensures { CountedSays ward book.now work.old work.new
-        out.old out.new counts.old counts.new result }
-{
-    build_counted_ward(book, work, out, counts)
 }
 
 // rewrite_table for C.
@@ -237,15 +149,6 @@ pub extern "C" fn plans_list(book: &[u8], work: &mut [u8], text: &mut [u8]) -> W
         text.old text.new result }
 {
     list_book(book, work, text)
-}
-
-// list_ward for C.
-#[unsafe(no_mangle)]
-pub extern "C" fn plans_list_ward(book: &[u8], work: &mut [u8], text: &mut [u8]) -> Written
-    ensures { ListSays ward book.now work.old work.new
-        text.old text.new result }
-{
-    list_ward(book, work, text)
 }
 
 // rows_of_plan for C.

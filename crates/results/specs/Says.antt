@@ -41,8 +41,8 @@ building settings book work =
       writes = book_table f ∷ [];
     }
 
--- what an entry that builds with these settings promises, build_table with the standard ones and build_ward with the wards': the lent
--- slices before and after, and the result
+-- what an entry that builds with these settings promises, build_table with the standard ones: the lent slices before and after, and
+-- the result
 abbrev pub BuildSays : Settings → List ℕ → List ℕ → List ℕ → List ℕ → List ℕ → Built → Type 0
 BuildSays settings book work work' out out' r = Says (building settings book work) work work' (out ∷ []) (out' ∷ []) r
 
@@ -81,8 +81,7 @@ building_counted settings wanted book work =
       writes = book_table f ∷ (counts ∷ []);
     }
 
--- what an entry that builds with counts promises, build_counted with the standard settings and build_counted_ward with the wards': both
--- outputs before and after, and the result
+-- what an entry that builds with counts promises, build_counted with the standard settings: both outputs before and after, and the result
 abbrev pub CountedSays :
     Settings → List ℕ → List ℕ → List ℕ → List ℕ → List ℕ → List ℕ → List ℕ → Counted → Type 0
 CountedSays settings book work work' out out' counts counts' r =
@@ -170,7 +169,7 @@ listing_book settings book work =
     let text = book_listing (book_of settings book) in
     record { refusal = build_fault settings book work; none = not_written; answer = written 0 (length text); writes = text ∷ [] }
 
--- what an entry that lists books with these settings promises, list_book with the standard ones and list_ward with the wards'
+-- what an entry that lists books with these settings promises, list_book with the standard ones
 abbrev pub ListSays : Settings → List ℕ → List ℕ → List ℕ → List ℕ → List ℕ → Written → Type 0
 ListSays settings book work work' text text' r = Says (listing_book settings book work) work work' (text ∷ []) (text' ∷ []) r
 
@@ -180,8 +179,7 @@ ListSays settings book work work' text text' r = Says (listing_book settings boo
 unfoldable pub printing : Settings → List ℕ → Call ℕ
 printing settings book = record { refusal = 0; none = λ k. 0; answer = length (listing_of settings book); writes = [] }
 
--- what print_book and print_ward promise with their settings: that length; and the text at the front of the lent one, which takes every
--- listing and is untouched beyond
+-- what print_book promises: that length; and the text at the front of the lent one, which takes every listing and is untouched beyond
 pub record PrintSays (settings : Settings) (book work work' text text' : List ℕ) (r : ℕ) : Type 0 where
   pub says : Says (printing settings book) work work' [] [] r
   pub text_is : text' ≡ over (listing_of settings book) text

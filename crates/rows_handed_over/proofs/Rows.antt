@@ -102,9 +102,9 @@ rows_book list bytes rows fine ok is settings =
     let books = rows_make_books settings in
     record {
       without_class = ap (λ (z : List ℕ). read_book settings (list ++ z)) is ∙ books.without_class list rows fine ok;
-      with_class_fact = λ class class_ok_fact.
+      with_class = λ class class_ok_fact.
           ap (λ (z : List ℕ). read_book settings (list ++ (class_field class ++ z))) is
-          ∙ books.with_class_fact list class rows fine class_ok_fact ok;
+          ∙ books.with_class list class rows fine class_ok_fact ok;
     }
 
 module _ (c : RowsCall) where

@@ -53,7 +53,7 @@ pub record Traced (c : RowsCall) (plan : Plan) : Type 0 where
 pub record MakesBook (list bytes : List ℕ) (rows : List (List ℕ)) (settings : Settings) : Type 0 where
   pub without_class :
       read_book settings (list ++ bytes) ≡ accepted_file (file items_met (names_of list) settings.default_class rows)
-  pub with_class_fact : (class : Class) → ClassOk class →
+  pub with_class : (class : Class) → ClassOk class →
       read_book settings (list ++ (class_field class ++ bytes)) ≡ accepted_file (file items_met (names_of list) class rows)
 
 -- calls that read plans with this list and were not refused

@@ -21,20 +21,11 @@ plans_walked real_plans_walk(const uint8_t *table, size_t table_len,
 plans_written real_plans_list(const uint8_t *book, size_t book_len,
                               uint8_t *work, size_t work_len,
                               uint8_t *text, size_t text_len);
+
 plans_plan_rows real_plans_read_rows(const uint8_t *plan, size_t plan_len,
                                      const uint8_t *names, size_t names_len, uint8_t chosen,
                                      uint8_t *work, size_t work_len,
                                      uint8_t *out, size_t out_len);
-plans_built real_plans_build_ward(const uint8_t *book, size_t book_len,
-                                  uint8_t *work, size_t work_len,
-                                  uint8_t *out, size_t out_len);
-plans_counted real_plans_build_counted_ward(const uint8_t *book, size_t book_len,
-                                            uint8_t *work, size_t work_len,
-                                            uint8_t *out, size_t out_len,
-                                            uint8_t *counts, size_t counts_len);
-plans_written real_plans_list_ward(const uint8_t *book, size_t book_len,
-                                   uint8_t *work, size_t work_len,
-                                   uint8_t *text, size_t text_len);
 
 /* Whether this fault is asked for. */
 static int is(const char *fault)
@@ -75,8 +66,7 @@ plans_built plans_build(const uint8_t *book, size_t book_len,
                         uint8_t *work, size_t work_len,
                         uint8_t *out, size_t out_len)
 {
-    plans_built built =
-        (is("STANDARD_AS_WARD") ? real_plans_build_ward : real_plans_build)(book, book_len, work, work_len, out, out_len);
+    plans_built built = real_plans_build(book, book_len, work, work_len, out, out_len);
 
     if (is("TABLE_BYTE") && built.refusal == PLANS_OK)
         out[built.length - 1] ^= 1;
@@ -200,9 +190,8 @@ plans_counted plans_build_counted(const uint8_t *book, size_t book_len,
                                   uint8_t *out, size_t out_len,
                                   uint8_t *counts, size_t counts_len)
 {
-    plans_counted (*call)(const uint8_t *, size_t, uint8_t *, size_t, uint8_t *, size_t, uint8_t *, size_t) =
-        is("COUNTS_CUT") ? with_room : is("COUNTED_STANDARD_AS_WARD") ? real_plans_build_counted_ward : real_plans_build_counted;
-    plans_counted counted = call(book, book_len, work, work_len, out, out_len, counts, counts_len);
+    plans_counted counted =
+        (is("COUNTS_CUT") ? with_room : real_plans_build_counted)(book, book_len, work, work_len, out, out_len, counts, counts_len);
 
     if (is("COUNTS_BYTE") && counted.refusal == PLANS_OK)
         counts[counted.counts_length - 1] ^= 1;
@@ -364,8 +353,7 @@ plans_written plans_list(const uint8_t *book, size_t book_len,
                          uint8_t *work, size_t work_len,
                          uint8_t *text, size_t text_len)
 {
-    plans_written written =
-        (is("LIST_STANDARD_AS_WARD") ? real_plans_list_ward : real_plans_list)(book, book_len, work, work_len, text, text_len);
+    plans_written written = real_plans_list(book, book_len, work, work_len, text, text_len);
 
     if (is("LISTING_BYTE") && written.refusal == PLANS_OK)
         text[written.length - 1] ^= 1;
@@ -373,86 +361,6 @@ plans_written plans_list(const uint8_t *book, size_t book_len,
     if (is("LISTING_DISTINCT") && written.refusal == PLANS_OK)
         ((uint8_t *)memchr(text, '\n', written.length))[-1] ^= 1;
     if (is("TEXT_TOUCHED") && written.refusal == PLANS_OUTPUT_TOO_SHORT && text_len > 0)
-        text[0] ^= 1;
-    return written;
-}
-
-/* Where the class field of an accepted book or of a table stands, or null where a book has none. */
-static uint8_t *class_of(const uint8_t *fields)
-{
-    while (fields[0] == PLANS_NAME_MARK)
-        fields += 3 + (size_t)fields[2];
-    return fields[0] == PLANS_CLASS_MARK ? (uint8_t *)fields : NULL;
-}
-
-/* What a call reads as its book: where `always` is set, and the book is accepted, a copy without its class field. */
-static const uint8_t *as_read(int always, const uint8_t *book, size_t *book_len)
-{
-    static _Thread_local uint8_t copy[PLANS_INPUT_LIMIT], work[PLANS_WORK_BYTES], out[PLANS_TABLE_BYTES];
-    size_t front;
-
-    if (!always || real_plans_build(book, *book_len, work, sizeof work, out, sizeof out).refusal != PLANS_OK || class_of(book) == NULL)
-        return book;
-    front = (size_t)(class_of(book) - book);
-    memcpy(copy, book, front);
-    *book_len -= 6;
-    memcpy(copy + front, book + front + 6, *book_len - front);
-    return copy;
-}
-
-plans_built plans_build_ward(const uint8_t *book, size_t book_len,
-                             uint8_t *work, size_t work_len,
-                             uint8_t *out, size_t out_len)
-{
-    const uint8_t *read = as_read(is("WARD_ALWAYS"), book, &book_len);
-    uint8_t standard[PLANS_TABLE_BYTES];
-    plans_built built;
-
-    /* the output is to have room for the standard table */
-    if (is("WARD_ROOM") && real_plans_build(book, book_len, work, work_len, standard, sizeof standard).length > out_len)
-        return (plans_built){.refusal = PLANS_OUTPUT_TOO_SHORT};
-    built = (is("WARD_AS_STANDARD") ? real_plans_build : real_plans_build_ward)(read, book_len, work, work_len, out, out_len);
-    /* the standard default is written in the table, whose states are the ward's */
-    if (is("WARD_CLASS") && built.refusal == PLANS_OK && class_of(book) == NULL)
-        class_of(out)[5] = 2;
-    if (is("WARD_ORDER") && built.refusal == PLANS_BAD_CLASS)
-        built.refusal = PLANS_MISPLACED;
-    if (is("WARD_WORK") && built.refusal != PLANS_OK && work_len > 0)
-        work[work_len - 1] = 1;
-    if (is("WARD_BEYOND") && built.refusal == PLANS_OK && built.length < out_len)
-        out[built.length] ^= 1;
-    return built;
-}
-
-plans_counted plans_build_counted_ward(const uint8_t *book, size_t book_len,
-                                       uint8_t *work, size_t work_len,
-                                       uint8_t *out, size_t out_len,
-                                       uint8_t *counts, size_t counts_len)
-{
-    const uint8_t *read = as_read(is("COUNTED_WARD_ALWAYS"), book, &book_len);
-    uint8_t standard[PLANS_TABLE_BYTES];
-    plans_counted (*call)(const uint8_t *, size_t, uint8_t *, size_t, uint8_t *, size_t, uint8_t *, size_t) =
-        is("COUNTED_WARD_AS_STANDARD") ? real_plans_build_counted : real_plans_build_counted_ward;
-    plans_counted counted = call(read, book_len, work, work_len, out, out_len, counts, counts_len);
-
-    /* the counts of the standard table, beside the ward's table */
-    if (is("WARD_COUNTS") && counted.refusal == PLANS_OK)
-        counted.counts_length =
-            real_plans_build_counted(book, book_len, work, work_len, standard, sizeof standard, counts, counts_len).counts_length;
-    if (is("WARD_TABLE_TOUCHED") && counted.refusal == PLANS_OUTPUT_TOO_SHORT)
-        real_plans_build_ward(book, book_len, work, work_len, out, out_len);
-    return counted;
-}
-
-plans_written plans_list_ward(const uint8_t *book, size_t book_len,
-                              uint8_t *work, size_t work_len,
-                              uint8_t *text, size_t text_len)
-{
-    const uint8_t *read = as_read(is("LIST_WARD_ALWAYS"), book, &book_len);
-    plans_written written =
-        (is("LIST_WARD_AS_STANDARD") ? real_plans_list : real_plans_list_ward)(read, book_len, work, work_len, text, text_len);
-
-    if (is("WARD_TEXT_TOUCHED") && written.refusal == PLANS_OUTPUT_TOO_SHORT && text_len > 0)
         text[0] ^= 1;
     return written;
 }

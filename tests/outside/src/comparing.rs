@@ -2,8 +2,10 @@
 
 use crate::buffers::{Buffer, Noise};
 use crate::counts::Counts;
-use crate::entries::{Entry, ENTRIES};
-use crate::library::{self, plans_read_rows, plans_rewrite, plans_walk, Built, Call, Rewritten, RowsGiven, Walked, Written};
+use crate::library::{
+    self, plans_build, plans_build_counted, plans_list, plans_read_rows, plans_rewrite, plans_walk, Built, Call, Rewritten,
+    RowsGiven, Walked, Written,
+};
 use reference::counts::{with_counts, Counted};
 use reference::listing::list;
 use reference::plan_rows::{read_rows, Asked, PlanRows, Refused};
@@ -37,13 +39,6 @@ impl Display for Mismatch {
         Ok(())
     }
 }
-
-/// What the library and the reference both gave, which often nobody looks at.
-pub struct Both<A> {
-    pub gave: Result<A, Refusal>,
-}
-
-pub type Compared<A> = Result<Both<A>, Mismatch>;
 
 /// What the reference gives for an accepted call on an input, a working area and an output.
 trait Accepted: Sized {
@@ -82,8 +77,6 @@ impl Output<'_> {
 pub struct Run {
     pub random: Random,
     pub counts: Counts,
-    /// Whose calls books are given to.
-    pub entry: &'static Entry,
     noise: Noise,
     input: Buffer,
     /// A walk's row, or a plan's list of names.
@@ -101,7 +94,6 @@ impl Run {
             noise: Noise::draw(&mut random),
             random,
             counts: Counts::default(),
-            entry: &ENTRIES[0],
             input: Buffer::default(),
             second: Buffer::default(),
             work: Buffer::default(),
@@ -110,83 +102,83 @@ impl Run {
         }
     }
 
-    /// A build with buffers that are long enough.
-    pub fn compare_build(&mut self, book: &[u8]) -> Compared<reference::Built> {
+    /// A build with buffers that are long enough. Gives back what both gave, none where both refused.
+    pub fn compare_build(&mut self, book: &[u8]) -> Result<Option<reference::Built>, Mismatch> {
         self.compare_build_lent(book, Lent { work: WORK_BYTES, output: INPUT_LIMIT })
     }
 
     /// The same with buffers of the given lengths.
-    pub fn compare_build_lent(&mut self, book: &[u8], lent: Lent) -> Compared<reference::Built> {
-        let expected = reference::build(book, self.entry.default, lent, &mut self.random);
-        self.counts.count_built(self.entry.build, book, &expected);
-        self.compare_on_three((self.entry.build, self.entry.calls.build), expected, book, lent)
+    pub fn compare_build_lent(&mut self, book: &[u8], lent: Lent) -> Result<Option<reference::Built>, Mismatch> {
+        let expected = reference::build(book, lent, &mut self.random);
+        self.counts.count_built(book, &expected);
+        self.compare_on_three(("plans_build", plans_build), expected, book, lent)
     }
 
-    /// A build without counts and one with them, with buffers that are long enough.
-    pub fn compare_counted(&mut self, book: &[u8]) -> Compared<Counted> {
+    /// A build without counts and one with them, with buffers that are long enough. Gives back what both gave, none where both refused.
+    pub fn compare_counted(&mut self, book: &[u8]) -> Result<Option<Counted>, Mismatch> {
         self.compare_counted_lent(book, Lent { work: WORK_BYTES, output: INPUT_LIMIT }, INPUT_LIMIT)
     }
 
     /// The same with buffers of the given lengths, `room` that of the counts. Both are held against one and the same build of the
     /// reference, so their tables, numbers and refusals are the same, but for a 13 of the counts.
-    pub fn compare_counted_lent(&mut self, book: &[u8], lent: Lent, room: usize) -> Compared<Counted> {
-        let Entry { default, calls, build, build_counted, .. } = self.entry;
-        let built = reference::build(book, *default, lent, &mut self.random);
-        self.counts.count_built(build, book, &built);
-        self.compare_on_three((build, calls.build), built.clone(), book, lent)?;
+    pub fn compare_counted_lent(&mut self, book: &[u8], lent: Lent, room: usize) -> Result<Option<Counted>, Mismatch> {
+        let built = reference::build(book, lent, &mut self.random);
+        self.counts.count_built(book, &built);
+        self.compare_on_three(("plans_build", plans_build), built.clone(), book, lent)?;
         let fits = built.is_ok();
         let expected = built.and_then(|built| with_counts(book, built, room));
-        self.counts.count_counted(build_counted, &expected, fits);
+        self.counts.count_counted(&expected, fits);
         let (table, counts) = expected.as_ref().map_or((&[][..], &[][..]), |counted| (&counted.built.bytes, &counted.counts));
         // SAFETY: the buffers do not overlap, and each has its length
         let call = |at: &Places| unsafe {
             let ((book, book_len), (work, work_len), (out, out_len), (counts, counts_len)) =
                 (at.input, at.work, at.output, at.second_output);
-            (calls.build_counted)(book, book_len, work, work_len, out, out_len, counts, counts_len)
+            plans_build_counted(book, book_len, work, work_len, out, out_len, counts, counts_len)
         };
         let outputs = [Output { length: lent.output, written: table }, Output { length: room, written: counts }];
         let wrong = self.call_lent(call, &counted_of(&expected), (book, &[]), lent.work, outputs);
-        wrong.map_or(Ok(Both { gave: expected }), |wrong| Err(Mismatch::new(build_counted, wrong, &[("input", book)])))
+        wrong.map_or(Ok(expected.ok()), |wrong| Err(Mismatch::new("plans_build_counted", wrong, &[("input", book)])))
     }
 
-    /// A rewriting with buffers that are long enough.
-    pub fn compare_rewrite(&mut self, table: &[u8]) -> Compared<reference::Rewritten> {
+    /// A rewriting with buffers that are long enough. Gives back what both gave, none where both refused.
+    pub fn compare_rewrite(&mut self, table: &[u8]) -> Result<Option<reference::Rewritten>, Mismatch> {
         self.compare_rewrite_lent(table, Lent { work: WORK_BYTES, output: INPUT_LIMIT })
     }
 
     /// The same with buffers of the given lengths.
-    pub fn compare_rewrite_lent(&mut self, table: &[u8], lent: Lent) -> Compared<reference::Rewritten> {
+    pub fn compare_rewrite_lent(&mut self, table: &[u8], lent: Lent) -> Result<Option<reference::Rewritten>, Mismatch> {
         let expected = reference::rewrite(table, lent);
-        self.counts.count_call("plans_rewrite", expected.as_ref().err());
+        self.counts.count_written(&expected);
         self.compare_on_three(("plans_rewrite", plans_rewrite), expected, table, lent)
     }
 
-    /// A listing with buffers that are long enough.
-    pub fn compare_list(&mut self, book: &[u8]) -> Compared<Vec<u8>> {
+    /// A listing with buffers that are long enough. Gives back the text that both gave, none where both refused.
+    pub fn compare_list(&mut self, book: &[u8]) -> Result<Option<Vec<u8>>, Mismatch> {
         self.compare_list_lent(book, Lent { work: WORK_BYTES, output: INPUT_LIMIT })
     }
 
     /// The same with buffers of the given lengths.
-    pub fn compare_list_lent(&mut self, book: &[u8], lent: Lent) -> Compared<Vec<u8>> {
-        let expected = list(book, self.entry.default, lent, &mut self.random);
-        self.counts.count_call(self.entry.list, expected.as_ref().err());
-        self.compare_on_three((self.entry.list, self.entry.calls.list), expected, book, lent)
+    pub fn compare_list_lent(&mut self, book: &[u8], lent: Lent) -> Result<Option<Vec<u8>>, Mismatch> {
+        let expected = list(book, lent, &mut self.random);
+        self.counts.count_written(&expected);
+        self.compare_on_three(("plans_list", plans_list), expected, book, lent)
     }
 
-    /// A call on an input, a working area and an output with buffers of the given lengths.
+    /// A call on an input, a working area and an output with buffers of the given lengths. Gives back what both gave, none where
+    /// both refused.
     fn compare_on_three<A: Accepted>(
         &mut self,
         (name, call): (&'static str, Call<A::Given>),
         expected: Result<A, Refusal>,
         input: &[u8],
         lent: Lent,
-    ) -> Compared<A> {
+    ) -> Result<Option<A>, Mismatch> {
         let written = expected.as_ref().map_or(&[][..], A::written);
         // SAFETY: the buffers do not overlap, and each has its length
         let call = |at: &Places| unsafe { call(at.input.0, at.input.1, at.work.0, at.work.1, at.output.0, at.output.1) };
         let outputs = [Output { length: lent.output, written }, Output::NONE];
         let wrong = self.call_lent(call, &A::given(&expected), (input, &[]), lent.work, outputs);
-        wrong.map_or(Ok(Both { gave: expected }), |wrong| Err(Mismatch::new(name, wrong, &[("input", input)])))
+        wrong.map_or(Ok(expected.ok()), |wrong| Err(Mismatch::new(name, wrong, &[("input", input)])))
     }
 
     /// Rows read from a plan with buffers that are long enough. Gives back the rows that both gave, none where both refused.
@@ -206,7 +198,7 @@ impl Run {
         };
         let outputs = [Output { length: lent.output, written }, Output::NONE];
         let wrong = self.call_lent(call, &rows_given_of(&expected), (asked.plan, asked.names), lent.work, outputs);
-        self.counts.count_call("plans_read_rows", expected.as_ref().err().map(|refused| &refused.refusal));
+        self.counts.count_rows(&expected);
         match wrong {
             Some(wrong) => {
                 let what = format!("{wrong} (chosen {})", asked.chosen);

@@ -2,23 +2,25 @@
 
 use reference::counts::Counted;
 use reference::fields::{read_book, read_table, split_field};
+use reference::plan_rows::{PlanRows, Refused};
 use reference::refusal::Refusal;
 use reference::walk::{begins_admitted, plain_walk, Walked};
 use reference::Built;
 use std::collections::BTreeMap;
 
-/// One more than the largest refusal.
-const REFUSALS: usize = 17;
-
 #[derive(Clone, Debug, Default)]
 pub struct Counts {
     pub inputs: usize,
-    /// How often each call, by its name, gave each refusal, by its number; at 0, how often it accepted.
-    pub given: BTreeMap<&'static str, [usize; REFUSALS]>,
-    /// How many builds with counts gave 13 where the table's output is long enough.
+    /// How often each refusal was given, by its number, to a book, a table or a walk; at 0, how many calls were accepted.
+    pub refused: [usize; 14],
+    /// The same for builds with counts.
+    pub counted_refused: [usize; 14],
+    /// How many of these 13 were given where the table's output is long enough.
     pub counts_too_short: usize,
     /// The largest number that a counts file had.
     pub largest_number: u16,
+    /// The same as `refused` for plans.
+    pub plans_refused: [usize; 17],
     /// How many walks had each outcome, by its number.
     pub outcomes: [usize; 4],
     /// How many walks had another outcome, another beginning and other next names than arcs alone tell; and how many were over tables that
@@ -32,14 +34,11 @@ pub struct Counts {
     pub copies: usize,
     /// How many of them had more copies than different rows.
     pub most_copies: usize,
-    /// How many books without a class field were accepted by the standard calls and by the ward kitchens', and how many of them have other
-    /// states for the one than for the other.
-    pub unnamed: [usize; 2],
 }
 
 impl Counts {
-    pub fn count_built(&mut self, call: &'static str, book: &[u8], built: &Result<Built, Refusal>) {
-        self.count_call(call, built.as_ref().err());
+    pub fn count_built(&mut self, book: &[u8], built: &Result<Built, Refusal>) {
+        self.count_written(built);
         if let Ok(built) = built {
             if built.joins > 0 {
                 let class = read_table(&built.bytes).expect("a built table can be read").class;
@@ -53,33 +52,31 @@ impl Counts {
     }
 
     /// A build with counts; `fits` where the table alone would be built.
-    pub fn count_counted(&mut self, call: &'static str, counted: &Result<Counted, Refusal>, fits: bool) {
-        self.count_call(call, counted.as_ref().err());
+    pub fn count_counted(&mut self, counted: &Result<Counted, Refusal>, fits: bool) {
+        self.inputs += 1;
+        self.counted_refused[counted.as_ref().map_or_else(|refusal| usize::from(refusal.number()), |_| 0)] += 1;
         self.counts_too_short += usize::from(fits && counted.is_err());
         if let Ok(counted) = counted {
             self.largest_number = self.largest_number.max(largest_number(&counted.counts));
         }
     }
 
-    /// One call, with its refusal, or none where it was accepted.
-    pub fn count_call(&mut self, call: &'static str, refusal: Option<&Refusal>) {
+    /// A build, a rewriting or a listing.
+    pub fn count_written<T>(&mut self, written: &Result<T, Refusal>) {
         self.inputs += 1;
-        self.given.entry(call).or_default()[refusal.map_or(0, |refusal| usize::from(refusal.number()))] += 1;
+        self.refused[written.as_ref().map_or_else(|refusal| usize::from(refusal.number()), |_| 0)] += 1;
     }
 
     pub fn count_walked(&mut self, table: &[u8], row: &[u8], walked: &Result<Walked, Refusal>) {
-        self.count_call("plans_walk", walked.as_ref().err());
-        if let Ok(walked) = walked {
-            self.outcomes[walked.outcome as usize] += 1;
-            self.count_endings(table, row, walked);
+        self.inputs += 1;
+        match walked {
+            Ok(walked) => {
+                self.refused[0] += 1;
+                self.outcomes[walked.outcome as usize] += 1;
+                self.count_endings(table, row, walked);
+            }
+            Err(refusal) => self.refused[usize::from(refusal.number())] += 1,
         }
-    }
-
-    /// A book without a class field that both calls built.
-    pub fn count_unnamed(&mut self, standard: &Built, ward: &Built) {
-        let states = |built: &Built| read_table(&built.bytes).expect("a built table can be read").states;
-        self.unnamed[0] += 1;
-        self.unnamed[1] += usize::from(states(standard) != states(ward));
     }
 
     fn count_endings(&mut self, table: &[u8], row: &[u8], walked: &Walked) {
@@ -91,16 +88,20 @@ impl Counts {
         self.endings[3] += usize::from(!begins_admitted(&table, &[]));
     }
 
+    pub fn count_rows(&mut self, read: &Result<PlanRows, Refused>) {
+        self.inputs += 1;
+        self.plans_refused[read.as_ref().map_or_else(|refused| usize::from(refused.refusal.number()), |_| 0)] += 1;
+    }
+
     pub fn add(&mut self, more: &Counts) {
         self.inputs += more.inputs;
-        for (call, given) in &more.given {
-            add_each(self.given.entry(*call).or_default(), given);
-        }
+        self.refused.iter_mut().zip(more.refused).for_each(|(sum, count)| *sum += count);
+        self.counted_refused.iter_mut().zip(more.counted_refused).for_each(|(sum, count)| *sum += count);
         self.counts_too_short += more.counts_too_short;
         self.largest_number = self.largest_number.max(more.largest_number);
-        add_each(&mut self.outcomes, &more.outcomes);
-        add_each(&mut self.endings, &more.endings);
-        add_each(&mut self.unnamed, &more.unnamed);
+        self.plans_refused.iter_mut().zip(more.plans_refused).for_each(|(sum, count)| *sum += count);
+        self.outcomes.iter_mut().zip(more.outcomes).for_each(|(sum, count)| *sum += count);
+        self.endings.iter_mut().zip(more.endings).for_each(|(sum, count)| *sum += count);
         self.largest_tree = self.largest_tree.max(more.largest_tree);
         self.copies += more.copies;
         self.most_copies += more.most_copies;
@@ -108,10 +109,6 @@ impl Counts {
             *self.joined.entry(*class).or_default() += count;
         }
     }
-}
-
-fn add_each(sums: &mut [usize], more: &[usize]) {
-    sums.iter_mut().zip(more).for_each(|(sum, count)| *sum += count);
 }
 
 /// The largest number of a counts file.

@@ -35,31 +35,18 @@ impl Draft {
     }
 }
 
-/// Every class that a book can name.
-pub fn named_classes() -> Vec<Class> {
-    let mut classes = vec![Class::SeenSet];
-    classes.extend((0..=8).map(|j| Class::LastNames { j }));
+/// Every class that a book can have, and none.
+pub fn all_classes() -> Vec<Option<Class>> {
+    let mut classes = vec![None, Some(Class::SeenSet)];
+    classes.extend((0..=8).map(|j| Some(Class::LastNames { j })));
     for k in 1..=8 {
-        classes.extend((1..=k).map(|h| Class::Context { k, h }));
+        classes.extend((1..=k).map(|h| Some(Class::Context { k, h })));
     }
     classes
 }
 
-/// Every class that a book can name, and none.
-pub fn all_classes() -> Vec<Option<Class>> {
-    named_classes().into_iter().map(Some).chain([None]).collect()
-}
-
-/// Once in four none, so that the default matters to many books; else any.
 pub fn draw_class(random: &mut Random) -> Option<Class> {
-    if random.once_in(4) {
-        return None;
-    }
-    Some(draw_named_class(random))
-}
-
-pub fn draw_named_class(random: &mut Random) -> Class {
-    let classes = named_classes();
+    let classes = all_classes();
     classes[random.below(classes.len())]
 }
 
@@ -161,7 +148,7 @@ pub fn add_near_copies(random: &mut Random, names: usize, rows: &mut Vec<Vec<u8>
 pub fn draw_table(random: &mut Random, states: usize) -> Table {
     let count = random.between(1, 6);
     let names = draw_names(random, count);
-    let mut table = Table { names, class: draw_named_class(random), states: vec![] };
+    let mut table = Table { names, class: draw_class(random).unwrap_or(Class::DEFAULT), states: vec![] };
     let mut met = 1;
     while table.states.len() < met {
         let mut arcs = vec![];

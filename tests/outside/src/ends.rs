@@ -1,6 +1,6 @@
 //! Tables drawn at random in which states lead to no accepting one, or only by a long way.
 
-use crate::drawing::{draw_named_class, draw_names};
+use crate::drawing::{draw_class, draw_names};
 use reference::fields::{Class, NAMES_LIMIT};
 use reference::random::Random;
 use reference::table::{Arc, State, Table};
@@ -10,7 +10,8 @@ use reference::INPUT_LIMIT;
 pub fn draw_with_dead_states(random: &mut Random, states: usize) -> Table {
     let count = if random.once_in(20) { NAMES_LIMIT } else { random.between(1, 8) };
     let names = draw_names(random, count);
-    let mut table = Table { names, class: draw_named_class(random), states: vec![] };
+    let class = draw_class(random).unwrap_or(Class::DEFAULT);
+    let mut table = Table { names, class, states: vec![] };
     let share = [2, 4, 16][random.below(3)];
     // of each state met, whether it leads only to such
     let mut dead = vec![false];

@@ -59,26 +59,10 @@ pub struct RowsGiven {
 /// length.
 pub type Call<R> = unsafe extern "C" fn(*const u8, usize, *mut u8, usize, *mut u8, usize) -> R;
 
-/// `plans_build_counted` has one output more.
-pub type CountedCall = unsafe extern "C" fn(*const u8, usize, *mut u8, usize, *mut u8, usize, *mut u8, usize) -> Counted;
-
-/// The calls that take a book, by what they do: the standard ones, or the ward kitchens'.
-#[derive(Clone, Copy)]
-pub struct BookCalls {
-    pub build: Call<Built>,
-    pub build_counted: CountedCall,
-    pub list: Call<Written>,
-}
-
-pub const STANDARD: BookCalls = BookCalls { build: plans_build, build_counted: plans_build_counted, list: plans_list };
-pub const WARD: BookCalls = BookCalls { build: plans_build_ward, build_counted: plans_build_counted_ward, list: plans_list_ward };
-
 extern "C" {
-    fn plans_build(book: *const u8, book_len: usize, work: *mut u8, work_len: usize, out: *mut u8, out_len: usize) -> Built;
+    pub fn plans_build(book: *const u8, book_len: usize, work: *mut u8, work_len: usize, out: *mut u8, out_len: usize) -> Built;
 
-    fn plans_build_ward(book: *const u8, book_len: usize, work: *mut u8, work_len: usize, out: *mut u8, out_len: usize) -> Built;
-
-    fn plans_build_counted(
+    pub fn plans_build_counted(
         book: *const u8,
         book_len: usize,
         work: *mut u8,
@@ -88,28 +72,6 @@ extern "C" {
         counts: *mut u8,
         counts_len: usize,
     ) -> Counted;
-
-    fn plans_build_counted_ward(
-        book: *const u8,
-        book_len: usize,
-        work: *mut u8,
-        work_len: usize,
-        out: *mut u8,
-        out_len: usize,
-        counts: *mut u8,
-        counts_len: usize,
-    ) -> Counted;
-
-    fn plans_list(book: *const u8, book_len: usize, work: *mut u8, work_len: usize, text: *mut u8, text_len: usize) -> Written;
-
-    fn plans_list_ward(
-        book: *const u8,
-        book_len: usize,
-        work: *mut u8,
-        work_len: usize,
-        text: *mut u8,
-        text_len: usize,
-    ) -> Written;
 
     pub fn plans_rewrite(
         table: *const u8,
@@ -128,6 +90,15 @@ extern "C" {
         work: *mut u8,
         work_len: usize,
     ) -> Walked;
+
+    pub fn plans_list(
+        book: *const u8,
+        book_len: usize,
+        work: *mut u8,
+        work_len: usize,
+        text: *mut u8,
+        text_len: usize,
+    ) -> Written;
 
     pub fn plans_read_rows(
         plan: *const u8,

@@ -1,7 +1,7 @@
-//! Compares every call of the static library with the reference, over generated inputs. The calls that take books come in two, the
-//! standard ones and the ward kitchens': cases take turns between them. The same seed and count give the same inputs; --seconds goes on
-//! with fresh seeds. A mismatch names its seed: --seed gives it again; --stop-at-mismatch leaves out what would come after one. The last
-//! line is `N passed, M failed`, N and M counting kinds of checks.
+//! Compares plans_build, plans_build_counted, plans_rewrite, plans_walk, plans_list and plans_read_rows of the static library with the
+//! reference, over generated inputs. The same seed and count give the same inputs; --seconds goes on with fresh seeds. A mismatch names
+//! its seed: --seed gives it again; --stop-at-mismatch leaves out what would come after one. The last line is `N passed, M failed`, N
+//! and M counting kinds of checks.
 
 mod buffers;
 mod comparing;
@@ -9,7 +9,6 @@ mod counts;
 mod damage;
 mod drawing;
 mod ends;
-mod entries;
 #[cfg(expat)]
 mod expat;
 mod kinds;
@@ -19,7 +18,6 @@ mod planning;
 
 use comparing::Run;
 use counts::Counts;
-use entries::ENTRIES;
 use kinds::KINDS;
 use options::Options;
 use reference::random::Random;
@@ -42,16 +40,11 @@ const LATER_ROUNDS: usize = 20;
 /// How many classes there are: 36 of contexts, the seen set, 9 of last names.
 const CLASSES: usize = 46;
 
-/// The refusals that a call can give, and 0 for what it accepts.
-const BOOK_REFUSALS: &[usize] = &[0, 1, 2, 3, 4, 5, 6, 7, 8, 9, 10, 13];
-const OTHER_REFUSALS: [(&str, &[usize]); 3] = [
-    ("plans_rewrite", &[0, 1, 2, 3, 4, 5, 6, 7, 8, 11, 12, 13]),
-    ("plans_walk", &[0, 1, 2, 3, 4, 5, 6, 7, 8, 9, 11, 12]),
-    ("plans_read_rows", &[0, 1, 2, 3, 4, 5, 6, 7, 9, 13, 14, 15, 16]),
-];
+/// The refusals of plans, and 0 for those that are accepted.
+const PLAN_REFUSALS: [usize; 13] = [0, 1, 2, 3, 4, 5, 6, 7, 9, 13, 14, 15, 16];
 
-/// Of the books without a class field that both calls of a pair are given, one in so many has other states for wards, at least.
-const OTHER_FOR_WARDS: usize = 3;
+/// The refusals of builds with counts, and 0 for those that are accepted.
+const COUNTED_REFUSALS: [usize; 12] = [0, 1, 2, 3, 4, 5, 6, 7, 8, 9, 10, 13];
 
 /// No counts file has a larger number (tests/reference/src/tests/counts.rs).
 const LARGEST_NUMBER: u16 = 10_239;
@@ -111,10 +104,7 @@ fn run_part(count: usize, seed: u64, part: usize, tally: &Mutex<Tally>) {
     let kind = &KINDS[part / PARTS];
     let mut run = Run::new(Random::new(seed).draw() ^ Random::new(part as u64).draw());
     let mut mismatch = None;
-    // neighbouring parts begin with different entries
-    let mut entries = ENTRIES.iter().cycle().skip(part);
     while mismatch.is_none() && run.counts.inputs * PARTS < promised(count, kind.share) {
-        run.entry = entries.next().expect("a cycle has no end");
         mismatch = (kind.case)(&mut run).err();
     }
     let mut tally = tally.lock().expect("tally");
@@ -155,10 +145,10 @@ fn report(options: &Options, tallies: Vec<Tally>) -> ExitCode {
 /// Whether the inputs were enough, and of all sorts. Says what each came to.
 fn coverage(options: &Options, all: &Counts) -> Vec<(&'static str, Option<String>)> {
     let least_joined = all.joined.values().min().unwrap_or(&0);
-    for (call, given) in &all.given {
-        println!("{call}: {} calls, accepted {}, refusals 1 to 16: {:?}", given.iter().sum::<usize>(), given[0], &given[1..]);
-    }
+    println!("accepted: {}; refusals 1 to 13: {:?}", all.refused[0], &all.refused[1..]);
+    println!("counted: {}; refusals 1 to 13: {:?}", all.counted_refused[0], &all.counted_refused[1..]);
     println!("13 for the counts alone: {}; largest number of a counts file: {}", all.counts_too_short, all.largest_number);
+    println!("plans accepted: {}; refusals 1 to 16: {:?}", all.plans_refused[0], &all.plans_refused[1..]);
     #[cfg(not(expat))]
     println!("this machine has no expat: plans are not compared with it");
     println!("walks admitted, on the way, stopped: {:?}", &all.outcomes[1..]);
@@ -168,14 +158,20 @@ fn coverage(options: &Options, all: &Counts) -> Vec<(&'static str, Option<String
     println!("classes with builds that joined states: {}, in each {least_joined} or more such builds", all.joined.len());
     println!("largest prefix tree of such a build: {} states", all.largest_tree);
     println!("builds of books with copies of rows: {}; of more copies than different rows: {}", all.copies, all.most_copies);
-    let [unnamed, other_states] = all.unnamed;
-    println!("books without a class field, built by both calls: {unnamed}; with other states for wards: {other_states}");
     let says = |wrong: bool, what: &str| wrong.then(|| what.to_string());
     vec![
         ("all inputs", says(all.inputs < options.count, "fewer than promised")),
-        ("every call accepts and gives each of its refusals", never_given(all)),
+        ("every refusal is given", says(all.refused.contains(&0), "one is not")),
+        (
+            "every refusal of a build with counts is given",
+            says(COUNTED_REFUSALS.iter().any(|&refusal| all.counted_refused[refusal] == 0), "one is not"),
+        ),
         ("13 is given for the counts alone", says(all.counts_too_short == 0, "it is not")),
         ("the largest number of a counts file is met", says(all.largest_number < LARGEST_NUMBER, "it is not")),
+        (
+            "every refusal of a plan is given",
+            says(PLAN_REFUSALS.iter().any(|&refusal| all.plans_refused[refusal] == 0), "one is not"),
+        ),
         ("every outcome is given", says(all.outcomes[1..].contains(&0), "one is not")),
         (
             "states that lead to no end alter outcomes, beginnings and next names",
@@ -184,19 +180,5 @@ fn coverage(options: &Options, all: &Counts) -> Vec<(&'static str, Option<String
         ("every class has builds that joined states", says(all.joined.len() < CLASSES, "one has none")),
         ("books with copies of rows are built", says(all.copies == 0, "none is")),
         ("books of more copies than different rows are built", says(all.most_copies == 0, "none is")),
-        (
-            "many books without a class field have other states for wards",
-            says(unnamed == 0 || other_states * OTHER_FOR_WARDS < unnamed, "too few have"),
-        ),
     ]
-}
-
-/// A call with a refusal that it never gave, or 0 where it never accepted.
-fn never_given(all: &Counts) -> Option<String> {
-    let book_calls = ENTRIES.iter().flat_map(|entry| [entry.build, entry.build_counted, entry.list]);
-    book_calls.map(|call| (call, BOOK_REFUSALS)).chain(OTHER_REFUSALS).find_map(|(call, refusals)| {
-        let given = all.given.get(call);
-        let missing = refusals.iter().find(|&&refusal| given.is_none_or(|given| given[refusal] == 0));
-        missing.map(|refusal| format!("{call} never gave {refusal}"))
-    })
 }

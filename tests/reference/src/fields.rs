@@ -23,11 +23,8 @@ pub enum Class {
 }
 
 impl Class {
-    /// The class of a book without a class field.
-    pub const DEFAULT: Class = Class::Context { k: 2, h: 2 };
-
-    /// The same to the ward kitchens' calls.
-    pub const WARD_DEFAULT: Class = Class::Context { k: 2, h: 1 };
+    /// The class of a book that names none.
+    pub const DEFAULT: Class = Class::Context { k: 2, h: 1 };
 
     pub fn bytes(self) -> [u8; 3] {
         match self {
@@ -41,8 +38,7 @@ impl Class {
 #[derive(Clone, Debug, PartialEq, Eq)]
 pub struct Book {
     pub names: Vec<Vec<u8>>,
-    /// None where the book has no class field.
-    pub class: Option<Class>,
+    pub class: Class,
     pub rows: Vec<Vec<u8>>,
 }
 
@@ -67,13 +63,13 @@ pub fn split_field(input: &[u8]) -> Result<(Field<'_>, &[u8]), Refusal> {
 }
 
 pub fn read_book(mut input: &[u8]) -> Result<Book, Refusal> {
-    let mut book = Book { names: vec![], class: None, rows: vec![] };
+    let mut book = Book { names: vec![], class: Class::DEFAULT, rows: vec![] };
     let mut before = None;
     while !input.is_empty() {
         let (field, rest) = split_field(input)?;
         match (before, field.mark) {
             (None | Some(NAME), NAME) => read_name(&mut book.names, field.bytes)?,
-            (Some(NAME), CLASS) => book.class = Some(read_class(field.bytes)?),
+            (Some(NAME), CLASS) => book.class = read_class(field.bytes)?,
             (Some(NAME | CLASS | ROW), ROW) => read_row(&mut book.rows, field.bytes, book.names.len())?,
             _ => return Err(Refusal::Misplaced),
         }

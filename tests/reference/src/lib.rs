@@ -16,7 +16,6 @@ pub mod refusal;
 pub mod table;
 pub mod walk;
 
-use fields::Class;
 use prefix_tree::PrefixTree;
 use random::Random;
 use refusal::Refusal;
@@ -53,17 +52,16 @@ pub struct Lent {
     pub output: usize,
 }
 
-/// The table of a book, which has the default class where it has no class field. `random` chooses the order of the joins.
-pub fn build(book: &[u8], default: Class, lent: Lent, random: &mut Random) -> Result<Built, Refusal> {
+/// The table of a book. `random` chooses the order of the joins.
+pub fn build(book: &[u8], lent: Lent, random: &mut Random) -> Result<Built, Refusal> {
     check_sizes(book, lent.work)?;
     let book = fields::read_book(book)?;
     let tree = PrefixTree::of_rows(&book.rows)?;
-    let class = book.class.unwrap_or(default);
-    let groups = joining::full_joining(&tree, class, random);
+    let groups = joining::full_joining(&tree, book.class, random);
     let states = table::number_groups(&groups);
     let joins = tree.states() - states.len();
     let distinct = different_rows(&book.rows);
-    let table = Table { names: book.names, class, states };
+    let table = Table { names: book.names, class: book.class, states };
     Ok(Built { bytes: fit(&table, lent.output)?, states: table.states.len(), joins, distinct })
 }
 

@@ -1,21 +1,21 @@
 //! The listing of a book as text.
 
-use crate::fields::{read_table, Class};
+use crate::fields::read_table;
 use crate::random::Random;
 use crate::refusal::Refusal;
 use crate::{build, Built, Lent, INPUT_LIMIT, WORK_BYTES};
 
 /// The text that the listing program prints: the listing, or `refused` and the refusal's number.
 pub fn listing(book: &[u8], random: &mut Random) -> Vec<u8> {
-    match list(book, Class::DEFAULT, Lent { work: WORK_BYTES, output: INPUT_LIMIT }, random) {
+    match list(book, Lent { work: WORK_BYTES, output: INPUT_LIMIT }, random) {
         Ok(text) => text,
         Err(refusal) => format!("refused {}\n", refusal.number()).into_bytes(),
     }
 }
 
-/// The listing of a book that has the default class where it has no class field, for a text of the output's length.
-pub fn list(book: &[u8], default: Class, lent: Lent, random: &mut Random) -> Result<Vec<u8>, Refusal> {
-    let text = listing_of_built(&build(book, default, Lent { output: INPUT_LIMIT, ..lent }, random)?);
+/// The listing of a book, for a text of the output's length.
+pub fn list(book: &[u8], lent: Lent, random: &mut Random) -> Result<Vec<u8>, Refusal> {
+    let text = listing_of_built(&build(book, Lent { output: INPUT_LIMIT, ..lent }, random)?);
     if text.len() > lent.output {
         return Err(Refusal::OutputTooShort);
     }

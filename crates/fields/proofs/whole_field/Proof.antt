@@ -2,7 +2,7 @@
 use native.Mathlib.Omega.{arith}
 use lib.ListN.{get_or}
 use Rattle.fields.specs.Places.{kind_of}
-use Rattle.fields.proofs.MarkLaws.{misplaced, name-arm, class-arm, row-arm, state-arm, no_name, no_class, no_row, no-state}
+use Rattle.fields.proofs.MarkLaws.{misplaced, name-arm, class-arm, row-arm, state-arm, no_name, no-class, no_row, no-state}
 use Rattle.fields.proofs.MarkLaws.{class_stage, no_mark}
 use borrow.Author.Rules.{rules}
 use Rattle.fields.proofs.whole_field.Statement.{statement}
@@ -77,7 +77,7 @@ returns-6 c =
     let mark = get_or at.s.now at.p.at 0 in
     let takes = c.before.takes-class in
     misplaced kind at.s.now at.p
-    (no_class kind at.p.stage mark takes.result takes.ensures c.before.before.match.keys2 c.if2.false)
+    (no-class kind at.p.stage mark takes.result takes.ensures c.before.before.match.keys2 c.if2.false)
 
 returns-7 : tie.Need-returns-7
 returns-7 c =

@@ -26,7 +26,7 @@ pub fn large(run: &mut Run) -> Result<(), Mismatch> {
     let entries = if run.random.once_in(20) { run.random.between(400, 520) } else { run.random.between(60, 220) };
     let class = draw_class(&mut run.random);
     let book = draw_book(&mut run.random, class, entries).bytes();
-    let Ok(built) = run.compare_build(&book)?.gave else {
+    let Some(built) = run.compare_build(&book)? else {
         return Ok(());
     };
     let boundaries = [built.bytes.len() - 1, built.bytes.len(), built.bytes.len() + 1];

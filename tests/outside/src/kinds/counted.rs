@@ -27,7 +27,7 @@ pub fn large(run: &mut Run) -> Result<(), Mismatch> {
     let entries = run.random.between(60, 220);
     let class = draw_class(&mut run.random);
     let book = draw_book(&mut run.random, class, entries).bytes();
-    let Ok(counted) = run.compare_counted(&book)?.gave else {
+    let Some(counted) = run.compare_counted(&book)? else {
         return Ok(());
     };
     at_boundary(run, &book, &counted)
@@ -49,27 +49,27 @@ pub fn bags(run: &mut Run) -> Result<(), Mismatch> {
     let copies = run.random.between(0, ROWS_LIMIT - 1 - book.rows.len());
     add_copies(&mut run.random, &mut book.rows, copies);
     let first = book.bytes();
-    let Ok(counted) = run.compare_counted(&first)?.gave else {
+    let Some(counted) = run.compare_counted(&first)? else {
         return Ok(());
     };
     run.random.shuffle(&mut book.rows);
-    let shuffled = run.compare_counted(&book.bytes())?.gave;
-    let same = shuffled.as_ref() == Ok(&counted);
-    claim(run, same, "the same rows in another order give another table or other counts", &first, &book)?;
+    let shuffled = run.compare_counted(&book.bytes())?;
+    let same = shuffled.as_ref() == Some(&counted);
+    claim(same, "the same rows in another order give another table or other counts", &first, &book)?;
     add_copies(&mut run.random, &mut book.rows, 1);
-    let repeated = run.compare_counted(&book.bytes())?.gave;
-    let same_table = repeated.as_ref().is_ok_and(|repeated| repeated.built == counted.built);
-    claim(run, same_table, "a row repeated gives another table", &first, &book)?;
-    let other_counts = repeated.is_ok_and(|repeated| repeated.counts != counted.counts);
-    claim(run, other_counts, "a row repeated gives the same counts", &first, &book)
+    let repeated = run.compare_counted(&book.bytes())?;
+    let same_table = repeated.as_ref().is_some_and(|repeated| repeated.built == counted.built);
+    claim(same_table, "a row repeated gives another table", &first, &book)?;
+    let other_counts = repeated.is_some_and(|repeated| repeated.counts != counted.counts);
+    claim(other_counts, "a row repeated gives the same counts", &first, &book)
 }
 
 /// What is to hold of two books' builds.
-fn claim(run: &Run, holds: bool, otherwise: &str, book: &[u8], other: &Draft) -> Result<(), Mismatch> {
+fn claim(holds: bool, otherwise: &str, book: &[u8], other: &Draft) -> Result<(), Mismatch> {
     if holds {
         return Ok(());
     }
-    Err(Mismatch::new(run.entry.build_counted, otherwise.to_string(), &[("book", book), ("the other", &other.bytes())]))
+    Err(Mismatch::new("plans_build_counted", otherwise.to_string(), &[("book", book), ("the other", &other.bytes())]))
 }
 
 pub fn damaged(run: &mut Run) -> Result<(), Mismatch> {
@@ -94,7 +94,7 @@ pub fn cut_and_moved(run: &mut Run) -> Result<(), Mismatch> {
 /// Each output of every length up to one more than needed, the other long enough; and both of lengths about what is needed.
 pub fn outputs(run: &mut Run) -> Result<(), Mismatch> {
     let book = draw_small_book(&mut run.random).bytes();
-    let counted = run.compare_counted(&book)?.gave.expect("a valid book");
+    let counted = run.compare_counted(&book)?.expect("a valid book");
     let (table, counts) = (counted.built.bytes.len(), counted.counts.len());
     for room in 0..=counts + 1 {
         run.compare_counted_lent(&book, Lent { work: WORK_BYTES, output: table }, room)?;
@@ -134,8 +134,8 @@ pub fn limits(run: &mut Run) -> Result<(), Mismatch> {
     let mut inputs: Vec<Vec<u8>> = books.iter().map(Draft::bytes).collect();
     inputs.extend([INPUT_LIMIT, INPUT_LIMIT + 1].map(|length| draw_long_book(&mut run.random, length)));
     for input in inputs {
-        let counted = run.compare_counted(&input)?.gave;
-        if let Ok(counted) = counted {
+        let counted = run.compare_counted(&input)?;
+        if let Some(counted) = counted {
             at_boundary(run, &input, &counted)?;
         }
         run.compare_counted_lent(&input, Lent { work: WORK_BYTES, output: INPUT_LIMIT }, 0)?;

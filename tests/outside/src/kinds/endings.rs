@@ -99,7 +99,7 @@ pub fn built(run: &mut Run) -> Result<(), Mismatch> {
     } else {
         draw_small_book(&mut run.random)
     };
-    let bytes = run.compare_build(&book.bytes())?.gave.expect("a book with few entries is accepted").bytes;
+    let bytes = run.compare_build(&book.bytes())?.expect("a book with few entries is accepted").bytes;
     let table = read_table(&bytes).expect("a built table can be read");
     let lengths = [0, 1, 2, 4, 8, 16, ROW_LIMIT];
     let mut rows: Vec<Vec<u8>> = lengths.iter().map(|&length| draw_walk(&mut run.random, &table, length)).collect();

@@ -2,7 +2,7 @@
 
 use crate::comparing::{Mismatch, Run};
 use crate::drawing::{add_copies, draw_class, draw_names, draw_rows, draw_small_book, draw_walk, Draft};
-use reference::fields::{read_table, ROWS_LIMIT};
+use reference::fields::{read_table, Class, ROWS_LIMIT};
 
 const ADMITTED: u8 = 1;
 
@@ -10,18 +10,18 @@ const ADMITTED: u8 = 1;
 pub fn same_rows(run: &mut Run) -> Result<(), Mismatch> {
     let book = draw_small_book(&mut run.random);
     let bytes = book.bytes();
-    let built = run.compare_build(&bytes)?.gave;
+    let built = run.compare_build(&bytes)?;
     for _ in 0..4 {
         let mut same = book.clone();
         let copies = run.random.below(ROWS_LIMIT + 1 - book.rows.len());
         add_copies(&mut run.random, &mut same.rows, copies);
         if same.class.is_none() && run.random.once_in(2) {
-            same.class = Some(run.entry.default);
+            same.class = Some(Class::DEFAULT);
         }
         let same = same.bytes();
-        if run.compare_build(&same)?.gave != built {
+        if run.compare_build(&same)? != built {
             let what = "books with the same names, class and set of rows give different bytes or numbers".into();
-            return Err(Mismatch::new(run.entry.build, what, &[("book", &bytes), ("the other", &same)]));
+            return Err(Mismatch::new("plans_build", what, &[("book", &bytes), ("the other", &same)]));
         }
     }
     Ok(())
@@ -82,7 +82,7 @@ fn admit_the_same(run: &mut Run, table: &[u8], other: &[u8]) -> Result<(), Misma
 /// The table of a valid book, found to admit all its rows.
 fn table_of(run: &mut Run, book: &Draft) -> Result<Vec<u8>, Mismatch> {
     let bytes = book.bytes();
-    let table = run.compare_build(&bytes)?.gave.expect("a small book is accepted").bytes;
+    let table = run.compare_build(&bytes)?.expect("a small book is accepted").bytes;
     for row in &book.rows {
         let walked = run.compare_walk(&table, row)?;
         if walked.outcome != ADMITTED {

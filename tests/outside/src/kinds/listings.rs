@@ -16,7 +16,7 @@ pub fn texts(run: &mut Run) -> Result<(), Mismatch> {
     let entries = run.random.between(0, 100);
     let class = draw_class(&mut run.random);
     let book = draw_book(&mut run.random, class, entries).bytes();
-    let text = run.compare_list(&book)?.gave.expect("a valid book");
+    let text = run.compare_list(&book)?.expect("a valid book");
     for output in [0, 1, text.len() / 2].into_iter().chain(text.len() - 3..text.len() + 3) {
         run.compare_list_lent(&book, Lent { work: WORK_BYTES, output })?;
     }

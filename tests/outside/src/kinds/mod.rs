@@ -2,7 +2,6 @@
 
 mod books;
 mod counted;
-mod defaults;
 mod endings;
 mod languages;
 mod listings;
@@ -65,8 +64,6 @@ pub const KINDS: &[Kind] = &[
     kind("builds with table and counts in outputs of each length from 0 to one more than needed", 30, counted::outputs),
     kind("builds with counts, and working areas of 0 to 100,000 bytes", 10, counted::working_areas),
     kind("books of 256 rows and of 40 entries, and trees and books too large, built with counts", 5, counted::limits),
-    kind("books with and without a class field, given to both calls of each pair", 100, defaults::written_in),
-    kind("damaged, cut and moved books and any bytes, given to both calls of each pair", 60, defaults::refusals),
     kind("plans, every name of the list chosen; list and rows together a book", 80, plans::valid),
     kind("plans damaged at every byte", 200, plans::damaged),
     kind("plans with every byte value at one place", 100, plans::every_byte),

@@ -2,9 +2,9 @@
 
 use crate::comparing::{Mismatch, Run};
 use crate::damage::{damaged_everywhere, moved_fields};
-use crate::drawing::{draw_small_book, draw_table, named_classes};
+use crate::drawing::{all_classes, draw_small_book, draw_table};
 use crate::ends::draw_with_dead_states;
-use reference::fields::{read_table, Class, STATES_LIMIT};
+use reference::fields::{read_table, STATES_LIMIT};
 use reference::random::Random;
 use reference::table::Table;
 use reference::{build, Lent, INPUT_LIMIT, WORK_BYTES};
@@ -18,8 +18,7 @@ pub fn draw_small_table(random: &mut Random) -> Table {
         _ => {}
     }
     let book = draw_small_book(random).bytes();
-    let built =
-        build(&book, Class::DEFAULT, Lent { work: WORK_BYTES, output: INPUT_LIMIT }, random).expect("a small book is accepted");
+    let built = build(&book, Lent { work: WORK_BYTES, output: INPUT_LIMIT }, random).expect("a small book is accepted");
     read_table(&built.bytes).expect("a built table can be read")
 }
 
@@ -29,7 +28,7 @@ pub fn rewritten(run: &mut Run) -> Result<(), Mismatch> {
     let large = draw_table(&mut run.random, states);
     same_bytes(run, &large.bytes())?;
     let mut table = draw_small_table(&mut run.random);
-    for class in named_classes() {
+    for class in all_classes().into_iter().flatten() {
         table.class = class;
         same_bytes(run, &table.bytes())?;
     }
@@ -38,8 +37,8 @@ pub fn rewritten(run: &mut Run) -> Result<(), Mismatch> {
 
 /// An accepted table is rewritten to the same bytes.
 fn same_bytes(run: &mut Run, table: &[u8]) -> Result<(), Mismatch> {
-    let rewritten = run.compare_rewrite(table)?.gave;
-    if rewritten.map(|rewritten| rewritten.bytes).as_deref() != Ok(table) {
+    let rewritten = run.compare_rewrite(table)?;
+    if rewritten.is_none_or(|rewritten| rewritten.bytes != table) {
         let what = "an accepted table is not rewritten to the same bytes".into();
         return Err(Mismatch::new("plans_rewrite", what, &[("table", table)]));
     }

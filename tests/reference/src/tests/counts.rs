@@ -1,4 +1,3 @@
-use super::worked_days::NAMES;
 use super::{book, built};
 use crate::counts::{count, with_counts, Counted, StateCounts};
 use crate::fields::{read_table, Class};
@@ -36,7 +35,8 @@ fn repeats_are_counted() {
         &[5, 0, 2, 0, 1],
         &[5, 0, 2, 0, 3],
     ];
-    assert_eq!(counts_file(&NAMES, Class::Context { k: 2, h: 1 }, &rows), expected.concat());
+    let names = ["breakfast", "dinner", "lunch", "snack"];
+    assert_eq!(counts_file(&names, Class::Context { k: 2, h: 1 }, &rows), expected.concat());
 }
 
 #[test]

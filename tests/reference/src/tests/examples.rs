@@ -1,5 +1,4 @@
 use super::{built, ENOUGH};
-use crate::fields::Class;
 use crate::listing::{list, listing};
 use crate::random::Random;
 use crate::refusal::Refusal;
@@ -30,8 +29,7 @@ fn the_example_book_is_listed() {
 
 #[test]
 fn a_text_as_long_as_the_listing_passes_and_one_shorter_gives_13() {
-    let list_in =
-        |output| list(&bytes(BOOK), Class::DEFAULT, Lent { output, ..ENOUGH }, &mut Random::new(1)).map(|text| text.len());
+    let list_in = |output| list(&bytes(BOOK), Lent { output, ..ENOUGH }, &mut Random::new(1)).map(|text| text.len());
     assert_eq!(list_in(52), Ok(52));
     assert_eq!(list_in(51), Err(Refusal::OutputTooShort));
 }

@@ -1,8 +1,7 @@
 //! The worked days of docs/SCOPE.md, its example, its edges, how many rows differ, how often each way is used, states with no way to an
-//! end, books without a class field, the refusals it numbers, and its readings of plans.
+//! end, the refusals it numbers, and its readings of plans.
 
 mod counts;
-mod defaults;
 mod different_rows;
 mod edges;
 mod endings;
@@ -37,12 +36,7 @@ fn book(names: &[&str], class: Option<Class>, rows: &[Vec<u8>]) -> Vec<u8> {
 }
 
 fn built(book: &[u8]) -> Result<Built, Refusal> {
-    built_with(book, Class::DEFAULT)
-}
-
-/// Built where a book without a class field has this class.
-fn built_with(book: &[u8], default: Class) -> Result<Built, Refusal> {
-    build(book, default, ENOUGH, &mut Random::new(1))
+    build(book, ENOUGH, &mut Random::new(1))
 }
 
 /// Distinct names, ascending.

@@ -1,5 +1,5 @@
 use super::{book, built, ENOUGH};
-use crate::fields::{Class, CLASS, NAME, ROW, STATE};
+use crate::fields::{CLASS, NAME, ROW, STATE};
 use crate::random::Random;
 use crate::refusal::Refusal;
 use crate::refusal::Refusal::*;
@@ -29,7 +29,7 @@ fn sizes_are_judged_first() {
     assert_eq!(built(&long), Err(BadSizes));
     assert_eq!(built(&long[1..]), Err(CutOff));
     let short = Lent { work: WORK_BYTES - 1, ..ENOUGH };
-    assert_eq!(build(&[], Class::DEFAULT, short, &mut Random::new(1)), Err(BadSizes));
+    assert_eq!(build(&[], short, &mut Random::new(1)), Err(BadSizes));
     assert_eq!(rewrite(&[], short), Err(BadSizes));
     assert_eq!(walk(&[], &[], WORK_BYTES - 1), Err(BadSizes));
 }
@@ -120,8 +120,8 @@ fn an_output_one_byte_short() {
     let length = built(&book).unwrap().bytes.len();
     let exact = Lent { output: length, ..ENOUGH };
     let short = Lent { output: length - 1, ..ENOUGH };
-    assert!(build(&book, Class::DEFAULT, exact, &mut Random::new(1)).is_ok());
-    assert_eq!(build(&book, Class::DEFAULT, short, &mut Random::new(1)), Err(OutputTooShort));
+    assert!(build(&book, exact, &mut Random::new(1)).is_ok());
+    assert_eq!(build(&book, short, &mut Random::new(1)), Err(OutputTooShort));
     let table = built(&book).unwrap().bytes;
     assert!(rewrite(&table, exact).is_ok());
     assert_eq!(rewrite(&table, short), Err(OutputTooShort));

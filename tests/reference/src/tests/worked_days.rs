@@ -16,16 +16,14 @@ struct Day {
     walks: &'static [(&'static str, Outcome, usize)],
 }
 
-pub(super) const NAMES: [&str; 4] = ["breakfast", "dinner", "lunch", "snack"];
-
-/// The number of each of these names, from its first letter.
-pub(super) fn row(letters: &str) -> Vec<u8> {
+/// The number of each name of breakfast, dinner, lunch, snack, from its first letter.
+fn row(letters: &str) -> Vec<u8> {
     letters.chars().map(|letter| "bdls".find(letter).expect("a worked day's name") as u8).collect()
 }
 
 fn book_of(day: &Day) -> Vec<u8> {
     let rows: Vec<Vec<u8>> = day.rows.iter().map(|letters| row(letters)).collect();
-    book(&NAMES, Some(day.class), &rows)
+    book(&["breakfast", "dinner", "lunch", "snack"], Some(day.class), &rows)
 }
 
 fn check(day: Day) {
@@ -42,7 +40,7 @@ fn check(day: Day) {
         assert_eq!((walked.outcome, walked.beginning), (*outcome, &row[..*length]));
     }
     for seed in 0..50 {
-        assert_eq!(build(&book, Class::DEFAULT, ENOUGH, &mut Random::new(seed)).unwrap(), table);
+        assert_eq!(build(&book, ENOUGH, &mut Random::new(seed)).unwrap(), table);
     }
 }
 
