@@ -24,7 +24,7 @@ OTHERS = {
     "last-names": "last_names_class",
     "tableBytes": "bytes_of_table",
 }
-STD = set("length take drop set get_or map append reverse filter replicate bit cond sum head tail In pow min max".split())
+STD = set("flat_map length take drop set get_or map append reverse filter replicate bit cond sum head tail In pow min max".split())
 
 
 def snake(name):
@@ -48,7 +48,11 @@ def statements(text):
     """Yields (kind, name, signature) of each declaration at the left margin."""
     blocks = re.split(r"\n\s*\n", text)
     for block in blocks:
-        lines = [l for l in block.split("\n") if not l.startswith("--")]
+        lines = [l for l in block.split("\n") if not l.lstrip().startswith("--")]
+        if lines and lines[0].startswith("module "):
+            lines.pop(0)
+        if lines and lines[0].startswith("  ") and not lines[0].startswith("   "):
+            lines = [l[2:] if l.startswith("  ") else l for l in lines]
         while lines and re.match(r"(use|pub mod|mod|module|unfolding|ruleset) ?", lines[0]):
             lines.pop(0)
         if not lines or lines[0].startswith((" ", "{")):
@@ -83,7 +87,7 @@ def gather():
             if is_type(kind, sig):
                 types.add(name)
                 if "record" in kind or "data" in kind:
-                    body = re.search(r"^(?:pub )?(?:record|data) " + re.escape(name) + r"(?= |$)[^\n]*(?:\n(?:[ ]+[^\n]*)?)*", text, re.M).group(0)
+                    body = re.search(r"^ *(?:pub )?(?:record|data) " + re.escape(name) + r"(?= |$)[^\n]*(?:\n(?:[ ]+[^\n]*)?)*", text, re.M).group(0)
                     for l in body.split("\n")[1:]:
                         m = re.match(r"  (?:\| )?(?:pub )?(" + WORD + r") :", l)
                         if m:

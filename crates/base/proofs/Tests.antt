@@ -161,11 +161,11 @@ before-trans (x ∷ xs) (y ∷ ys) (z ∷ zs) e f =
 
 module _ {A : Type 0} {test : A → Bool} {P : A → Type 0} (told : (x : A) → Tells (test x) (P x)) where
   -- some element is one of which the fact holds
-  pub tells-any : (xs : List A) → Tells (any test xs) ((x : A) × In x xs × P x)
+  pub tells_any : (xs : List A) → Tells (any test xs) ((x : A) × In x xs × P x)
   unfolding any
-  tells-any [] = record { fact = λ e. absurd (false≢true e); test = λ h. absurd (Memᴰ.not-nil h.1) }
-  tells-any (y ∷ ys) =
-      tells_by (tells_or (told y) (tells-any ys))
+  tells_any [] = record { fact = λ e. absurd (false≢true e); test = λ h. absurd (Memᴰ.not-nil h.1) }
+  tells_any (y ∷ ys) =
+      tells_by (tells_or (told y) (tells_any ys))
       (λ h. ⊎_elim (λ p. (y, here refl, p)) (λ r. (r.0, there r.1, r.2)) h)
       (λ h. ⊎_elim (λ e. inl (subst P e h.2)) (λ m. inr (h.0, m, h.2)) (Memᴰ.cases_cons h.1))
 
@@ -180,19 +180,19 @@ module _ {A : Type 0} {test : A → Bool} {P : A → Type 0} (told : (x : A) →
 
 module _ {A : Type 0} {test : A → A → Bool} {P : A → A → Type 0} (told : (x y : A) → Tells (test x y) (P x y)) where
   -- it holds of some two elements, one after the other or the same
-  pub tells-anyTwo : (xs : List A) → Tells (any_two test xs) ((x y : A) × In x xs × In y xs × P x y)
+  pub tells_any_two : (xs : List A) → Tells (any_two test xs) ((x y : A) × In x xs × In y xs × P x y)
   unfolding any_two
-  tells-anyTwo xs =
-      tells_by (tells-any (λ x. tells-any (λ y. told x y) xs) xs)
+  tells_any_two xs =
+      tells_by (tells_any (λ x. tells_any (λ y. told x y) xs) xs)
       (λ h. (h.0, h.2.0, h.1, h.2.1, h.2.2))
       (λ h. (h.0, h.2, (h.1, h.3, h.4)))
 
 pub tells_is_in : (x : ℕ) (ys : List ℕ) → Tells (is_in x ys) (In x ys)
 unfolding is_in
 tells_is_in x ys =
-    tells_by (tells-any (λ y. tells_eqb x y) ys) (λ h. subst (λ z. In z ys) (sym h.2) h.1) (λ m. (x, m, refl))
+    tells_by (tells_any (λ y. tells_eqb x y) ys) (λ h. subst (λ z. In z ys) (sym h.2) h.1) (λ m. (x, m, refl))
 
 pub tells_has_row : (x : List ℕ) (ys : List (List ℕ)) → Tells (has_row x ys) (In x ys)
 unfolding has_row
 tells_has_row x ys =
-    tells_by (tells-any (λ y. tells_same x y) ys) (λ h. subst (λ z. In z ys) (sym h.2) h.1) (λ m. (x, m, refl))
+    tells_by (tells_any (λ y. tells_same x y) ys) (λ h. subst (λ z. In z ys) (sym h.2) h.1) (λ m. (x, m, refl))

@@ -101,20 +101,20 @@ module _ {A : Type 0} where
 
   -- ---- how many pass a test
 
-  pub many-few : (test : A → Bool) (xs : List A) → how_many test xs ≤ length xs
-  many-few test xs =
+  pub many_few : (test : A → Bool) (xs : List A) → how_many test xs ≤ length xs
+  many_few test xs =
       let all = total-most (λ (x : A). when (test x) 1) 1 xs (λ x m. when-le (test x) 1) in omega (arith, all)
 
   -- one passes exactly where the number is not 0
-  pub many-some : (test : A → Bool) (xs : List A) (x : A) → In x xs → test x ≡ true → 0 < how_many test xs
-  many-some test xs x m e =
+  pub many_some : (test : A → Bool) (xs : List A) (x : A) → In x xs → test x ≡ true → 0 < how_many test xs
+  many_some test xs x m e =
       let one : when (test x) 1 ≡ 1 = ap (λ (b : Bool). when b 1) e in
       omega (arith, total-has (λ (y : A). when (test y) 1) xs x m)
 
-  pub some-many : (test : A → Bool) (xs : List A) → 0 < how_many test xs → (x : A) × In x xs × (test x ≡ true)
+  pub some_many : (test : A → Bool) (xs : List A) → 0 < how_many test xs → (x : A) × In x xs × (test x ≡ true)
   unfolding total
-  some-many test [] h = let z : ⊥ = omega arith in absurd z
-  some-many test (x ∷ xs) h = go (test x) refl (some-many test xs)
+  some_many test [] h = let z : ⊥ = omega arith in absurd z
+  some_many test (x ∷ xs) h = go (test x) refl (some_many test xs)
     where
       go :
           (b : Bool) → test x ≡ b → (0 < how_many test xs → (y : A) × In y xs × (test y ≡ true)) →
@@ -141,17 +141,17 @@ module _ {A B : Type 0} where
   total-map f g [] = refl
   total-map f g (x ∷ xs) = ap (λ (n : ℕ). f (g x) + n) (total-map f g xs)
 
-  pub total-flatMap :
+  pub total-flat_map :
       (f : B → ℕ) (g : A → List B) (xs : List A) → total f (flat_map g xs) ≡ total (λ (x : A). total f (g x)) xs
   unfolding total flat_map
-  total-flatMap f g [] = refl
-  total-flatMap f g (x ∷ xs) =
-      total-append f (g x) (flat_map g xs) ∙ ap (λ (n : ℕ). total f (g x) + n) (total-flatMap f g xs)
+  total-flat_map f g [] = refl
+  total-flat_map f g (x ∷ xs) =
+      total-append f (g x) (flat_map g xs) ∙ ap (λ (n : ℕ). total f (g x) + n) (total-flat_map f g xs)
 
-  pub length-flatMap : (f : A → List B) (xs : List A) → length (flat_map f xs) ≡ total (λ (x : A). length (f x)) xs
+  pub length-flat_map : (f : A → List B) (xs : List A) → length (flat_map f xs) ≡ total (λ (x : A). length (f x)) xs
   unfolding total flat_map
-  length-flatMap f [] = refl
-  length-flatMap f (x ∷ xs) = omega (arith, length-append (f x) (flat_map f xs), length-flatMap f xs)
+  length-flat_map f [] = refl
+  length-flat_map f (x ∷ xs) = omega (arith, length-append (f x) (flat_map f xs), length-flat_map f xs)
 
 -- ---- over numbers in succession
 

@@ -48,7 +48,7 @@ table_bytes = 5830
 abbrev pub listing_bytes : ℕ
 listing_bytes = 32768
 
--- a book's counts have at most so many bytes: 512 states and as many arcs. It follows from the limits: `book-counts-length` of
+-- a book's counts have at most so many bytes: 512 states and as many arcs. It follows from the limits: `book_counts-length` of
 -- counts/proofs/Written.antt
 abbrev pub counts_bytes : ℕ
 counts_bytes = 5 * state_limit + 2 * state_limit

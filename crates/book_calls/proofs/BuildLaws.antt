@@ -14,12 +14,12 @@ use Rattle.model.specs.Quotients.{book_states, book_table}
 use Rattle.model.specs.Calls.{Gives, fault_with, book_of, tree_fault, book_fault, build_fault, joins_of, distinct_of}
 use Rattle.model.specs.Claims.{Accepted}
 use Rattle.model.proofs.FieldLaws.{first_of_lem}
-use Rattle.model.proofs.CallLaws.{refuses_first, refuses_then, refuses_none, call-refused, seen_as_lem, refusal_is, answer-by, answered}
-use Rattle.model.proofs.CallLaws.{sizes_bad, sizes-refuse, sizes-pass, one-wrote, first_alone, FrontOf, front_of_lem}
+use Rattle.model.proofs.CallLaws.{refuses_first, refuses_then, refuses_none, call-refused, seen_as_lem, refusal_is, answer_by, answered}
+use Rattle.model.proofs.CallLaws.{sizes_bad, sizes_refuse, sizes_pass, one_wrote, first_alone, FrontOf, front_of_lem}
 use Rattle.model.proofs.DifferentRows.{different_nodes}
-use Rattle.model.proofs.Demands.{accepted_tree, states_few, table-length}
+use Rattle.model.proofs.Demands.{accepted_tree, states_few, table_length}
 use Rattle.counts.specs.Counts.{counts_if, book_counts}
-use Rattle.counts.proofs.Written.{book-counts-length}
+use Rattle.counts.proofs.Written.{book_counts-length}
 use Rattle.fields.specs.Places.{file_of, ReadAs}
 use Rattle.fields.specs.declared.Place.{Place}
 use Rattle.fields.specs.declared.Fields.TheVariants as answer
@@ -70,35 +70,35 @@ pub record Small (i : Inferred) : Type 0 where
   pub counts_small : i.counts ≤ counts_bytes
 
 module _ (settings : Settings) (wanted : Bool) (book work : List ℕ) (outs : List (List ℕ)) where
-  pub build-sizes-refused :
+  pub build_sizes_refused :
       sizes_bad book work ≡ true → Gives (building_counted settings wanted book work) outs outs (not_counted bad_sizes)
   unfolding building_counted build_fault
-  build-sizes-refused bad =
-      call-refused (building_counted settings wanted book work) outs (refuses_first _ (sizes-refuse book work bad))
+  build_sizes_refused bad =
+      call-refused (building_counted settings wanted book work) outs (refuses_first _ (sizes_refuse book work bad))
 
-  pub build-fields-refused :
+  pub build_fields_refused :
       (k : ℕ) → sizes_bad book work ≡ false → (read_book settings book).number ≡ k → 0 < k →
       Gives (building_counted settings wanted book work) outs outs (not_counted k)
   unfolding building_counted build_fault book_fault
-  build-fields-refused k fit e some =
+  build_fields_refused k fit e some =
       call-refused (building_counted settings wanted book work) outs
-      (refuses_then (sizes-pass book work fit) (refuses_first _ (record { is = e; some = some })))
+      (refuses_then (sizes_pass book work fit) (refuses_first _ (record { is = e; some = some })))
 
   -- a book that is read comes to what inference refuses
-  refusal-inferred :
+  refusal_inferred :
       sizes_bad book work ≡ false → (read_book settings book).number ≡ 0 →
       (inferring wanted (book_of settings book)).refusal ≡ build_fault settings book work
   unfolding inferring build_fault book_fault
-  refusal-inferred fit e =
-      sym (ap (λ (n : ℕ). first_of n (book_fault settings book)) (sizes-pass book work fit)
+  refusal_inferred fit e =
+      sym (ap (λ (n : ℕ). first_of n (book_fault settings book)) (sizes_pass book work fit)
       ∙ ap (λ (n : ℕ). first_of n (tree_fault (book_of settings book).items)) e)
 
-  pub build-inferred :
+  pub build_inferred :
       (outs' : List (List ℕ)) (i : Inferred) → sizes_bad book work ≡ false → (read_book settings book).number ≡ 0 →
       Infers wanted (book_of settings book) outs outs' i →
       Gives (building_counted settings wanted book work) outs outs' (as_counted i)
   unfolding building_counted inferring
-  build-inferred outs' i fit e gives =
+  build_inferred outs' i fit e gives =
       let f = book_of settings book in
       let counts = counts_if wanted (book_states f) f.items in
       subst (λ (k : ℕ).
@@ -110,29 +110,29 @@ module _ (settings : Settings) (wanted : Bool) (book work : List ℕ) (outs : Li
         writes = book_table f ∷ (counts ∷ []);
       })
       outs outs' (as_counted i))
-      (refusal-inferred fit e)
+      (refusal_inferred fit e)
       (seen_as_lem as_counted (inferring wanted f) outs outs' i gives)
 
   -- the counts are few, wanted or not
-  counts-few :
+  counts_few :
       Allowed settings → Accepted settings book →
       length (counts_if wanted (book_states (book_of settings book)) (book_of settings book).items) ≤ counts_bytes
   unfolding book_counts
-  counts-few allowed ok = go wanted
+  counts_few allowed ok = go wanted
     where
       all : length (book_counts (book_of settings book)) ≤ counts_bytes
-      all = book-counts-length settings allowed book ok
+      all = book_counts-length settings allowed book ok
 
       go : (b : Bool) → length (counts_if b (book_states (book_of settings book)) (book_of settings book).items) ≤ counts_bytes
       go true = all
       go false = omega arith
 
-  pub inferred-small :
+  pub inferred_small :
       (outs' : List (List ℕ)) (i : Inferred) → Allowed settings → (read_book settings book).number ≡ 0 →
       Infers wanted (book_of settings book) outs outs' i → Small i
   unfolding inferring book_fault
-  inferred-small outs' i allowed e gives =
-      answer-by gives Small
+  inferred_small outs' i allowed e gives =
+      answer_by gives Small
       (λ k.
       record {
         length_small = omega arith;
@@ -145,11 +145,11 @@ module _ (settings : Settings) (wanted : Bool) (book work : List ℕ) (outs : Li
       let few : tree_fault (book_of settings book).items ≡ 0 = (first_of_lem _ _ none).0 in
       let ok : Accepted settings book = refuses_none e few in
       record {
-        length_small = omega (arith, table-length settings allowed book ok);
+        length_small = omega (arith, table_length settings allowed book ok);
         states_small = omega (arith, states_few (book_of settings book), accepted_tree settings book ok);
         joins_small = joins_few settings book ok;
         distinct_small = distinct_few settings book ok;
-        counts_small = counts-few allowed ok;
+        counts_small = counts_few allowed ok;
       })
 
 -- ---- the table alone
@@ -187,6 +187,6 @@ built-front settings book work out out' r gives none =
       answer_is = is;
       at_front =
           front_of_lem (book_table (book_of settings book)) out out' r.length
-          (one-wrote (building settings book work) (book_table (book_of settings book)) out refl out' r gives fault)
+          (one_wrote (building settings book work) (book_table (book_of settings book)) out refl out' r gives fault)
           (ap (λ (b : Built). b.length) is);
     }

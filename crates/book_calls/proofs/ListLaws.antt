@@ -16,9 +16,9 @@ use Rattle.model.specs.Calls.{table_of, table_states}
 use Rattle.model.specs.Listing.{listing, book_listing}
 use Rattle.model.specs.Claims.{Accepted}
 use Rattle.model.proofs.FieldLaws.{first_of_lem}
-use Rattle.model.proofs.CallLaws.{call-refused, refusal_is, fault_roomy, sizes-fit}
-use Rattle.model.proofs.CallLaws.{short-is, call-one-short, call-one-wrote, FrontOf, front_of_lem}
-use Rattle.model.proofs.Demands.{demands, book-writable, read_table, table-length}
+use Rattle.model.proofs.CallLaws.{call-refused, refusal_is, fault_roomy, sizes_fit}
+use Rattle.model.proofs.CallLaws.{short_is, call-one_short, call-one_wrote, FrontOf, front_of_lem}
+use Rattle.model.proofs.Demands.{demands, book_writable, read_table, table_length}
 use Rattle.writing.specs.Writing as writing
 use Rattle.writing.proofs.WritingLaws.{written-from_zero}
 use Rattle.writing.specs.Writing.{Put}
@@ -34,14 +34,14 @@ pub copy_short :
     (bytes text : List ℕ) → length text < length bytes →
     Gives (copying bytes) (text ∷ []) (text ∷ []) (not_written output_too_short)
 unfolding copying
-copy_short bytes text short = call-one-short (copying bytes) bytes text refl refl short
+copy_short bytes text short = call-one_short (copying bytes) bytes text refl refl short
 
 pub copy_whole :
     (bytes text text' : List ℕ) → length bytes ≤ length text → writing.Written text text' 0 bytes →
     Gives (copying bytes) (text ∷ []) (text' ∷ []) (written 0 (length bytes))
 unfolding copying
 copy_whole bytes text text' room copied =
-    call-one-wrote (copying bytes) bytes text refl text' _ refl room (written-from_zero copied) refl
+    call-one_wrote (copying bytes) bytes text refl text' _ refl room (written-from_zero copied) refl
 
 -- ---- the table that was built
 
@@ -64,20 +64,20 @@ module _ (settings : Settings) (allowed : Allowed settings) where
   pub listing-short : (book : List ℕ) → Accepted settings book → length (book_listing (book_of settings book)) ≤ listing_bytes
   listing-short book ok =
       book_listing-length settings allowed book _ (joins_of (book_of settings book)) (distinct_of (book_of settings book)) ok
-      (book-writable settings allowed book ok)
+      (book_writable settings allowed book ok)
 
-  table-listed :
+  table_listed :
       (book work : List ℕ) → build_fault settings book work ≡ 0 →
       ListedBy settings book work (book_table (book_of settings book)) (joins_of (book_of settings book))
       (distinct_of (book_of settings book))
   unfolding build_fault
-  table-listed book work none =
+  table_listed book work none =
       let parts = first_of_lem (sizes_fault book work) (book_fault settings book) none in
       let ok : Accepted settings book = parts.1 in
       let f = book_of settings book in
       record {
         no_fault = none;
-        work_fits = (sizes-fit book work parts.0).work_fits;
+        work_fits = (sizes_fit book work parts.0).work_fits;
         no_refusal = ap (λ (r : Read). r.number) (read_table settings allowed book ok);
         few_joins = omega (arith, joins_few settings book ok);
         few_distinct = omega (arith, distinct_few settings book ok);
@@ -97,7 +97,7 @@ module _ (settings : Settings) (allowed : Allowed settings) where
         let front = built-front settings book work out out' r gives none in
         subst (λ (table : List ℕ). ListedBy settings book work table r.joins r.distinct) (sym front.at_front.bytes_are)
         (subst (λ (b : Built). ListedBy settings book work (book_table f) b.joins b.distinct) (sym front.answer_is)
-        (table-listed book work front.not_refused))
+        (table_listed book work front.not_refused))
 
     -- one that is refused, with an output that takes every table, is refused as a listing is
     pub listing-refused :
@@ -107,9 +107,9 @@ module _ (settings : Settings) (allowed : Allowed settings) where
     listing-refused text long some =
         let room : build_fault settings book work ≡ 0 → too_short (building settings book work).writes (out ∷ []) ≡ false =
         λ (none : build_fault settings book work ≡ 0).
-        short-is (building settings book work) (book_table (book_of settings book)) out refl
+        short_is (building settings book work) (book_table (book_of settings book)) out refl
         ∙ le-ltb (length out) (length (book_table (book_of settings book)))
-        (omega (arith, long, table-length settings allowed book (first_of_lem (sizes_fault book work) (book_fault settings book) none).1)) in
+        (omega (arith, long, table_length settings allowed book (first_of_lem (sizes_fault book work) (book_fault settings book) none).1)) in
         let fault = refusal_is gives (λ (b : Built). b.refusal) (λ k. refl) refl in
         call-refused (listing_book settings book work) (text ∷ [])
         (record { is = sym (fault ∙ fault_roomy (building settings book work) (out ∷ []) room); some = some })

@@ -84,8 +84,8 @@ module _ (i : ℕ) (parents names old next ahead : List ℕ) (from into on : ℕ
       (ap (bit place) (get_or-set_same ahead from (bit_or (get_or ahead from 0) moved) 0 in-ahead)
       ∙ bit-of_either place (get_or ahead from 0) moved (inr (bit_shifted 16 shift (low_of b) on room (on-is b low was))))
 
-  pub lead-more : LeadOnBelow i parents names old next ahead → LeadOnBelow (suc i) parents names old next ahead'
-  lead-more so_far v pos low =
+  pub lead_more : LeadOnBelow i parents names old next ahead → LeadOnBelow (suc i) parents names old next ahead'
+  lead_more so_far v pos low =
       below_suc (λ (u : ℕ). (0 < u) → LeadsOn parents names old next ahead' u) i
       (λ u before some b b-low one.
       bits_grow ahead from moved in-ahead (get_or old (get_or parents u 0) 0) (pair_bit (get_or names u 0) b)
@@ -136,10 +136,10 @@ module _ {n : ℕ} {parents names old next : List ℕ} (ahead : List ℕ) (array
       (leads x x_pos x-low (get_or names y 0) (arrays.name_below y y-pos y-low)
       (subst (λ (g : ℕ). bit (get_or names y 0) (get_or next g 0) ≡ 1) on (linked.leaves y y-pos y-low)))
 
-  pub two-names-tell : (j : ℕ) → 1 < j → Telling n j parents names old ahead
-  two-names-tell zero some v w v_low w-low s = let z : ⊥ = omega arith in absurd z
-  two-names-tell (suc zero) some v w v_low w-low s = let z : ⊥ = omega arith in absurd z
-  two-names-tell (suc (suc j)) some v w v_low w-low s =
+  pub two_names_tell : (j : ℕ) → 1 < j → Telling n j parents names old ahead
+  two_names_tell zero some v w v_low w-low s = let z : ⊥ = omega arith in absurd z
+  two_names_tell (suc zero) some v w v_low w-low s = let z : ⊥ = omega arith in absurd z
+  two_names_tell (suc (suc j)) some v w v_low w-low s =
       let on = s.9 in
       bits_meet (pair_bit (get_or names s.0 0) (get_or names on.0 0)) (get_or ahead (get_or old v 0) 0)
       (get_or ahead (get_or old w 0) 0)

@@ -30,17 +30,17 @@ both_some false false base groups groups' first second less less' e = absurd (fa
 -- ---- the states on a chain
 
 module _ (links : List ℕ) where
-  pub on-here : (at v : ℕ) → at ≡ suc v → OnChain links at v
+  pub on_here : (at v : ℕ) → at ≡ suc v → OnChain links at v
   unfolding link_down
-  on-here at v e = (0, e)
+  on_here at v e = (0, e)
 
-  pub on-later : (at v y : ℕ) → at ≡ suc v → OnChain links (get_or links v 0) y → OnChain links at y
+  pub on_later : (at v y : ℕ) → at ≡ suc v → OnChain links (get_or links v 0) y → OnChain links at y
   unfolding link_down
-  on-later at v y e on = subst (λ (a : ℕ). OnChain links a y) (sym e) (suc on.0, on.1)
+  on_later at v y e on = subst (λ (a : ℕ). OnChain links a y) (sym e) (suc on.0, on.1)
 
-  pub on-split : (at v y : ℕ) → at ≡ suc v → OnChain links at y → (y ≡ v) ⊎ OnChain links (get_or links v 0) y
+  pub on_split : (at v y : ℕ) → at ≡ suc v → OnChain links at y → (y ≡ v) ⊎ OnChain links (get_or links v 0) y
   unfolding link_down
-  on-split at v y e on = go on.0 (subst (λ (a : ℕ). link_down links on.0 a ≡ suc y) e on.1)
+  on_split at v y e on = go on.0 (subst (λ (a : ℕ). link_down links on.0 a ≡ suc y) e on.1)
     where
       go : (k : ℕ) → link_down links k (suc v) ≡ suc y → (y ≡ v) ⊎ OnChain links (get_or links v 0) y
       go zero here = inl (omega (arith, here))
@@ -89,8 +89,8 @@ module _ (links : List ℕ) where
         go (suc fuel) (suc w) enough from under =
             let low-w : w < i = omega (arith, from.0) in
             let in-w : In b w = from.1 w refl in
-            ⊎_elim (λ e. on-here (suc w) u (ap suc (sym e)))
-            (λ apart. on-later (suc w) w u refl
+            ⊎_elim (λ e. on_here (suc w) u (ap suc (sym e)))
+            (λ apart. on_later (suc w) w u refl
             (go fuel (get_or links w 0) (omega (arith, chained.link_low b w low-w in-w)) (from_next w from)
             (not-above (get_or links w 0)
             (λ above. chained.link_last b w u low-w in-w above (omega arith) in-u)))) (eq_dec u w)

@@ -11,8 +11,8 @@ use Rattle.base.proofs.Tests.{eq_dec}
 use Rattle.indexed.specs.Trees.{Arrays, SameSuffix, up}
 use Rattle.indexed.specs.Partitions.{Refines, Labelled, ForkClosed, ContextClosed}
 use Rattle.indexed.specs.Passes.{BySuffix, ContextJoined}
-use Rattle.indexed.proofs.Suffixes.{up-below, up-parent, parent_below, climb-sound, suffix-cast}
-use Rattle.indexed.proofs.Contexts.{suffix-closed, climbed-closed}
+use Rattle.indexed.proofs.Suffixes.{up-below, up-parent, parent_below, climb_sound, suffix_cast}
+use Rattle.indexed.proofs.Contexts.{suffix_closed, climbed_closed}
 use Rattle.partition.specs.Joins.{JoinedTwo}
 use Rattle.contexts.specs.Climbs.{Above, Upward, StepsJoined, ParentsJoined, Climbed, ClimbedAt, ClimbedBelow}
 
@@ -46,9 +46,9 @@ pub record Climbs (n i m : ℕ) (parents starts groups groups' : List ℕ) : Typ
   pub steps : (v : ℕ) → v < i → StepsOrNone m parents starts groups' v
 
 module _ (n m : ℕ) (parents : List ℕ) (above : Above n parents) where
-  pub climbing-none : (v w : ℕ) (groups : List ℕ) → v < n → w < n → Labelled n groups → Climbing n m parents v w 0 v w groups groups
+  pub climbing_none : (v w : ℕ) (groups : List ℕ) → v < n → w < n → Labelled n groups → Climbing n m parents v w 0 v w groups groups
   unfolding up
-  climbing-none v w groups hv hw labelled =
+  climbing_none v w groups hv hw labelled =
       record {
         at_a = refl;
         at_b = refl;
@@ -97,9 +97,9 @@ module _ (n m : ℕ) (parents : List ℕ) (above : Above n parents) where
           steps = more-steps;
         }
 
-  pub climbing-done :
+  pub climbing_done :
       (v w a b : ℕ) (groups groups' : List ℕ) → Climbing n m parents v w m a b groups groups' → Climbed n m parents v w groups groups'
-  climbing-done v w a b groups groups' climbing =
+  climbing_done v w a b groups groups' climbing =
       record {
         labelled = climbing.labelled;
         coarser = climbing.coarser;
@@ -192,8 +192,8 @@ module _ (n h m k : ℕ) (parents names starts groups : List ℕ) (arrays : Arra
         (v w : ℕ) → v < n → w < n → (v ≡ w) ⊎ SameSuffix parents names k v w → Upward m parents others v w
     like-upward v w hv hw (inl e) i le = ap (λ (x : ℕ). get_or others (up parents i x) 0) e
     like-upward v w hv hw (inr s) i le =
-        climb-sound n parents names arrays h m i v w others pos fork context hv hw le
-        (suffix-cast n parents names arrays k (h + m) v w (sym sum_is_lem) s)
+        climb_sound n parents names arrays h m i v w others pos fork context hv hw le
+        (suffix_cast n parents names arrays k (h + m) v w (sym sum_is_lem) s)
 
     pub starts-refine : Refines n starts others
     unfolding up
@@ -233,7 +233,7 @@ pub climbs_closed :
     ContextJoined n k h parents names groups
 climbs_closed n h k parents names starts groups arrays pos sum_is_lem by climbed =
     subst (λ (j : ℕ). ContextJoined n j h parents names groups) sum_is_lem
-    (climbed-closed n parents names arrays h starts groups pos by_one climbed.labelled climbed.coarser
+    (climbed_closed n parents names arrays h starts groups pos by_one climbed.labelled climbed.coarser
     (climbs-join n h 1 (h + 1) parents names starts groups arrays pos refl by_one climbed (omega arith))
     (climbs-sound n h 1 (h + 1) parents names starts groups arrays pos refl by_one climbed))
   where
@@ -246,4 +246,4 @@ pub starts_closed :
     ContextJoined n k h parents names starts
 starts_closed n h k parents names starts arrays pos same by =
     subst (λ (j : ℕ). ContextJoined n j h parents names starts) same
-    (suffix-closed n parents names arrays h starts pos (subst (λ (j : ℕ). BySuffix n j parents names starts) (sym same) by))
+    (suffix_closed n parents names arrays h starts pos (subst (λ (j : ℕ). BySuffix n j parents names starts) (sym same) by))

@@ -149,21 +149,21 @@ module _ (n j : ℕ) (parents groups dist dist' dist'' : List ℕ) (i u : ℕ) (
   Here here = Lowered (SpreadAt j parents groups dist' u) dist' dist'' here
 
   -- where neither lowers a number, all are as they should be from u on
-  spread-of : (before here : Bool) → Later before → Here here → (before || here) ≡ false → SpreadFrom u n j parents groups dist
-  spread-of true here later at e v low h = absurd (true≢false e)
-  spread-of false here later at e v low h =
+  spread_of : (before here : Bool) → Later before → Here here → (before || here) ≡ false → SpreadFrom u n j parents groups dist
+  spread_of true here later at e v low h = absurd (true≢false e)
+  spread_of false here later at e v low h =
       ⊎_elim
       (λ same. subst (λ (x : ℕ). SpreadAt j parents groups dist x) (sym same)
       (subst (λ (l : List ℕ). SpreadAt j parents groups l u) (later.none refl).0 (at.none e).1))
       (λ apart. (later.none refl).1 v (omega arith) h) (eq_dec v u)
 
   -- both together
-  pub lowered-more :
+  pub lowered_more :
       (before here : Bool) → Later before → Here here → Lowered (SpreadFrom u n j parents groups dist) dist dist'' (before || here)
-  lowered-more before here later at =
+  lowered_more before here later at =
       record {
         fallen = fallen_more later.fallen at.fallen;
-        none = λ e. (both_none before here dist dist' dist'' first second e, spread-of before here later at e);
+        none = λ e. (both_none before here dist dist' dist'' first second e, spread_of before here later at e);
         some = both_some before here dist dist' dist'' first second later.some at.some;
       }
     where

@@ -12,27 +12,27 @@ use Rattle.indexed.specs.Trees.{Arrays, SameSuffix, up}
 use Rattle.indexed.specs.Partitions.{Refines, Share, ContextClosed}
 use Rattle.indexed.specs.Passes.{BySuffix}
 use Rattle.base.proofs.Places.{number_at}
-use Rattle.indexed.proofs.Suffixes.{parent_below, up-parent, suffix-cast}
+use Rattle.indexed.proofs.Suffixes.{parent_below, up-parent, suffix_cast}
 use Rattle.contexts.specs.Climbs.{ClimbedBelow}
 use Rattle.contexts.specs.Distances.{Tested, Spread, SpreadAt, distance_of}
 use Rattle.contexts.proofs.ClimbLaws.{climbs-steps}
 
 module _ {n j : ℕ} {parents before groups dist : List ℕ} (spread : Spread n j parents before groups dist) where
   -- states of a group that has not grown were in one group
-  alike-before :
+  alike_before :
       (u v : ℕ) → u < n → v < n → get_or groups u 0 ≡ get_or groups v 0 → 0 < distance_of groups dist v →
       get_or before u 0 ≡ get_or before v 0
-  alike-before u v hu hv one far =
+  alike_before u v hu hv one far =
       spread.unchanged u hu (subst (λ (g : ℕ). 0 < get_or dist g 0) (sym one) far)
       ∙ ap (λ (g : ℕ). get_or before g 0) one
       ∙ sym (spread.unchanged v hv far)
 
   -- the target of an arc is at most one nearer than its source, below j
-  target-far :
+  target_far :
       (i x v : ℕ) → suc i ≤ j → get_or groups (get_or parents x 0) 0 ≡ get_or groups v 0 → suc i ≤ distance_of groups dist v →
       SpreadAt j parents groups dist x → i ≤ distance_of groups dist x
-  target-far i x v within from far (inl beyond) = omega arith
-  target-far i x v within from far (inr near) =
+  target_far i x v within from far (inl beyond) = omega arith
+  target_far i x v within from far (inr near) =
       let same : distance_of groups dist (get_or parents x 0) ≡ distance_of groups dist v = ap (λ (g : ℕ). get_or dist g 0) from in
       omega arith
 
@@ -50,11 +50,11 @@ module _ {n j : ℕ} {parents before groups dist : List ℕ} (spread : Spread n 
       hx,
       hy,
       name,
-      alike-before (get_or parents x 0) v (parent_below n parents names arrays x hx) hv from_v (omega arith),
-      alike-before (get_or parents y 0) w (parent_below n parents names arrays y hy) hw from_w (omega arith),
+      alike_before (get_or parents x 0) v (parent_below n parents names arrays x hx) hv from_v (omega arith),
+      alike_before (get_or parents y 0) w (parent_below n parents names arrays y hy) hw from_w (omega arith),
       far-share i x y (omega arith) hx hy rest
-          (target-far i x v within from_v far-v (spread.spread x px hx))
-          (target-far i y w within from_w far-w (spread.spread y py hy)),
+          (target_far i x v within from_v far-v (spread.spread x px hx))
+          (target_far i y w within from_w far-w (spread.spread y py hy)),
     )
 
     -- two arcs of one name after which j names can be walked, both far: their sources are in one group
@@ -69,10 +69,10 @@ module _ {n j : ℕ} {parents before groups dist : List ℕ} (spread : Spread n 
 
 module _ (n h m : ℕ) (parents names before : List ℕ) where
   -- a coarser partition is as much tested
-  pub tested-coarser :
+  pub tested_coarser :
       (groups groups' : List ℕ) → Tested n h m parents names before groups → Refines n groups groups' →
       Tested n h m parents names before groups'
-  tested-coarser groups groups' tested coarser v w hv hw same shared = coarser v w hv hw (tested v w hv hw same shared)
+  tested_coarser groups groups' tested coarser v w hv hw same shared = coarser v w hv hw (tested v w hv hw same shared)
 
 -- a partition that is tested by itself is closed
 pub tested_closed :
@@ -109,7 +109,7 @@ module _ (n : ℕ) (parents names : List ℕ) (arrays : Arrays n parents names) 
         y_inside = hw;
         from_v = refl;
         from_w = refl;
-        same = suffix-cast n parents names arrays h (0 + h) v w none same;
+        same = suffix_cast n parents names arrays h (0 + h) v w none same;
       }
   own_below (suc m) h v w hv hw same (p, q, pp, pq, hp, hq, name, from_v, from_w, rest) =
       let at-v : get_or parents p 0 ≡ v = own_same (get_or parents p 0) v (parent_below n parents names arrays p hp) hv from_v in
@@ -125,17 +125,17 @@ module _ (n : ℕ) (parents names : List ℕ) (arrays : Arrays n parents names) 
         y_inside = deeper.y_inside;
         from_v = sym (up-parent parents m deeper.x) ∙ ap (λ (a : ℕ). get_or parents a 0) deeper.from_v ∙ at-v;
         from_w = sym (up-parent parents m deeper.y) ∙ ap (λ (a : ℕ). get_or parents a 0) deeper.from_w ∙ at-w;
-        same = suffix-cast n parents names arrays (m + suc h) (suc m + h) deeper.x deeper.y sum_is deeper.same;
+        same = suffix_cast n parents names arrays (m + suc h) (suc m + h) deeper.x deeper.y sum_is deeper.same;
       }
 
   -- the climbs from states with the same last k names join what states by themselves would have compared
-  pub tested-tree :
+  pub tested_tree :
       (h m k : ℕ) (starts groups : List ℕ) → 0 < h → 0 < m → h + m ≡ k → BySuffix n k parents names starts →
       ClimbedBelow n n m parents starts starts groups → Tested n h m parents names (numbers_from n 0) groups
-  tested-tree h m k starts groups some_names more_names sum_is by climbed v w hv hw same shared =
+  tested_tree h m k starts groups some_names more_names sum_is by climbed v w hv hw same shared =
       let all : m + h ≡ k = omega arith in
       let below = own_below m h v w hv hw same shared in
       subst₂ (λ (a b : ℕ). get_or groups a 0 ≡ get_or groups b 0) below.from_v below.from_w
       (climbs-steps n h m k parents names starts groups arrays some_names sum_is by climbed below.x below.y
-      below.x_inside below.y_inside (suffix-cast n parents names arrays (m + h) k below.x below.y all below.same) m
+      below.x_inside below.y_inside (suffix_cast n parents names arrays (m + h) k below.x below.y all below.same) m
       more_names (omega arith))

@@ -14,7 +14,7 @@ use Rattle.indexed.proofs.Keys.{forks-keys, keys_forks}
 use Rattle.indexed.proofs.Suffixes.{parent_below}
 use Rattle.worklist.specs.Settling.{JoinedUntil}
 use Rattle.worklist.specs.Forks.{ForksReady, Kept}
-use Rattle.worklist.proofs.KindLaws.{kind-closed}
+use Rattle.worklist.proofs.KindLaws.{kind_closed}
 use Rattle.contexts.specs.Rounds.{ForksJoined}
 
 -- numbers that are each no higher have no higher sum
@@ -107,4 +107,4 @@ module _ (n : ℕ) (parents names numbers : List ℕ) (arrays : Arrays n parents
   kept-forks groups links heads firsts seconds tail kept =
       keys_forks n parents names groups arrays
       (subst (λ (l : List ℕ). KeyClosed n parents l names groups) own
-      (kind-closed kept.kind tt kept.labelled (parent_below n parents names arrays) arrays.few_states))
+      (kind_closed kept.kind tt kept.labelled (parent_below n parents names arrays) arrays.few_states))

@@ -17,7 +17,7 @@ use Rattle.contexts.specs.Sweeps.{OnChain, Falling}
 use Rattle.contexts.specs.Joins.{Chains, PairJoined, ChainJoined, PairsJoined}
 use Rattle.contexts.proofs.ClimbLaws.{below_suc}
 use Rattle.contexts.proofs.ForkLaws.{forks-closed, coarser_less}
-use Rattle.contexts.proofs.ChainLaws.{both_none, both_some, on-here, on-later, on-split, on_none}
+use Rattle.contexts.proofs.ChainLaws.{both_none, both_some, on_here, on_later, on_split, on_none}
 
 -- names in common under a partition are in common under a coarser one
 pub share_refines :
@@ -59,14 +59,14 @@ module _ {n j : ℕ} {parents names old : List ℕ} {v w : ℕ} {groups : List �
       }
 
   -- the groups x and y of the sources are made one, and forks closed
-  pub pair-joined :
+  pub pair_joined :
       {numbers groups' : List ℕ} (x y : ℕ) → Arrays n parents names → numbers ≡ numbers_from n 0 → Labelled n groups → v < n →
       w < n → x ≡ get_or groups (get_or parents v 0) 0 → y ≡ get_or groups (get_or parents w 0) 0 → (x ≡ y → ⊥) →
       Share n parents names groups j v w →
       JoinedUntil (λ (others : List ℕ). KeyClosed n parents numbers names others × (get_or others x 0 ≡ get_or others y 0)) n groups
       groups' →
       PairJoined n j parents names old v w groups groups' true
-  pair-joined {numbers} {groups'} x y arrays own labelled hv hw x_is y_is apart shared until =
+  pair_joined {numbers} {groups'} x y arrays own labelled hv hw x_is y_is apart shared until =
       record {
         labelled = until.labelled;
         coarser = until.coarser;
@@ -123,9 +123,9 @@ pub record Chaining
     pub some : joined ≡ true → sum groups' < sum groups
 
 module _ {n j : ℕ} {parents names old links : List ℕ} {v : ℕ} {groups : List ℕ} where
-  pub chaining-none :
+  pub chaining_none :
       {at : ℕ} → at ≡ get_or links v 0 → Labelled n groups → Chaining n j parents names old links v groups at groups false
-  chaining-none {at} at_is labelled =
+  chaining_none {at} at_is labelled =
       record {
         labelled = labelled;
         coarser = λ u u' hu hu' same. same;
@@ -139,7 +139,7 @@ module _ {n j : ℕ} {parents names old links : List ℕ} {v : ℕ} {groups : Li
   module _ {at w : ℕ} {now-groups : List ℕ} {a : Bool} (falling : Falling links (get_or links v 0) n) (at_is : at ≡ suc w)
       (chaining : Chaining n j parents names old links v groups at now-groups a) where
     on-first : OnChain links (get_or links v 0) w
-    on-first = chaining.to_come w (on-here links at w at_is)
+    on-first = chaining.to_come w (on_here links at w at_is)
 
     pub come-to : (w < n) × (get_or links w 0 ≤ w)
     come-to = falling w on-first
@@ -154,7 +154,7 @@ module _ {n j : ℕ} {parents names old links : List ℕ} {v : ℕ} {groups : Li
           coarser = λ u u' hu hu' same. pair.coarser u u' hu hu' (chaining.coarser u u' hu hu' same);
           sound = λ others closed given refines.
               pair.sound others closed (given w on-first) (chaining.sound others closed given refines);
-          to_come = λ u on. chaining.to_come u (on-later links at w u at_is on);
+          to_come = λ u on. chaining.to_come u (on_later links at w u at_is on);
           together = λ u on shared.
               ⊎_elim (here u shared) (λ same. inr (kept u on same)) (chaining.together u on shared);
           none = both_none a b groups now-groups groups' chaining.none pair.none;
@@ -174,13 +174,13 @@ module _ {n j : ℕ} {parents names old links : List ℕ} {v : ℕ} {groups : Li
             (λ e. inr
             (subst (λ (z : ℕ). ParentsJoined parents groups' v z) (sym e)
             (pair.together (subst (λ (z : ℕ). Share n parents names old j v z) e shared))))
-            (λ later. inl later) (on-split links at w u at_is on)
+            (λ later. inl later) (on_split links at w u at_is on)
 
-  pub chaining-done :
+  pub chaining_done :
       {at : ℕ} {groups' : List ℕ} {joined : Bool} → at ≡ 0 →
       Chaining n j parents names old links v groups at groups' joined →
       ChainJoined n j parents names old links v groups groups' joined
-  chaining-done {at} none chaining =
+  chaining_done {at} none chaining =
       record {
         labelled = chaining.labelled;
         coarser = chaining.coarser;
@@ -194,9 +194,9 @@ module _ {n j : ℕ} {parents names old links : List ℕ} {v : ℕ} {groups : Li
 -- ---- all arcs
 
 module _ {n j : ℕ} {parents names old links : List ℕ} where
-  pub pairs-none :
+  pub pairs_none :
       {groups : List ℕ} → Labelled n groups → PairsJoined n 0 j parents names old links groups groups false
-  pairs-none labelled =
+  pairs_none labelled =
       record {
         labelled = labelled;
         coarser = λ v w hv hw same. same;
@@ -207,12 +207,12 @@ module _ {n j : ℕ} {parents names old links : List ℕ} where
       }
 
   -- arc i is compared with its chain
-  pub pairs-more :
+  pub pairs_more :
       {i : ℕ} {base groups groups' : List ℕ} {before joined : Bool} → Arrays n parents names → Chains n links → i < n →
       PairsJoined n i j parents names old links base groups before →
       ChainJoined n j parents names old links i groups groups' joined →
       PairsJoined n (i + 1) j parents names old links base groups' (before || joined)
-  pairs-more {i} {base} {groups} {groups'} {before} {joined} arrays chains inside so_far chain =
+  pairs_more {i} {base} {groups} {groups'} {before} {joined} arrays chains inside so_far chain =
       record {
         labelled = chain.labelled;
         coarser = λ v w hv hw same. chain.coarser v w hv hw (so_far.coarser v w hv hw same);

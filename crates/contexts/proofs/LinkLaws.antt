@@ -130,5 +130,5 @@ module _ {i : ℕ} {parents names old next : List ℕ} (pos : 0 < i) (linked : L
           ((bit-of_set a (get_or next x 0) name).0 (sym (ap (bit a) (at_from x e)) ∙ set))))
       go (inr other) f = arc-kept (linked.arc x a (sym (ap (bit a) (elsewhere x other)) ∙ set))
 
-  pub linked-more : Linked (suc i) parents names old next'
-  linked-more = record { leaves = λ v some low. more-leaves v low some; arc = more-arc }
+  pub linked_more : Linked (suc i) parents names old next'
+  linked_more = record { leaves = λ v some low. more-leaves v low some; arc = more-arc }

@@ -38,10 +38,10 @@ chained_same same chained =
     }
 
 module _ {j : ℕ} {parents names classes old dist : List ℕ} where
-  pub arcs-none :
+  pub arcs_none :
       {next links heads : List ℕ} → ((x : ℕ) → get_or next x 0 ≡ 0) → ((v : ℕ) → get_or links v 0 ≡ 0) →
       ((b : ℕ) → get_or heads b 0 ≡ 0) → ArcsLinked 1 j parents names classes old dist next links heads
-  arcs-none {next} {links} {heads} no_names no-links no-heads =
+  arcs_none {next} {links} {heads} no_names no-links no-heads =
       record {
         linked = linked_none no_names;
         chained =
@@ -203,10 +203,10 @@ module _ {j : ℕ} {parents names classes old dist : List ℕ} where
               (placed.near classed near) (arcs-near (omega arith) (here classed) (omega arith) links_size near)
 
   -- the far arcs are linked
-  pub arcs-ready :
+  pub arcs_ready :
       {n : ℕ} {next links links' heads : List ℕ} → ArcsLinked n j parents names classes old dist next links heads →
       FarLinked n classes heads links links' → ArcsReady n j parents names classes old dist next links' heads
-  arcs-ready {n} {next} {links} {links'} arcs settled =
+  arcs_ready {n} {next} {links} {links'} arcs settled =
       record {
         linked = arcs.linked;
         chained =

@@ -11,7 +11,7 @@ use Rattle.indexed.specs.Trees.{Arrays}
 use Rattle.indexed.specs.Partitions.{Labelled, ForkClosed, ContextClosed, SuffixAgree}
 use Rattle.indexed.specs.Passes.{Swept, SuffixClasses, BySuffix, ContextJoined}
 use Rattle.base.proofs.Places.{length-numbers_from}
-use Rattle.indexed.proofs.Contexts.{joined-suffix-agree}
+use Rattle.indexed.proofs.Contexts.{joined_suffix_agree}
 use Rattle.indexed.proofs.Rounds.{due, due-less}
 use Rattle.base.proofs.Fills.{front_length}
 use Rattle.worklist.specs.Forks.{Kept}
@@ -20,7 +20,7 @@ use Rattle.contexts.specs.Distances.{Tested}
 use Rattle.contexts.specs.Joins.{SweptBy}
 use Rattle.contexts.specs.Rounds.{ContextSound, ForksJoined, RoundReady}
 use Rattle.contexts.proofs.ClimbLaws.{climbs-sound}
-use Rattle.contexts.proofs.FarLaws.{tested-coarser, tested-tree}
+use Rattle.contexts.proofs.FarLaws.{tested_coarser, tested_tree}
 
 -- the own numbers of a front
 pub own-front :
@@ -46,7 +46,7 @@ rounds_none n h m parents names before groups forked ready own forks =
       sound = λ others fork context. forks.sound others fork (ready.sound others fork context);
       before_size = ap length own ∙ length-numbers_from n 0;
       tested =
-          tested-coarser n h m parents names before groups forked
+          tested_coarser n h m parents names before groups forked
           (subst (λ (l : List ℕ). Tested n h m parents names l groups) (sym own) ready.tested) forks.coarser;
       forks = forks.closed;
       contexts = λ e. absurd (true≢false e);
@@ -58,13 +58,13 @@ module _ (n h m : ℕ) (parents names before groups : List ℕ) (was : Bool) (ar
     (by : SuffixClasses n (h + 1) parents names classes)
     (sweeps : SweptBy n m parents names classes before before' groups groups' joined) where
   agree : SuffixAgree n h parents names groups
-  agree = joined-suffix-agree n parents names arrays h m groups pos so_far.labelled.size so_far.sound
+  agree = joined_suffix_agree n parents names arrays h m groups pos so_far.labelled.size so_far.sound
 
   swept : Swept n h m parents names groups groups' joined
   swept = sweeps.swept h by agree so_far.tested
 
-  pub rounds-more : ForkClosed n parents names groups' → RoundsTo n h m parents names before' groups' joined
-  rounds-more forks =
+  pub rounds_more : ForkClosed n parents names groups' → RoundsTo n h m parents names before' groups' joined
+  rounds_more forks =
       record {
         labelled = swept.labelled;
         sound = λ others fork context. swept.sound others fork context (so_far.sound others fork context);
@@ -77,8 +77,8 @@ module _ (n h m : ℕ) (parents names before groups : List ℕ) (was : Bool) (ar
             subst (λ (l : List ℕ). ContextClosed n h m parents names l) (sym (swept.none e).0) (swept.none e).1;
       }
 
-  pub rounds-less : due groups' joined < due groups true
-  rounds-less = due-less groups groups' joined (λ e. (swept.none e).0) swept.some
+  pub rounds_less : due groups' joined < due groups true
+  rounds_less = due-less groups groups' joined (λ e. (swept.none e).0) swept.some
 
 pub rounds_all :
     (n h m : ℕ) (parents names before groups : List ℕ) (joined : Bool) → joined ≡ false →
@@ -158,7 +158,7 @@ climbs_ready n h m k parents names starts groups arrays some_names more_names su
       limit = omega arith;
       labelled = climbed.labelled;
       sound = climbs-sound n h m k parents names starts groups arrays some_names sum_is_lem by climbed;
-      tested = tested-tree n parents names arrays h m k starts groups some_names (omega arith) sum_is_lem by climbed;
+      tested = tested_tree n parents names arrays h m k starts groups some_names (omega arith) sum_is_lem by climbed;
     })
 
 pub rounds_joined :

@@ -11,13 +11,13 @@ use Rattle.base.proofs.Tests.{eq_dec, decided, tells_ltb}
 use Rattle.indexed.specs.Trees.{Arrays, SameSuffix}
 use Rattle.indexed.specs.Partitions.{Labelled, Share, SuffixAgree, ContextClosed, ForkClosed}
 use Rattle.indexed.specs.Passes.{SuffixClasses, Swept}
-use Rattle.indexed.proofs.Suffixes.{parent_below, suffix_refl, suffix-sym, suffix_trans}
+use Rattle.indexed.proofs.Suffixes.{parent_below, suffix_refl, suffix_sym, suffix_trans}
 use Rattle.worklist.proofs.SearchLaws.{share_groups}
 use Rattle.contexts.specs.Climbs.{ParentsJoined}
 use Rattle.contexts.specs.Distances.{Tested, Spread, distance_of}
 use Rattle.contexts.specs.Sweeps.{ArcOf, Listed, Near, Far, ArcsReady, OnChain}
 use Rattle.contexts.specs.Joins.{PairsJoined, SweptBy}
-use Rattle.contexts.proofs.ReadyLaws.{paired-listed, paired-near, link_on}
+use Rattle.contexts.proofs.ReadyLaws.{paired-listed, paired_near, link_on}
 use Rattle.contexts.proofs.FarLaws.{tested-far, tested_closed}
 
 -- names that lead out of two groups lead out of them the other way round
@@ -50,7 +50,7 @@ module _ {n j : ℕ} {parents names classes groups dist next links heads : List 
           OnChain links (get_or links v 0) w → Share n parents names others j v w → ParentsJoined parents others v w
       pair-closed others context v w hv on shared =
           let first = paired-listed arcs v w hv on in
-          let found = paired-near arcs v w hv on in
+          let found = paired_near arcs v w hv on in
           let second = found.1.listed in
           let hw = found.0 in
           let suffix : SameSuffix parents names (suc h) v w = (by.alike v w hv hw).0 (first.classed, sym second.class_is) in
@@ -120,13 +120,13 @@ module _ {n j : ℕ} {parents names classes groups dist next links heads : List 
             let q = at_y.target in
             let pp = parent_below n parents names arrays p at_x.below in
             let pq = parent_below n parents names arrays q at_y.below in
-            let back = suffix-sym n parents names arrays h v w s in
+            let back = suffix_sym n parents names arrays h v w s in
             let like-p = like (get_or parents p 0) v w pp hv (at_x.from_x ∙ shared.7) s in
             let like-q = like (get_or parents q 0) w v pq hw (at_y.from_x ∙ shared.8) back in
             let sources : SameSuffix parents names h (get_or parents p 0) (get_or parents q 0) =
             suffix_trans n parents names arrays h (get_or parents p 0) v (get_or parents q 0) like-p
             (suffix_trans n parents names arrays h v w (get_or parents q 0) s
-            (suffix-sym n parents names arrays h (get_or parents q 0) w like-q)) in
+            (suffix_sym n parents names arrays h (get_or parents q 0) w like-q)) in
             let one_name : get_or names p 0 ≡ get_or names q 0 = at_x.name_is ∙ shared.6 ∙ sym at_y.name_is in
             let suffix : SameSuffix parents names (suc h) p q = (at_x.no_root, at_y.no_root, one_name, sources) in
             let class = (by.alike p q at_x.below at_y.below).1 suffix in

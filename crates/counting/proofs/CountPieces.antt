@@ -19,17 +19,17 @@ use Rattle.model.specs.Classes.{Word}
 use Rattle.model.specs.Tables.{Arc, arc, State, empty_state, name_set, Ascending, two_bytes, field_bytes}
 use Rattle.model.specs.Joinings.{tree_of, transitions_of}
 use Rattle.model.specs.Quotients.{arcs_out_of, met_groups, renumbered, state_of, states_of}
-use Rattle.model.proofs.Admits.{state-of-met}
+use Rattle.model.proofs.Admits.{state-of_met}
 use Rattle.model.proofs.Arcs.{arcs_out_of-ascending, arcs_out_of-in}
 use Rattle.model.proofs.FirstMet.{met-distinct, met-in, met-few, states-length}
 use Rattle.model.proofs.Notions.{Fits as FitsGroups}
 use Rattle.model.proofs.Trees.{tree_of-tree}
 use Rattle.indexed.specs.ArcCells.{ArcsAt}
-use Rattle.indexed.proofs.ArcSets.{arcs_more, arcs-done, arcs-counted}
+use Rattle.indexed.proofs.ArcSets.{arcs_more, arcs_done, arcs_counted}
 use Rattle.indexed.proofs.TreeArcs.{TreeArc, labels_fit, label_low, transition-number}
 use Rattle.counts.specs.Counts.{ends_at, passes_of, numbers_of, count_field, counts_file}
 use Rattle.counts.specs.TreeCounts.{arc_passes}
-use Rattle.counts.proofs.Walked.{group-ends, arc-passes}
+use Rattle.counts.proofs.Walked.{group_ends_lem, arc-passes}
 use Rattle.writing.specs.Writing.{field_head}
 use Rattle.counting.specs.Ready.{CountsReady, PassesToWrite, FieldToWrite, number_bytes}
 use Rattle.counting.proofs.PassSums.{arc-passes_few}
@@ -59,10 +59,10 @@ pub record PassesMore (work : List ℕ) (row set : ℕ) (bytes : List ℕ) (name
   pub after : (bits : ℕ) → bits ≡ 2 ^ name → PassesToWrite work row (set - bits) rest
 
 module _ {work : List ℕ} {row set : ℕ} {bytes : List ℕ} where
-  pub passes-next :
+  pub passes_next :
       (name : ℕ) → PassesToWrite work row set bytes → 0 < set → name ≡ count_trailing_zeros 64 set →
       PassesMore work row set bytes name
-  passes-next name r some e =
+  passes_next name r some e =
       let next = arcs_more name r.arcs r.at_row some e in
       record {
         low = next.low;
@@ -81,8 +81,8 @@ module _ {work : List ℕ} {row set : ℕ} {bytes : List ℕ} where
             };
       }
 
-  pub passes-done : PassesToWrite work row set bytes → set ≤ 0 → bytes ≡ []
-  passes-done r h = r.bytes_are ∙ ap number_bytes (arcs-done r.arcs r.at_row h) ∙ no_bytes
+  pub passes_done : PassesToWrite work row set bytes → set ≤ 0 → bytes ≡ []
+  passes_done r h = r.bytes_are ∙ ap number_bytes (arcs_done r.arcs r.at_row h) ∙ no_bytes
 
 -- ---- one field
 
@@ -100,7 +100,7 @@ unfolding field_bytes
 field_parts {work} {row} {set} {ends} {bytes} r many number e f =
     let p = r.passes in
     let counted : length (two_bytes ends ++ r.rest) ≡ 2 + 2 * many =
-    omega (arith, ap length p.bytes_are, bytes_length p.arcs, arcs-counted p.arcs p.at_row) in
+    omega (arith, ap length p.bytes_are, bytes_length p.arcs, arcs_counted p.arcs p.at_row) in
     record {
       rest = r.rest;
       passes = p;
@@ -179,8 +179,8 @@ module _ (rows : List Word) (parents names groups work next sums met : List ℕ)
   fits = labels_fit rows groups ready.joined.labels
 
   -- there are as many states, no more than the tree has
-  pub count-states : count ≡ length (states_of rows (tree_of rows) groups)
-  count-states = ready.counted ∙ sym (states-length (tree_of rows) groups (tree_of-tree rows) fits rows)
+  pub count_states : count ≡ length (states_of rows (tree_of rows) groups)
+  count_states = ready.counted ∙ sym (states-length (tree_of rows) groups (tree_of-tree rows) fits rows)
 
   pub count_low : count ≤ length (tree_of rows)
   count_low =
@@ -295,12 +295,12 @@ module _ (rows : List Word) (parents names groups work next sums met : List ℕ)
 
         state-is : get_or states i empty_state ≡ state_of rows (tree_of rows) groups every g
         state-is =
-            ap (λ (q : ℕ). get_or states q empty_state) (sym index_is) ∙ state-of-met rows (tree_of rows) groups g g-met
+            ap (λ (q : ℕ). get_or states q empty_state) (sym index_is) ∙ state-of_met rows (tree_of rows) groups g g-met
 
         ends_is : ends_at states rows i ≡ ends
         ends_is =
             ap (ends_at states rows) (sym index_is)
-            ∙ group-ends rows groups ready.joined.labels ready.deterministic g g-met
+            ∙ group_ends_lem rows groups ready.joined.labels ready.deterministic g g-met
             ∙ sym (f ∙ ready.summed.each g group-low)
 
         passes-are : (a : Arc) → In a arcs → passes_of states rows i a.name ≡ cell_at work g a.name

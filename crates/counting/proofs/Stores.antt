@@ -75,16 +75,16 @@ cell_added work row column more g a r c low size =
 -- ---- cells cleared
 
 module _ (rows : List Word) (parents names groups : List ℕ) (joined : Joined rows parents names groups) where
-  pub clear-start : (work : List ℕ) → work_bytes ≤ length work → CellsClear 1 parents names groups work
-  clear-start work size =
+  pub clear_start : (work : List ℕ) → work_bytes ≤ length work → CellsClear 1 parents names groups work
+  clear_start work size =
       record { work_size = size; each = λ v pos low. let z : ⊥ = omega arith in absurd z }
 
   -- one more cell cleared
-  pub clear-more :
+  pub clear_more :
       (v row column : ℕ) (work work' : List ℕ) → 0 < v → v < length groups → CellsClear v parents names groups work →
       row ≡ get_or groups (get_or parents v 0) 0 → column ≡ get_or names v 0 → work' ≡ with_cell work row column 0 →
       CellsClear (v + 1) parents names groups work'
-  clear-more v row column work work' pos inside before e f k = rw (k, e, f) cleared
+  clear_more v row column work work' pos inside before e f k = rw (k, e, f) cleared
     where
       row_low : get_or groups (get_or parents v 0) 0 < state_limit
       row_low = omega (arith, from_low rows parents names groups joined v pos inside, joined.labels.size, joined.few)
@@ -119,7 +119,7 @@ module _ (rows : List Word) (parents names groups : List ℕ) (joined : Joined r
             each = λ w pw h. is-clear w pw h (eq_dec w v);
           }
 
-  pub clear-end :
+  pub clear_end :
       (v : ℕ) (work : List ℕ) → length groups ≤ v → CellsClear v parents names groups work →
       CellsClear (length groups) parents names groups work
-  clear-end v work end r = record { work_size = r.work_size; each = λ w pos low. r.each w pos (omega arith) }
+  clear_end v work end r = record { work_size = r.work_size; each = λ w pos low. r.each w pos (omega arith) }

@@ -12,7 +12,7 @@ use lib.Dec.{eqb}
 use lib.ListN.{get_or}
 use Rattle.base.specs.Limits.{count_mark, when}
 use Rattle.base.specs.Lists.{total, same, copies}
-use Rattle.base.proofs.Totals.{total-flatMap}
+use Rattle.base.proofs.Totals.{total-flat_map}
 use Rattle.model.specs.Fields.{File, Class}
 use Rattle.model.specs.Classes.{Word}
 use Rattle.model.specs.Tables.{Arc, State, empty_state, walk, two_bytes, field_bytes}
@@ -65,19 +65,19 @@ module _ (states : List State) (rows others : List Word) (equal : (r : Word) →
   unfolding ends_at
   ends-bag q = total-bag (λ (row : Word). when (eqb (walk states row).at_state q) 1) rows others equal
 
-  passes-bag : (q a : ℕ) → passes_of states rows q a ≡ passes_of states others q a
+  passes_bag : (q a : ℕ) → passes_of states rows q a ≡ passes_of states others q a
   unfolding passes_of trail
-  passes-bag q a =
-      total-flatMap passes (steps_from states 0) rows
+  passes_bag q a =
+      total-flat_map passes (steps_from states 0) rows
       ∙ total-bag (λ (row : Word). total passes (steps_from states 0 row)) rows others equal
-      ∙ sym (total-flatMap passes (steps_from states 0) others)
+      ∙ sym (total-flat_map passes (steps_from states 0) others)
     where
       passes : Transition → ℕ
       passes s = when (eqb s.from q && eqb s.name a) 1
 
   -- the counts file by ends and passes
-  abbrev fileBy : (ℕ → ℕ) → (ℕ → ℕ → ℕ) → List ℕ
-  fileBy ends passes =
+  abbrev file_by : (ℕ → ℕ) → (ℕ → ℕ → ℕ) → List ℕ
+  file_by ends passes =
       flat_map (λ (q : ℕ).
       field_bytes count_mark
       (two_bytes (ends q) ++ flat_map (λ (a : Arc). two_bytes (passes q a.name)) (get_or states q empty_state).arcs))
@@ -86,7 +86,7 @@ module _ (states : List State) (rows others : List Word) (equal : (r : Word) →
   -- so the counts file of one table depends on the rows only as a bag
   file-bag : counts_file states rows ≡ counts_file states others
   unfolding counts_file count_field
-  file-bag = ap₂ fileBy (fun_ext ends-bag) (fun_ext (λ q. fun_ext (passes-bag q)))
+  file-bag = ap₂ file_by (fun_ext ends-bag) (fun_ext (λ q. fun_ext (passes_bag q)))
 
 -- the table depends on the class and the set of rows
 states_bag : (f g : File) → SameBag f g → book_states f ≡ book_states g

@@ -114,13 +114,13 @@ goes_on (x ∷ u) (y ∷ row) =
 
 module _ (rows : List Word) (parents names : List ℕ) (tree : TreeArrays rows parents names) where
   -- the rows that begin with states, over those with an arc into them that passes the test, are the rows' arcs that pass it
-  pub arcs-sum :
+  pub arcs_sum :
       (numbered : ℕ → Bool) (test : Word → ℕ → Bool) →
       ((v : ℕ) → 0 < v → v < length (tree_of rows) → numbered v ≡ test (word_at rows (get_or parents v 0)) (get_or names v 0)) →
       sum_below (length (tree_of rows)) (λ (v : ℕ). when (ltb 0 v && numbered v) (begun rows (word_at rows v)))
       ≡ total (passing test) rows
   unfolding into
-  arcs-sum numbered test agree =
+  arcs_sum numbered test agree =
       sum_same (length (tree_of rows)) (λ (v : ℕ). when (ltb 0 v && numbered v) (begun rows (word_at rows v)))
       (λ (v : ℕ). when (into test (word_at rows v)) (begun rows (word_at rows v)))
       (λ v h. ap (λ (b : Bool). when b (begun rows (word_at rows v))) (go v h))
@@ -147,7 +147,7 @@ module _ (rows : List Word) (parents names : List ℕ) (tree : TreeArrays rows p
       total-same (λ (row : Word). when (has_row word (beginnings row)) 1) (λ (row : Word). when (same word row) 1 + passing out row)
       rows (λ row m. goes_on word row)
       ∙ total-add (λ (row : Word). when (same word row) 1) (passing out) rows
-      ∙ ap (λ (n : ℕ). copies word rows + n) (sym (arcs-sum (λ (v : ℕ). eqb (get_or parents v 0) u) out agree))
+      ∙ ap (λ (n : ℕ). copies word rows + n) (sym (arcs_sum (λ (v : ℕ). eqb (get_or parents v 0) u) out agree))
     where
       word : Word
       word = word_at rows u

@@ -12,9 +12,9 @@ use lib.ListN.{length, get_or}
 use borrow.Author.Tests.{eqb-true, eq-eqb}
 use Rattle.base.specs.Limits.{when}
 use Rattle.base.specs.Lists.{total, index_in}
-use Rattle.base.proofs.Lists.{map-in, in-flatMap}
+use Rattle.base.proofs.Lists.{map-in, in_flat_map}
 use Rattle.base.proofs.Places.{nth_in, index_of_nth}
-use Rattle.base.proofs.Totals.{total-same, total-ones, total-swap, total-number, many-some, some-many}
+use Rattle.base.proofs.Totals.{total-same, total-ones, total-swap, total-number, many_some, some_many}
 use Rattle.model.specs.Fields.{Class}
 use Rattle.model.specs.Classes.{Word}
 use Rattle.model.specs.Tables.{Arc, arc, State, empty_state, Walk, walk, reached_state, admits}
@@ -26,10 +26,10 @@ use Rattle.model.proofs.Transitions.{arc-node}
 use Rattle.model.proofs.Trees.{tree_of-tree, node_begins}
 use Rattle.model.proofs.Arcs.{arcs_out_of-in}
 use Rattle.model.proofs.FirstMet.{met-distinct, states-length}
-use Rattle.model.proofs.Admits.{state-of-met}
-use Rattle.model.proofs.TableWalks.{reaches-steps, reaches-one, reaches-split}
+use Rattle.model.proofs.Admits.{state-of_met}
+use Rattle.model.proofs.TableWalks.{reaches_steps, reaches_one, reaches_split}
 use Rattle.model.proofs.Joined.{Joined}
-use Rattle.model.proofs.NodeWalks.{node-reaches}
+use Rattle.model.proofs.NodeWalks.{node_reaches}
 use Rattle.model.proofs.InTheClass.{admits-row}
 use Rattle.counts.specs.Counts.{steps_from, trail, ends_at, passes_of, numbers_of}
 use Rattle.counts.proofs.Steps.{some_below, step_after}
@@ -60,7 +60,7 @@ module _ (c : Class) (rows : List Word) (groups : List ℕ) (joined : Joined c r
         g,
         place,
         subst (λ (i : ℕ). get_or states i empty_state ≡ state_of rows nodes groups met g) place
-            (state-of-met rows nodes groups g (nth_in 0 met q below)),
+            (state-of_met rows nodes groups g (nth_in 0 met q below)),
       )
 
   -- ---- ends
@@ -79,9 +79,9 @@ module _ (c : Class) (rows : List Word) (groups : List ℕ) (joined : Joined c r
       (λ e. false≢true (sym (ap (λ (s : State). s.accepts) e) ∙ end-accepts row m))
 
   -- so the ends of all states sum to the number of rows
-  pub ends-sum-holds : total (ends_at states rows) (numbers_of states) ≡ length rows
+  pub ends-sum_holds : total (ends_at states rows) (numbers_of states) ≡ length rows
   unfolding ends_at
-  ends-sum-holds =
+  ends-sum_holds =
       total-swap ends (numbers_of states) rows
       ∙ total-same (λ (row : Word). total (λ (q : ℕ). ends q row) (numbers_of states)) (λ (row : Word). 1) rows
       (λ row m.
@@ -93,20 +93,20 @@ module _ (c : Class) (rows : List Word) (groups : List ℕ) (joined : Joined c r
       ends q row = when (eqb (walk states row).at_state q) 1
 
   -- rows end exactly in the states that accept
-  pub ends-accept-holds : (q : ℕ) → (0 < ends_at states rows q) ↔ ((get_or states q empty_state).accepts ≡ true)
+  pub ends-accept_holds : (q : ℕ) → (0 < ends_at states rows q) ↔ ((get_or states q empty_state).accepts ≡ true)
   unfolding ends_at walk state_of
-  ends-accept-holds q = (
+  ends-accept_holds q = (
     λ some.
-        let r = some-many (λ (row : Word). eqb (walk states row).at_state q) rows some in
+        let r = some_many (λ (row : Word). eqb (walk states row).at_state q) rows some in
         subst (λ (k : ℕ). (get_or states k empty_state).accepts ≡ true) (eqb-true (walk states r.0).at_state q r.2)
         (end-accepts r.0 r.1),
     λ yes.
         let g = state-at q (λ e. false≢true (sym (ap (λ (s : State). s.accepts) e) ∙ yes)) in
         let h = (tells_accepts rows nodes groups g.0).fact (sym (ap (λ (s : State). s.accepts) g.2) ∙ yes) in
         let end : (walk states h.0).at_state ≡ q =
-        ap (λ (v : Walk). v.at_state) (node-reaches c rows groups joined h.0 h.1).walked
+        ap (λ (v : Walk). v.at_state) (node_reaches c rows groups joined h.0 h.1).walked
         ∙ ap (λ (k : ℕ). index_in k met) h.2 ∙ g.1 in
-        many-some (λ (row : Word). eqb (walk states row).at_state q) rows h.0 h.3
+        many_some (λ (row : Word). eqb (walk states row).at_state q) rows h.0 h.3
         (eq-eqb (walk states h.0).at_state q end),
   )
 
@@ -118,39 +118,39 @@ module _ (c : Class) (rows : List Word) (groups : List ℕ) (joined : Joined c r
       (t : ℕ) × In (transition (index_in (group_at nodes groups w) met) a t) (steps_from states 0 (w ++ (a ∷ v)))
   step-into w v a m n =
       let r =
-      reaches-split states 0 (index_in (group_at nodes groups (w ▸ a)) met) w (a ∷ []) (node-reaches c rows groups joined (w ▸ a) n) in
+      reaches_split states 0 (index_in (group_at nodes groups (w ▸ a)) met) w (a ∷ []) (node_reaches c rows groups joined (w ▸ a) n) in
       let there' : r.0 ≡ index_in (group_at nodes groups w) met =
-      reaches-one states 0 r.0 (index_in (group_at nodes groups w) met) w r.1 (node-reaches c rows groups joined w m) in
-      let last = reaches-steps states r.0 (index_in (group_at nodes groups (w ▸ a)) met) (a ∷ []) r.2 in (
+      reaches_one states 0 r.0 (index_in (group_at nodes groups w) met) w r.1 (node_reaches c rows groups joined w m) in
+      let last = reaches_steps states r.0 (index_in (group_at nodes groups (w ▸ a)) met) (a ∷ []) r.2 in (
         last.0,
         subst (λ (z : ℕ). In (transition z a last.0) (steps_from states 0 (w ++ (a ∷ v)))) there'
-            (step_after states w v 0 r.0 a last.0 (reaches-steps states 0 r.0 w r.1) last.1),
+            (step_after states w v 0 r.0 a last.0 (reaches_steps states 0 r.0 w r.1) last.1),
       )
 
   -- a word of the tree with one name more begins a row
-  begins-row : (w : Word) (a : ℕ) → In (w ▸ a) nodes → (v : Word) × In (w ++ (a ∷ v)) rows
-  begins-row w a m =
+  begins_row : (w : Word) (a : ℕ) → In (w ▸ a) nodes → (v : Word) × In (w ++ (a ∷ v)) rows
+  begins_row w a m =
       ⊎_elim (λ e. absurd (append-ne-nil_of_right_ne-nil w cons≢nil e))
       (λ b. (b.0, Memᴰ.cast (sym (append_assoc w (a ∷ []) b.0)) b.1))
       (node_begins rows (w ▸ a) m)
 
   -- so that arc is passed
-  passed-into :
+  passed_into :
       (w : Word) (a : ℕ) → In w nodes → In (w ▸ a) nodes → 0 < passes_of states rows (index_in (group_at nodes groups w) met) a
   unfolding passes_of trail
-  passed-into w a m n =
+  passed_into w a m n =
       let from : ℕ = index_in (group_at nodes groups w) met in
-      let row = begins-row w a n in
+      let row = begins_row w a n in
       let step = step-into w row.0 a m n in
-      many-some (λ (s : Transition). eqb s.from from && eqb s.name a) (trail states rows) (transition from a step.0)
-      (in-flatMap (steps_from states 0) {x = w ++ (a ∷ row.0)} {y = transition from a step.0} rows row.1 step.1)
+      many_some (λ (s : Transition). eqb s.from from && eqb s.name a) (trail states rows) (transition from a step.0)
+      (in_flat_map (steps_from states 0) {x = w ++ (a ∷ row.0)} {y = transition from a step.0} rows row.1 step.1)
       (ap₂ (λ (x y : Bool). x && y) (eq-eqb from from refl) (eq-eqb a a refl))
 
   -- every arc is passed
-  pub all-passed-holds :
+  pub all-passed_holds :
       (q : ℕ) (a : Arc) → In a (get_or states q empty_state).arcs → 0 < passes_of states rows q a.name
   unfolding state_of renumbered
-  all-passed-holds q a m =
+  all-passed_holds q a m =
       let g = state-at q (λ e. Memᴰ.not-nil (subst (λ (s : State). In a s.arcs) e m)) in
       among q g.0 g.1 (map-in numbered (arcs_out_of g.0 ts) (subst (λ (s : State). In a s.arcs) g.2 m))
     where
@@ -166,4 +166,4 @@ module _ (c : Class) (rows : List Word) (groups : List ℕ) (joined : Joined c r
           let t = arc-node nodes groups (tree_of-tree rows) g b.0.name b.0.to goes in
           let from : index_in (group_at nodes groups t.0) met ≡ q = ap (λ (k : ℕ). index_in k met) t.3 ∙ place in
           subst (λ (x : ℕ). 0 < passes_of states rows q x) (sym name)
-          (subst (λ (k : ℕ). 0 < passes_of states rows k b.0.name) from (passed-into t.0 b.0.name t.1 t.2))
+          (subst (λ (k : ℕ). 0 < passes_of states rows k b.0.name) from (passed_into t.0 b.0.name t.1 t.2))

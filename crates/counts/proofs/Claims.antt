@@ -9,11 +9,11 @@ use Rattle.model.specs.Calls.{book_of}
 use Rattle.model.specs.Claims.{Accepted}
 use Rattle.model.proofs.Arcs.{ascending_at}
 use Rattle.model.proofs.Joined.{joined_groups-joined}
-use Rattle.model.proofs.Demands.{book-writable}
+use Rattle.model.proofs.Demands.{book_writable}
 use Rattle.counts.specs.Claims.{CountsAgree, CountsHold}
-use Rattle.counts.proofs.Flow.{flow-holds}
-use Rattle.counts.proofs.Built.{ends-sum-holds, ends-accept-holds, all-passed-holds}
-use Rattle.counts.proofs.Written.{record_holds, ends-few, passes_few, book-counts-length}
+use Rattle.counts.proofs.Flow.{flow_holds}
+use Rattle.counts.proofs.Built.{ends-sum_holds, ends-accept_holds, all-passed_holds}
+use Rattle.counts.proofs.Written.{record_holds, ends-few, passes_few, book_counts-length}
 use Rattle.counts.proofs.Bags.{counts_bag}
 
 -- what the counts of an accepted book say of each other
@@ -23,16 +23,16 @@ counts_agree settings allowed s ok =
     let f = book_of settings s in
     let groups = joined_groups f.class_is f.items in
     let joined = joined_groups-joined f.class_is f.items in
-    let up = (book-writable settings allowed s ok).ascending in
+    let up = (book_writable settings allowed s ok).ascending in
     record {
-      flow = λ q. omega (arith, flow-holds (book_states f) f.items (ascending_at (book_states f) up) q);
-      ends_sum = omega (arith, ends-sum-holds f.class_is f.items groups joined);
-      ends_accept = ends-accept-holds f.class_is f.items groups joined;
-      all_passed = all-passed-holds f.class_is f.items groups joined;
+      flow = λ q. omega (arith, flow_holds (book_states f) f.items (ascending_at (book_states f) up) q);
+      ends_sum = omega (arith, ends-sum_holds f.class_is f.items groups joined);
+      ends_accept = ends-accept_holds f.class_is f.items groups joined;
+      all_passed = all-passed_holds f.class_is f.items groups joined;
       ends_small = ends-few settings allowed s ok (book_states f);
       passes_small = passes_few settings allowed s ok (book_states f);
       two_bytes_take = omega arith;
-      counts_length = book-counts-length settings allowed s ok;
+      counts_length = book_counts-length settings allowed s ok;
     }
 
 -- all that is claimed

@@ -8,7 +8,7 @@ use lib.Dec.{ltb}
 use lib.ListN.{length}
 use Rattle.base.specs.Limits.{when}
 use Rattle.base.specs.Lists.{has_row, total, how_many, copies, sum_below}
-use Rattle.base.proofs.Totals.{when-le, many-few, total-le, sum-le, sum_more, total-places}
+use Rattle.base.proofs.Totals.{when-le, many_few, total-le, sum-le, sum_more, total-places}
 use Rattle.model.specs.Classes.{Word}
 use Rattle.model.specs.Joinings.{beginnings, tree_of}
 use Rattle.indexed.specs.Trees.{word_at}
@@ -39,13 +39,13 @@ ends-few rows k few test =
       sum-part rows k few (λ (v : ℕ). when (test v) (copies (word_at rows v) rows)) (λ (w : Word). copies w rows)
           (λ v h. when-le (test v) (copies (word_at rows v) rows)),
       copies-sum rows (λ (w : Word). true),
-      many-few (λ (w : Word). true) rows,
+      many_few (λ (w : Word). true) rows,
     )
 
 -- the rows that begin with a word
 pub begun-few : (rows : List Word) (w : Word) → begun rows w ≤ length rows
 unfolding begun
-begun-few rows w = many-few (λ (row : Word). has_row w (beginnings row)) rows
+begun-few rows w = many_few (λ (row : Word). has_row w (beginnings row)) rows
 
 -- the rows that begin with some states
 pub passes_few :

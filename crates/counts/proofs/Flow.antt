@@ -12,7 +12,7 @@ use lib.ListN.{length, get_or}
 use Rattle.base.specs.Limits.{when}
 use Rattle.base.specs.Lists.{total, how_many}
 use Rattle.base.proofs.Tests.{eq_dec}
-use Rattle.base.proofs.Totals.{when-zero, total-same, total-zero, total-ones, total-when, total-add, total-swap, total-flatMap}
+use Rattle.base.proofs.Totals.{when-zero, total-same, total-zero, total-ones, total-when, total-add, total-swap, total-flat_map}
 use Rattle.base.proofs.Totals.{total-number}
 use Rattle.model.specs.Classes.{Word}
 use Rattle.model.specs.Tables.{Arc, State, empty_state, target_in, walk, walk_from, Ascending}
@@ -20,7 +20,7 @@ use Rattle.model.specs.Joinings.{Transition}
 use Rattle.model.proofs.Admits.{target_in-here, target_in-there}
 use Rattle.model.proofs.Arcs.{ascending_low}
 use Rattle.counts.specs.Counts.{steps_from, trail, ends_at, passes_of, departures, numbers_of, arrivals}
-use Rattle.counts.proofs.Steps.{some_below, ByArc, trail-by-arcs, walk-flow}
+use Rattle.counts.proofs.Steps.{some_below, ByArc, trail-by_arcs, walk-flow}
 
 -- ---- the arcs of one state
 
@@ -90,18 +90,18 @@ module _
       go false e = total-zero (λ (a : Arc). when (to-it a.to) 0) arcs (λ a m. when-zero (to-it a.to))
 
   -- the passes of a state's arcs to such targets are the steps that leave it for them
-  passes-are-steps :
+  passes_are_steps :
       (to-it : ℕ → Bool) (p : ℕ) →
       total (λ (a : Arc). when (to-it a.to) (passes_of states rows p a.name)) (get_or states p empty_state).arcs
       ≡ total (λ (s : Transition). when (eqb s.from p) (when (to-it s.to) 1)) (trail states rows)
   unfolding passes_of
-  passes-are-steps to-it p =
+  passes_are_steps to-it p =
       ap (λ (f : Arc → ℕ). total f arcs)
       (fun_ext (λ (a : Arc). total-when (to-it a.to) (passes a.name) (trail states rows)))
       ∙ total-swap counted arcs (trail states rows)
       ∙ total-same (λ (s : Transition). total (λ (a : Arc). counted a s) arcs)
       (λ (s : Transition). when (eqb s.from p) (when (to-it s.to) 1)) (trail states rows)
-      (λ s m. arcs-of-step to-it p s (trail-by-arcs states rows s m))
+      (λ s m. arcs-of-step to-it p s (trail-by_arcs states rows s m))
     where
       arcs : List Arc
       arcs = (get_or states p empty_state).arcs
@@ -113,37 +113,37 @@ module _
       counted a s = when (to-it a.to) (passes a.name s)
 
   -- departures are the steps that leave a state
-  departures-are-steps :
+  departures-are_steps :
       (q : ℕ) → departures states rows q ≡ how_many (λ (s : Transition). eqb s.from q) (trail states rows)
   unfolding departures
-  departures-are-steps q = passes-are-steps (λ (t : ℕ). true) q
+  departures-are_steps q = passes_are_steps (λ (t : ℕ). true) q
 
   -- arrivals are the steps that enter it
-  arrivals-are-steps : (q : ℕ) → arrivals states rows q ≡ how_many (λ (s : Transition). eqb s.to q) (trail states rows)
+  arrivals-are_steps : (q : ℕ) → arrivals states rows q ≡ how_many (λ (s : Transition). eqb s.to q) (trail states rows)
   unfolding arrivals
-  arrivals-are-steps q =
-      ap (λ (f : ℕ → ℕ). total f (numbers_of states)) (fun_ext (passes-are-steps (λ (t : ℕ). eqb t q)))
+  arrivals-are_steps q =
+      ap (λ (f : ℕ → ℕ). total f (numbers_of states)) (fun_ext (passes_are_steps (λ (t : ℕ). eqb t q)))
       ∙ total-swap entering (numbers_of states) (trail states rows)
       ∙ total-same (λ (s : Transition). total (λ (p : ℕ). entering p s) (numbers_of states))
       (λ (s : Transition). when (eqb s.to q) 1) (trail states rows)
       (λ s m.
-      let below : s.from < length states = from_below states s (trail-by-arcs states rows s m) in
+      let below : s.from < length states = from_below states s (trail-by_arcs states rows s m) in
       total-number (length states) 0 s.from (when (eqb s.to q) 1) (omega arith) (omega arith))
     where
       entering : ℕ → Transition → ℕ
       entering p s = when (eqb s.from p) (when (eqb s.to q) 1)
 
   -- the flow
-  pub flow-holds :
+  pub flow_holds :
       (q : ℕ) →
       when (eqb 0 q) (length rows) + arrivals states rows q ≡ departures states rows q + ends_at states rows q
   unfolding ends_at trail walk
-  flow-holds q = omega (
+  flow_holds q = omega (
     arith,
-    arrivals-are-steps q,
-    departures-are-steps q,
-    total-flatMap enters (steps_from states 0) rows,
-    total-flatMap leaves (steps_from states 0) rows,
+    arrivals-are_steps q,
+    departures-are_steps q,
+    total-flat_map enters (steps_from states 0) rows,
+    total-flat_map leaves (steps_from states 0) rows,
     total-add (λ (row : Word). when (eqb 0 q) 1) (λ (row : Word). total enters (steps_from states 0 row)) rows,
     total-add (λ (row : Word). total leaves (steps_from states 0 row))
         (λ (row : Word). when (eqb (walk_from states 0 0 row).at_state q) 1) rows,

@@ -22,14 +22,14 @@ module _ {A : Type 0} where
       ap (λ (l : List A). x ∷ l) (map-numbers (λ (i : ℕ). get_or (x ∷ xs) i d) (length xs) 0 ∙ all-places d xs)
 
   -- so a sum over all places is one over the list
-  pub total-all-places :
+  pub total-all_places :
       (f : A → ℕ) (d : A) (xs : List A) → total (λ (i : ℕ). f (get_or xs i d)) (numbers_from (length xs) 0) ≡ total f xs
-  total-all-places f d xs =
+  total-all_places f d xs =
       sym (total-map f (λ (i : ℕ). get_or xs i d) (numbers_from (length xs) 0)) ∙ ap (total f) (all-places d xs)
 
 module _ {A B C : Type 0} where
   -- a mapped list flattened
-  pub flatMap-map : (g : B → List C) (f : A → B) (xs : List A) → flat_map g (map f xs) ≡ flat_map (λ (x : A). g (f x)) xs
+  pub flat_map-map : (g : B → List C) (f : A → B) (xs : List A) → flat_map g (map f xs) ≡ flat_map (λ (x : A). g (f x)) xs
   unfolding flat_map
-  flatMap-map g f [] = refl
-  flatMap-map g f (x ∷ xs) = ap (λ (l : List C). g (f x) ++ l) (flatMap-map g f xs)
+  flat_map-map g f [] = refl
+  flat_map-map g f (x ∷ xs) = ap (λ (l : List C). g (f x) ++ l) (flat_map-map g f xs)

@@ -14,7 +14,7 @@ use lib.ListN.{length, get_or, get_or-eq_default}
 use Rattle.base.specs.Limits.{when}
 use Rattle.base.specs.Lists.{total, how_many}
 use Rattle.base.proofs.Tests.{le_or_lt}
-use Rattle.base.proofs.Lists.{flatMap-in}
+use Rattle.base.proofs.Lists.{flat_map-in}
 use Rattle.model.specs.Classes.{Word}
 use Rattle.model.specs.Tables.{State, empty_state, target_in, Walk, walk_at, walk_from}
 use Rattle.model.specs.Joinings.{Transition, transition}
@@ -49,10 +49,10 @@ module _ (states : List State) (q x : ℕ) (xs : Word) where
   onward t = elim (eqb t 0) [ true ↦ [] | false ↦ transition q x (t - 1) ∷ steps_from states (t - 1) xs ]
 
   -- an arc by the name: one step, and those from its target on
-  pub steps-go :
+  pub steps_go :
       (k : ℕ) → ByArc states (transition q x k) → steps_from states q (x ∷ xs) ≡ transition q x k ∷ steps_from states k xs
   unfolding steps_from
-  steps-go k e =
+  steps_go k e =
       let less : suc k - 1 ≡ k = omega arith in
       ap onward e ∙ rw (eqb-suc-zero k, onward) (ap (λ (t : ℕ). transition q x t ∷ steps_from states t xs) less)
 
@@ -63,16 +63,16 @@ module _ (states : List State) (q x : ℕ) (xs : Word) where
     where
       go : (t : ℕ) → target_in x (get_or states q empty_state).arcs ≡ t → ByName states q n x xs
       go zero e = stops (ap onward e) (walk-stops states q n x xs e)
-      go (suc k) e = goes k e (steps-go k e) (walk-goes states q n x xs k e)
+      go (suc k) e = goes k e (steps_go k e) (walk-goes states q n x xs k e)
 
 -- ---- all names
 
 module _ (states : List State) where
   -- each step of a walk is by an arc
-  steps-by-arcs : (w : Word) (p : ℕ) (s : Transition) → In s (steps_from states p w) → ByArc states s
+  steps_by_arcs : (w : Word) (p : ℕ) (s : Transition) → In s (steps_from states p w) → ByArc states s
   unfolding steps_from
-  steps-by-arcs [] p s m = absurd (Memᴰ.not-nil m)
-  steps-by-arcs (x ∷ xs) p s m = go (by_name states p x xs 0) (λ k. steps-by-arcs xs k s)
+  steps_by_arcs [] p s m = absurd (Memᴰ.not-nil m)
+  steps_by_arcs (x ∷ xs) p s m = go (by_name states p x xs 0) (λ k. steps_by_arcs xs k s)
     where
       go : ByName states p 0 x xs → ((k : ℕ) → In s (steps_from states k xs) → ByArc states s) → ByArc states s
       go (stops e f) again = absurd (Memᴰ.not-nil (subst (λ (l : List Transition). In s l) e m))
@@ -81,17 +81,17 @@ module _ (states : List State) where
           (Memᴰ.cases_cons (subst (λ (l : List Transition). In s l) e m))
 
   -- so is each step of the rows' walks
-  pub trail-by-arcs : (rows : List Word) (s : Transition) → In s (trail states rows) → ByArc states s
+  pub trail-by_arcs : (rows : List Word) (s : Transition) → In s (trail states rows) → ByArc states s
   unfolding trail
-  trail-by-arcs rows s m =
-      let r = flatMap-in (steps_from states 0) rows m in
-      steps-by-arcs r.0 0 s r.2
+  trail-by_arcs rows s m =
+      let r = flat_map-in (steps_from states 0) rows m in
+      steps_by_arcs r.0 0 s r.2
 
   -- there are at most as many as there are names
-  pub steps-few : (w : Word) (p : ℕ) → length (steps_from states p w) ≤ length w
+  pub steps_few : (w : Word) (p : ℕ) → length (steps_from states p w) ≤ length w
   unfolding steps_from
-  steps-few [] p = omega arith
-  steps-few (x ∷ xs) p = go (by_name states p x xs 0) (steps-few xs)
+  steps_few [] p = omega arith
+  steps_few (x ∷ xs) p = go (by_name states p x xs 0) (steps_few xs)
     where
       go :
           ByName states p 0 x xs → ((k : ℕ) → length (steps_from states k xs) ≤ length xs) →
@@ -105,9 +105,9 @@ module _ (states : List State) where
       In (transition z a t) (steps_from states p (u ++ (a ∷ v)))
   step_after [] v p z a t s by-arc =
       subst (λ (k : ℕ). In (transition z a t) (steps_from states k (a ∷ v))) (sym s)
-      (subst (λ (l : List Transition). In (transition z a t) l) (sym (steps-go states z a v t by-arc)) (here refl))
+      (subst (λ (l : List Transition). In (transition z a t) l) (sym (steps_go states z a v t by-arc)) (here refl))
   step_after (x ∷ u) v p z a t s by-arc =
-      subst (λ (l : List Transition). In (transition z a t) l) (sym (steps-go states p x (u ++ (a ∷ v)) s.0 s.1))
+      subst (λ (l : List Transition). In (transition z a t) l) (sym (steps_go states p x (u ++ (a ∷ v)) s.0 s.1))
       (there (step_after u v s.0 z a t s.2 by-arc))
 
   -- the flow of one walk: it comes to a state as often as it leaves it or ends there, its beginning being one coming

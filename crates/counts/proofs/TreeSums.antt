@@ -52,25 +52,25 @@ when-or false b n never = omega arith
 
 module _ (nodes : List Word) (distinct : Distinct nodes) (number : Word → ℕ) where
   -- the sum over those that are one word
-  one-sum : (u : Word) → In u nodes → total (λ (w : Word). when (same w u) (number w)) nodes ≡ number u
-  one-sum u m =
+  one_sum : (u : Word) → In u nodes → total (λ (w : Word). when (same w u) (number w)) nodes ≡ number u
+  one_sum u m =
       total-one (λ (w : Word). when (same w u) (number w)) nodes u distinct m
       (λ w k other. ap (λ (b : Bool). when b (number w)) (told-false (tells_same w u) other))
       ∙ ap (λ (b : Bool). when b (number u)) ((tells_same u u).test refl)
 
   -- the sum over those that are in a list
-  listed-sum :
+  listed_sum :
       (ws : List Word) → Distinct ws → ((w : Word) → In w ws → In w nodes) →
       total (λ (w : Word). when (has_row w ws) (number w)) nodes ≡ total number ws
   unfolding has_row any total
-  listed-sum [] d inside = total-zero (λ (w : Word). 0) nodes (λ w m. refl)
-  listed-sum (u ∷ us) d inside =
+  listed_sum [] d inside = total-zero (λ (w : Word). 0) nodes (λ w m. refl)
+  listed_sum (u ∷ us) d inside =
       total-same (λ (w : Word). when (same w u || has_row w us) (number w))
       (λ (w : Word). when (same w u) (number w) + when (has_row w us) (number w)) nodes
       (λ w m. when-or (same w u) (has_row w us) (number w)
       (λ e f. d.0 (Memᴰ.cast (sym ((tells_same w u).fact e)) ((tells_has_row w us).fact f))))
       ∙ total-add (λ (w : Word). when (same w u) (number w)) (λ (w : Word). when (has_row w us) (number w)) nodes
-      ∙ ap₂ (λ (m n : ℕ). m + n) (one-sum u (inside u (here refl))) (listed-sum us d.1 (λ w m. inside w (there m)))
+      ∙ ap₂ (λ (m n : ℕ). m + n) (one_sum u (inside u (here refl))) (listed_sum us d.1 (λ w m. inside w (there m)))
 
 -- ---- the states of the tree
 
@@ -80,7 +80,7 @@ pub copies-sum :
     total (λ (w : Word). when (test w) (copies w rows)) (tree_of rows) ≡ how_many test rows
 copies-sum rows test =
     total-tied test same (λ (row : Word). when (test row) 1) (tree_of rows) rows
-    (λ row m. one-sum (tree_of rows) (tree_of-tree rows).distinct (λ (w : Word). when (test w) 1) row (row_node rows row m))
+    (λ row m. one_sum (tree_of rows) (tree_of-tree rows).distinct (λ (w : Word). when (test w) 1) row (row_node rows row m))
 
 -- the beginnings of a row are different
 distinct_longer : (x : ℕ) (ws : List Word) → Distinct ws → Distinct (map (λ (w : Word). x ∷ w) ws)
@@ -107,5 +107,5 @@ unfolding begun
 begun-sum rows test =
     total-tied test (λ (w row : Word). has_row w (beginnings row)) (λ (row : Word). how_many test (beginnings row)) (tree_of rows) rows
     (λ row m.
-    listed-sum (tree_of rows) (tree_of-tree rows).distinct (λ (w : Word). when (test w) 1) (beginnings row) (distinct_beginnings row)
+    listed_sum (tree_of rows) (tree_of-tree rows).distinct (λ (w : Word). when (test w) 1) (beginnings row) (distinct_beginnings row)
     (λ w k. let r = beginnings-in row w k in begins_node rows w (r.0, Memᴰ.cast r.1 m)))

@@ -12,7 +12,7 @@ use Rattle.base.specs.Limits.{when}
 use Rattle.base.specs.Lists.{total, how_many, index_in}
 use Rattle.base.proofs.Tests.{tells_eqb, same_tests}
 use Rattle.base.proofs.Places.{nth_of_index}
-use Rattle.base.proofs.Totals.{total-same, total-flatMap}
+use Rattle.base.proofs.Totals.{total-same, total-flat_map}
 use Rattle.model.specs.Classes.{Word}
 use Rattle.model.specs.Tables.{State, empty_state, target_in, Walk, walk_at, walk, walk_from}
 use Rattle.model.specs.Joinings.{Transition, tree_of, group_at, transitions_of, Deterministic}
@@ -24,7 +24,7 @@ use Rattle.model.proofs.Trees.{row_node, tree_of-tree}
 use Rattle.model.proofs.Transitions.{beginning_in, walks_down, walks_unique}
 use Rattle.model.proofs.FirstMet.{met-root, all-met}
 use Rattle.model.proofs.Admits.{Walked, all_taken, stopped, walked}
-use Rattle.model.proofs.TableWalks.{reaches-steps}
+use Rattle.model.proofs.TableWalks.{reaches_steps}
 use Rattle.indexed.specs.Trees.{TreeArrays}
 use Rattle.indexed.specs.Partitions.{Labelled}
 use Rattle.indexed.proofs.Words.{group_at-number}
@@ -32,9 +32,9 @@ use Rattle.indexed.proofs.Kernels.{parent_below}
 use Rattle.indexed.proofs.TreeArcs.{labels_fit}
 use Rattle.counts.specs.Counts.{steps_from, trail, ends_at, passes_of}
 use Rattle.counts.specs.TreeCounts.{group_ends, arc_passes_below, arc_passes}
-use Rattle.counts.proofs.Beginnings.{passing, passing-same, arcs-sum}
-use Rattle.counts.proofs.Steps.{steps-go}
-use Rattle.counts.proofs.GroupSums.{ends-by-rows}
+use Rattle.counts.proofs.Beginnings.{passing, passing-same, arcs_sum}
+use Rattle.counts.proofs.Steps.{steps_go}
+use Rattle.counts.proofs.GroupSums.{ends-by_rows}
 
 -- different elements have different places
 same_index : (xs : List ℕ) (x y : ℕ) → In x xs → In y xs → eqb (index_in x xs) (index_in y xs) ≡ eqb x y
@@ -63,15 +63,15 @@ module _
   group_of w = group_at (tree_of rows) groups w
 
   -- a state's group is met
-  group-met : (w : Word) → In w (tree_of rows) → In (group_of w) met
-  group-met w m =
+  group_met : (w : Word) → In w (tree_of rows) → In (group_of w) met
+  group_met w m =
       all-met (tree_of rows) groups (tree_of-tree rows) fits det (group_of w) (group_in (tree_of rows) groups w fits m)
 
   -- the walk from a node's state by the names to a further node takes them all and ends in the state of its group
   walked-down :
       (u p : Word) → In u (tree_of rows) → In (u ++ p) (tree_of rows) →
       Reaches states (index_in (group_of u) met) p (index_in (group_of (u ++ p)) met)
-  walked-down u p m n = go (walked rows (tree_of rows) groups (tree_of-tree rows) fits det p (group_of u) 0 (group-met u m))
+  walked-down u p m n = go (walked rows (tree_of rows) groups (tree_of-tree rows) fits det p (group_of u) 0 (group_met u m))
     where
       ts : List Transition
       ts = transitions_of (tree_of rows) groups
@@ -96,18 +96,18 @@ module _
       ∙ ap (λ (v : Walk). v.at_state) (walked-down [] w (tree_of-tree rows).root m).walked
 
   -- the rows that end in a group's state
-  pub group-ends :
+  pub group_ends_lem :
       (g : ℕ) → In g (met_groups (tree_of rows) groups) →
       ends_at (states_of rows (tree_of rows) groups) rows (index_in g (met_groups (tree_of rows) groups)) ≡ group_ends rows groups g
   unfolding ends_at
-  group-ends g m =
+  group_ends_lem g m =
       total-same (λ (row : Word). when (eqb (walk states row).at_state (index_in g met)) 1)
       (λ (row : Word). when (eqb (group_of row) g) 1) rows
       (λ row k.
       let node = row_node rows row k in
       ap (λ (b : Bool). when b 1)
-      (ap (λ (q : ℕ). eqb q (index_in g met)) (walk_ends row node) ∙ same_index met (group_of row) g (group-met row node) m))
-      ∙ sym (ends-by-rows rows groups labels g)
+      (ap (λ (q : ℕ). eqb q (index_in g met)) (walk_ends row node) ∙ same_index met (group_of row) g (group_met row node) m))
+      ∙ sym (ends-by_rows rows groups labels g)
 
   -- the arc from a node's state by a name to a further node
   arc-down :
@@ -115,7 +115,7 @@ module _
       target_in x (get_or states (index_in (group_of u) met) empty_state).arcs
       ≡ suc (index_in (group_of (u ▸ x)) met)
   arc-down u x m =
-      let s = reaches-steps states (index_in (group_of u) met) (index_in (group_of (u ▸ x)) met) (x ∷ [])
+      let s = reaches_steps states (index_in (group_of u) met) (index_in (group_of (u ▸ x)) met) (x ∷ [])
       (walked-down u (x ∷ []) ((tree_of-tree rows).parent u x m) m) in
       s.1 ∙ ap suc s.2
 
@@ -133,9 +133,9 @@ module _
   row_passes g a m u (x ∷ r) n =
       let further : In ((u ▸ x) ++ r) (tree_of rows) = Memᴰ.cast (append_assoc u (x ∷ []) r) n in
       let next = beginning_in (tree_of rows) (tree_of-tree rows) (u ▸ x) r further in
-      let start = group-met u ((tree_of-tree rows).parent u x next) in
+      let start = group_met u ((tree_of-tree rows).parent u x next) in
       ap (how_many (leaves g a))
-      (steps-go states (index_in (group_of u) met) x r (index_in (group_of (u ▸ x)) met) (arc-down u x next))
+      (steps_go states (index_in (group_of u) met) x r (index_in (group_of (u ▸ x)) met) (arc-down u x next))
       ∙ ap₂ (λ (b : Bool) (k : ℕ). when (b && eqb x a) 1 + k)
       (same_index met (group_of u) g start m ∙ ap (λ (w : Word). eqb (group_of w) g) (sym (append-nil u)))
       (row_passes g a m (u ▸ x) r further
@@ -150,12 +150,12 @@ module _
       ≡ arc_passes rows parents names groups g a
   unfolding passes_of trail arc_passes_below leaves
   arc-passes parents names tree g a m =
-      total-flatMap (λ (s : Transition). when (leaves g a s) 1) (steps_from states 0) rows
+      total-flat_map (λ (s : Transition). when (leaves g a s) 1) (steps_from states 0) rows
       ∙ total-same (λ (row : Word). how_many (leaves g a) (steps_from states 0 row)) (passing out) rows
       (λ row k.
       ap (λ (q : ℕ). how_many (leaves g a) (steps_from states q row)) (sym (met-root (tree_of rows) groups (tree_of-tree rows) fits))
       ∙ row_passes g a m [] row (row_node rows row k))
-      ∙ sym (arcs-sum rows parents names tree numbered out
+      ∙ sym (arcs_sum rows parents names tree numbered out
       (λ v pos h. ap (λ (k : ℕ). eqb k g && eqb (get_or names v 0) a)
       (sym (group_at-number rows groups (get_or parents v 0) fits (parent_below rows parents names tree v pos h)))))
     where

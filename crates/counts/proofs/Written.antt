@@ -9,7 +9,7 @@ use lib.Dec.{eqb}
 use lib.ListN.{length, get_or}
 use Rattle.base.specs.Limits.{book_rows, row_limit, counts_bytes, count_mark}
 use Rattle.base.specs.Lists.{total}
-use Rattle.base.proofs.Totals.{total-most, many-few, length-flatMap}
+use Rattle.base.proofs.Totals.{total-most, many_few, length-flat_map}
 use Rattle.model.specs.Fields.{Settings, Allowed}
 use Rattle.model.specs.Tables.{Arc, arc, State, state, empty_state, arc_count, two_bytes, field_bytes, walk}
 use Rattle.model.specs.Classes.{Word}
@@ -18,13 +18,13 @@ use Rattle.model.specs.Quotients.{book_states}
 use Rattle.model.specs.Calls.{book_of}
 use Rattle.model.specs.Claims.{Accepted}
 use Rattle.model.proofs.Books.{accepted_book}
-use Rattle.model.proofs.Reading.{accepted-row}
-use Rattle.model.proofs.Demands.{book-writable}
+use Rattle.model.proofs.Reading.{accepted_row}
+use Rattle.model.proofs.Demands.{book_writable}
 use Rattle.counts.specs.Counts.{steps_from, trail, ends_at, passes_of, numbers_of, CountedArc, CountedState, counted_state}
 use Rattle.counts.specs.Counts.{counted_states, without_counts, count_body, count_field, counts_file, book_counts}
 use Rattle.counts.specs.Claims.{RecordHolds}
-use Rattle.counts.proofs.Places.{all-places, total-all-places, flatMap-map}
-use Rattle.counts.proofs.Steps.{steps-few}
+use Rattle.counts.proofs.Places.{all-places, total-all_places, flat_map-map}
+use Rattle.counts.proofs.Steps.{steps_few}
 
 -- ---- the state record
 
@@ -34,37 +34,37 @@ module _ (states : List State) (rows : List Word) where
   counted q a = record { name = a.name; to = a.to; passes = passes_of states rows q a.name }
 
   -- a state with its counts taken away is the state
-  without-counts : (q : ℕ) → without_counts (counted_state states rows q) ≡ get_or states q empty_state
+  without_counts_lem : (q : ℕ) → without_counts (counted_state states rows q) ≡ get_or states q empty_state
   unfolding counted_state
-  without-counts q =
+  without_counts_lem q =
       let s : State = get_or states q empty_state in
       ap (state s.accepts) (map-map (λ (a : CountedArc). arc a.name a.to) (counted q) s.arcs ∙ map-id s.arcs)
 
   -- the field of a state is written from its record
-  field-from-it : (q : ℕ) → count_field states rows q ≡ field_bytes count_mark (count_body (counted_state states rows q))
+  field_from_it : (q : ℕ) → count_field states rows q ≡ field_bytes count_mark (count_body (counted_state states rows q))
   unfolding count_field count_body counted_state
-  field-from-it q =
+  field_from_it q =
       ap (λ (l : List ℕ). field_bytes count_mark (two_bytes (ends_at states rows q) ++ l))
-      (sym (flatMap-map (λ (a : CountedArc). two_bytes a.passes) (counted q) (get_or states q empty_state).arcs))
+      (sym (flat_map-map (λ (a : CountedArc). two_bytes a.passes) (counted q) (get_or states q empty_state).arcs))
 
   -- so all states without their counts are the table
-  table-from-it : map without_counts (counted_states states rows) ≡ states
+  table_from_it : map without_counts (counted_states states rows) ≡ states
   unfolding counted_states
-  table-from-it =
+  table_from_it =
       map-map without_counts (counted_state states rows) (numbers_of states)
-      ∙ ap (λ (f : ℕ → State). map f (numbers_of states)) (fun_ext without-counts) ∙ all-places empty_state states
+      ∙ ap (λ (f : ℕ → State). map f (numbers_of states)) (fun_ext without_counts_lem) ∙ all-places empty_state states
 
   -- and the file is written from the record
-  file-from-it :
+  file-from_it :
       counts_file states rows ≡ flat_map (λ (s : CountedState). field_bytes count_mark (count_body s)) (counted_states states rows)
   unfolding counts_file counted_states
-  file-from-it =
-      ap (λ (f : ℕ → List ℕ). flat_map f (numbers_of states)) (fun_ext field-from-it)
-      ∙ sym (flatMap-map (λ (s : CountedState). field_bytes count_mark (count_body s)) (counted_state states rows) (numbers_of states))
+  file-from_it =
+      ap (λ (f : ℕ → List ℕ). flat_map f (numbers_of states)) (fun_ext field_from_it)
+      ∙ sym (flat_map-map (λ (s : CountedState). field_bytes count_mark (count_body s)) (counted_state states rows) (numbers_of states))
 
 -- the record has the table and the file in it
 pub record_holds : RecordHolds
-record_holds = record { table_in_it = table-from-it; counts_from_it = file-from-it }
+record_holds = record { table_in_it = table_from_it; counts_from_it = file-from_it }
 
 -- ---- the length of the file
 
@@ -93,9 +93,9 @@ pub counts_file-length :
     (states : List State) (rows : List Word) → length (counts_file states rows) ≡ 5 * length states + 2 * arc_count states
 unfolding counts_file
 counts_file-length states rows =
-    length-flatMap (count_field states rows) (numbers_of states)
+    length-flat_map (count_field states rows) (numbers_of states)
     ∙ ap (λ (f : ℕ → ℕ). total f (numbers_of states)) (fun_ext (field_size states rows))
-    ∙ total-all-places (λ (s : State). 5 + 2 * length s.arcs) empty_state states ∙ sizes_sum states
+    ∙ total-all_places (λ (s : State). 5 + 2 * length s.arcs) empty_state states ∙ sizes_sum states
 
 -- ---- the numbers of an accepted book
 
@@ -111,7 +111,7 @@ module _ (settings : Settings) (allowed : Allowed settings) (s : List ℕ) (ok :
       omega (
         arith,
         rows_few,
-        many-few (λ (row : Word). eqb (walk states row).at_state q) (book_of settings s).items,
+        many_few (λ (row : Word). eqb (walk states row).at_state q) (book_of settings s).items,
       )
 
   -- and each row passes at most as many arcs as it may have entries
@@ -122,16 +122,16 @@ module _ (settings : Settings) (allowed : Allowed settings) (s : List ℕ) (ok :
       omega (
         arith,
         rows_few,
-        many-few (λ (t : Transition). eqb t.from q && eqb t.name a) (flat_map (steps_from states 0) rows),
-        length-flatMap (steps_from states 0) rows,
+        many_few (λ (t : Transition). eqb t.from q && eqb t.name a) (flat_map (steps_from states 0) rows),
+        length-flat_map (steps_from states 0) rows,
         total-most (λ (row : Word). length (steps_from states 0 row)) row_limit rows
-            (λ row m. omega (arith, steps-few states row 0, (accepted-row settings allowed s ok row m).0)),
+            (λ row m. omega (arith, steps_few states row 0, (accepted_row settings allowed s ok row m).0)),
       )
 
   -- the counts take few bytes
-  pub book-counts-length : length (book_counts (book_of settings s)) ≤ counts_bytes
+  pub book_counts-length : length (book_counts (book_of settings s)) ≤ counts_bytes
   unfolding book_counts
-  book-counts-length =
+  book_counts-length =
       let f = book_of settings s in
-      let w = book-writable settings allowed s ok in
+      let w = book_writable settings allowed s ok in
       omega (arith, counts_file-length (book_states f) f.items, w.few_states, w.few_arcs)

@@ -24,13 +24,13 @@ map_same {A} f (x ∷ xs) same =
 
 module _
     (states : List State)
-    (arcs-live : (s : State) (a : Arc) → In s states → In a s.arcs → is_live states a.to ≡ true) where
+    (arcs_live : (s : State) (a : Arc) → In s states → In a s.arcs → is_live states a.to ≡ true) where
   -- no arc goes
   trimmed-same : trimmed states ≡ states
   unfolding trimmed live_arcs
   trimmed-same =
       map_same (λ (s : State). state s.accepts (live_arcs states s.arcs)) states
-      (λ s m. ap (state s.accepts) (filter_by-all (λ (a : Arc). is_live states a.to) s.arcs (λ a n. arcs-live s a m n)))
+      (λ s m. ap (state s.accepts) (filter_by-all (λ (a : Arc). is_live states a.to) s.arcs (λ a n. arcs_live s a m n)))
 
   -- so a walk from a start with a way to an end tells what the walk alone tells
   pub walk_same : is_live states 0 ≡ true → (row : Word) → live_walk states row ≡ plain_walk states row

@@ -15,16 +15,16 @@ use Rattle.model.specs.Calls.{book_of}
 use Rattle.model.specs.Claims.{Accepted}
 use Rattle.model.proofs.Arcs.{ascending_at}
 use Rattle.model.proofs.Trees.{node_begins_row}
-use Rattle.model.proofs.TableWalks.{word-tails}
+use Rattle.model.proofs.TableWalks.{word_tails}
 use Rattle.model.proofs.Writable.{Writable}
-use Rattle.model.proofs.Reading.{accepted-has-row}
+use Rattle.model.proofs.Reading.{accepted_has_row}
 use Rattle.model.proofs.Joined.{Joined, joined_groups-joined}
 use Rattle.model.proofs.NodeWalks.{state-node}
 use Rattle.model.proofs.InTheClass.{admits-row}
-use Rattle.model.proofs.Demands.{book-writable, reads_back}
+use Rattle.model.proofs.Demands.{book_writable, reads_back}
 use Rattle.endings.specs.Live.{HasWay, ArcsAscend, is_live, live_walk}
 use Rattle.endings.specs.Claims.{StateBegins, built_states}
-use Rattle.endings.proofs.Levels.{tells-live}
+use Rattle.endings.proofs.Levels.{tells_live}
 use Rattle.endings.proofs.AllLive.{walk_same}
 
 -- in the table of a full joining of some rows every state begins a row: a word of the prefix tree that reaches it does
@@ -43,7 +43,7 @@ joined_begins c rows groups joined r m q low =
 -- a state that begins an admitted row has a way to an end
 state-live : (states : List State) (q : ℕ) → StateBegins states q → HasWay states q
 state-live states q b =
-    (b.begins.rest, (word-tails states b.row b.begins.rest q b.leads_there).0 b.begins.is_admitted)
+    (b.begins.rest, (word_tails states b.row b.begins.rest q b.leads_there).0 b.begins.is_admitted)
 
 module _ (settings : Settings) (allowed : Allowed settings) (s : List ℕ) (ok : Accepted settings s) where
   -- the states of the table are the book's
@@ -55,7 +55,7 @@ module _ (settings : Settings) (allowed : Allowed settings) (s : List ℕ) (ok :
   unfolding book_states
   every_state =
       let f = book_of settings s in
-      let first-row = accepted-has-row settings allowed s ok in
+      let first-row = accepted_has_row settings allowed s ok in
       subst (λ (states : List State). (q : ℕ) → q < length states → StateBegins states q) same_states
       (joined_begins f.class_is f.items (joined_groups f.class_is f.items) (joined_groups-joined f.class_is f.items)
       first-row.0 first-row.1)
@@ -68,19 +68,19 @@ module _ (settings : Settings) (allowed : Allowed settings) (s : List ℕ) (ok :
   built-writable : Writable (length (book_of settings s).names) (built_states settings s)
   built-writable =
       subst (λ (states : List State). Writable (length (book_of settings s).names) states) same_states
-      (book-writable settings allowed s ok)
+      (book_writable settings allowed s ok)
 
   built-ascend : ArcsAscend (built_states settings s)
   built-ascend = ascending_at (built_states settings s) built-writable.ascending
 
   -- which the test tells
   is_live : (q : ℕ) → q < length (built_states settings s) → is_live (built_states settings s) q ≡ true
-  is_live q low = (tells-live (built_states settings s) built-ascend q).test (built-live q low)
+  is_live q low = (tells_live (built_states settings s) built-ascend q).test (built-live q low)
 
-  arcs-live :
+  arcs_live :
       (x : State) (a : Arc) → In x (built_states settings s) → In a x.arcs → is_live (built_states settings s) a.to ≡ true
-  arcs-live x a m n = is_live a.to (built-writable.targets_below x a m n)
+  arcs_live x a m n = is_live a.to (built-writable.targets_below x a m n)
 
   -- so no arc goes, and every walk tells what the walk alone tells
   pub as_before : (row : Word) → live_walk (built_states settings s) row ≡ plain_walk (built_states settings s) row
-  as_before = walk_same (built_states settings s) arcs-live (is_live 0 (omega (arith, built-writable.some_state)))
+  as_before = walk_same (built_states settings s) arcs_live (is_live 0 (omega (arith, built-writable.some_state)))

@@ -17,14 +17,14 @@ use Rattle.model.specs.Tables.{State, empty_state, Told, plain_walk, admits}
 use Rattle.model.specs.Classes.{Word}
 use Rattle.model.specs.Sources.{Reaches}
 use Rattle.model.proofs.NameSets.{ones_name_set}
-use Rattle.model.proofs.TableWalks.{reaches-one, reaches-steps, steps-reaches}
-use Rattle.model.proofs.TableWalks.{tells-admitted}
+use Rattle.model.proofs.TableWalks.{reaches_one, reaches_steps, steps_reaches}
+use Rattle.model.proofs.TableWalks.{tells_admitted}
 use Rattle.endings.specs.Words.{BeginsAdmitted, TellsByWords}
 use Rattle.endings.specs.Live.{ArcsAscend, is_live, trimmed, nowhere, live_walk}
-use Rattle.endings.proofs.Levels.{tells-live}
+use Rattle.endings.proofs.Levels.{tells_live}
 use Rattle.endings.proofs.Trimmed.{trimmed-accepts, trimmed-ascends, live-walked}
-use Rattle.endings.proofs.Longest.{Comes, comes, told_of, plain-told}
-use Rattle.endings.proofs.Outcomes.{Ends, is_admitted, is_on_the_way, is_stopped, ends-three, ends-admitted, ends-on-the-way}
+use Rattle.endings.proofs.Longest.{Comes, comes, told_of, plain_told}
+use Rattle.endings.proofs.Outcomes.{Ends, is_admitted, is_on_the_way, is_stopped, ends-three, ends-admitted, ends-on_the_way}
 use Rattle.endings.proofs.Outcomes.{ends-stops}
 use Rattle.endings.proofs.Determined.{one_told}
 use Rattle.endings.proofs.Begins.{begins_live, next_names, none-begins, begins_walked}
@@ -40,7 +40,7 @@ module _ (states : List State) (none : (w : Word) → admits states w ≡ false)
       record {
         one_of_three = ends-three states row ends;
         admitted_where = ends-admitted states row ends;
-        on_the_way_where = ends-on-the-way states row ends;
+        on_the_way_where = ends-on_the_way states row ends;
         stops_where = ends-stops states row ends;
         of_row = (row, refl);
         longest = λ u rest e begins. absurd (none-begins states none u begins);
@@ -63,17 +63,17 @@ module _
 
   -- the walk of the beginning
   front-way : Reaches (trimmed states) 0 c.front c.at
-  front-way = steps-reaches (trimmed states) 0 c.at c.front c.way
+  front-way = steps_reaches (trimmed states) 0 c.at c.front c.way
 
   -- no beginning of the row that begins an admitted one is longer
   no_longer : (u rest : Word) → u ++ rest ≡ row → BeginsAdmitted states u → length u ≤ length c.front
   no_longer u rest e begins =
       let r = (begins_walked states up start u).0 begins in
-      c.furthest u rest r.0 e (reaches-steps (trimmed states) 0 r.0 u r.1)
+      c.furthest u rest r.0 e (reaches_steps (trimmed states) 0 r.0 u r.1)
 
   -- the row is admitted exactly where the walk takes it all and comes to an accepting state
-  whole-ends : c.front ≡ row → Ends states row (cond reached.accepts admitted on_the_way)
-  whole-ends all = go reached.accepts refl
+  whole_ends : c.front ≡ row → Ends states row (cond reached.accepts admitted on_the_way)
+  whole_ends all = go reached.accepts refl
     where
       way : Reaches states 0 row c.at
       way =
@@ -82,14 +82,14 @@ module _
 
       go : (b : Bool) → reached.accepts ≡ b → Ends states row (cond b admitted on_the_way)
       go true e =
-          is_admitted refl ((tells-admitted states row).test
+          is_admitted refl ((tells_admitted states row).test
           (record { end = c.at; way = way; accepting = sym (trimmed-accepts states c.at) ∙ e }))
       go false e =
           is_on_the_way refl
-          (told-false (tells-admitted states row) (λ h.
+          (told-false (tells_admitted states row) (λ h.
           true≢false
           (sym h.accepting
-          ∙ ap (λ (q : ℕ). (get_or states q empty_state).accepts) (reaches-one states 0 h.end c.at row h.way way)
+          ∙ ap (λ (q : ℕ). (get_or states q empty_state).accepts) (reaches_one states 0 h.end c.at row h.way way)
           ∙ sym (trimmed-accepts states c.at)
           ∙ e)))
           (subst (BeginsAdmitted states) all ((begins_walked states up start c.front).1 (c.at, front-way)))
@@ -102,7 +102,7 @@ module _
       let all : c.front ≡ row = sym (append-nil c.front) ∙ e in
       let size : length c.front ≡ length row = ap length all in
       subst (λ (b : Bool). Ends states row (cond b stops (cond reached.accepts admitted on_the_way)))
-      (sym (le-ltb (length c.front) (length row) (omega arith))) (whole-ends all)
+      (sym (le-ltb (length c.front) (length row) (omega arith))) (whole_ends all)
   row_ends (x ∷ rest) e =
       let size : length c.front + suc (length rest) ≡ length row = sym (length-append c.front (x ∷ rest)) ∙ ap length e in
       subst (λ (b : Bool). Ends states row (cond b stops (cond reached.accepts admitted on_the_way)))
@@ -120,7 +120,7 @@ module _
       record {
         one_of_three = ends-three states row ends;
         admitted_where = ends-admitted states row ends;
-        on_the_way_where = ends-on-the-way states row ends;
+        on_the_way_where = ends-on_the_way states row ends;
         stops_where = ends-stops states row ends;
         of_row = (c.rest, c.whole);
         longest = λ u rest e b. (begins, no_longer u rest e b);
@@ -137,14 +137,14 @@ module _
 module _ (states : List State) (up : ArcsAscend states) where
   -- a start that leads to no end admits no row
   none-admitted : is_live states 0 ≡ false → (w : Word) → admits states w ≡ false
-  none-admitted dead w = told-false (tells-admitted states w) (λ h. not_told (tells-live states up 0) dead (w, h))
+  none-admitted dead w = told-false (tells_admitted states w) (λ h. not_told (tells_live states up 0) dead (w, h))
 
   -- the empty row begins an admitted one, or no row is admitted
   some_or_none : BeginsAdmitted states [] ⊎ ((w : Word) → admits states w ≡ false)
   some_or_none = go (is_live states 0) refl
     where
       go : (b : Bool) → is_live states 0 ≡ b → BeginsAdmitted states [] ⊎ ((w : Word) → admits states w ≡ false)
-      go true live = inl ((begins_live states []).1 (0, steps-reaches states 0 0 [] refl, (tells-live states up 0).fact live))
+      go true live = inl ((begins_live states []).1 (0, steps_reaches states 0 0 [] refl, (tells_live states up 0).fact live))
       go false dead = inr (none-admitted dead)
 
   -- a walk tells what it shall
@@ -155,7 +155,7 @@ module _ (states : List State) (up : ArcsAscend states) where
       go : (b : Bool) → is_live states 0 ≡ b → TellsByWords states row (cond b (plain_walk (trimmed states) row) nowhere)
       go true live =
           let c = comes (trimmed states) row 0 0 in
-          subst (TellsByWords states row) (sym (plain-told (trimmed states) row c)) (trimmed-tells states up live row c)
+          subst (TellsByWords states row) (sym (plain_told (trimmed states) row c)) (trimmed-tells states up live row c)
       go false dead = nowhere-tells states (none-admitted dead) row
 
   -- and this alone can be told

@@ -2,7 +2,7 @@
 use Rattle.model.specs.Calls.{table_states}
 use Rattle.model.proofs.TableBodies.{ascends_accepted}
 use Rattle.endings.specs.Claims.{WalksByWords, EndingsHold}
-use Rattle.endings.proofs.Levels.{level-is}
+use Rattle.endings.proofs.Levels.{level_is}
 use Rattle.endings.proofs.ByWords as words
 use Rattle.endings.proofs.Built as built
 
@@ -11,7 +11,7 @@ walks_by_words =
     record {
       by_words = λ s work ok. words.by_words (table_states s) (ascends_accepted s work ok);
       determined = λ s work ok. words.determined (table_states s) (ascends_accepted s work ok);
-      levels = λ s work ok. level-is (table_states s) (ascends_accepted s work ok);
+      levels = λ s work ok. level_is (table_states s) (ascends_accepted s work ok);
       admits_nothing = λ s work ok. words.admits_nothing (table_states s) (ascends_accepted s work ok);
     }
 

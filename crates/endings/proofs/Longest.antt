@@ -104,11 +104,11 @@ module _ (states : List State) where
           }
 
   -- what the walk alone tells, by it
-  pub plain-told :
+  pub plain_told :
       (row : Word) (c : Comes states 0 0 row) →
       plain_walk states row ≡ told_of row (length c.front) c.front (get_or states c.at empty_state)
   unfolding plain_walk walk reached_state
-  plain-told row c =
+  plain_told row c =
       ap (λ (w : Walk). told_of row w.taken (take w.taken row) (get_or states w.at_state empty_state))
       (c.walked ∙ ap (walk_at c.at) (zero-add (length c.front)))
       ∙ ap (λ (w : Word). told_of row (length c.front) w (get_or states c.at empty_state))

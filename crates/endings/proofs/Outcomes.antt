@@ -18,8 +18,8 @@ pub data Ends (states : List State) (row : Word) (outcome : ℕ) : Type 0 where
 
 module _ (states : List State) (row : Word) where
   -- an admitted row begins one: itself
-  begins-itself : admits states row ≡ true → BeginsAdmitted states row
-  begins-itself e = record { rest = []; is_admitted = ap (admits states) (append-nil row) ∙ e }
+  begins_itself : admits states row ≡ true → BeginsAdmitted states row
+  begins_itself e = record { rest = []; is_admitted = ap (admits states) (append-nil row) ∙ e }
 
   -- one of three
   pub ends-three : {k : ℕ} → Ends states row k → (k ≡ admitted) ⊎ ((k ≡ on_the_way) ⊎ (k ≡ stops))
@@ -33,17 +33,17 @@ module _ (states : List State) (row : Word) where
   ends-admitted (is_on_the_way e not_yet begins) =
       (λ h. let z : ⊥ = omega (arith, e, h) in absurd z, λ h. absurd (true≢false (sym h ∙ not_yet)))
   ends-admitted (is_stopped e none) =
-      (λ h. let z : ⊥ = omega (arith, e, h) in absurd z, λ h. absurd (none (begins-itself h)))
+      (λ h. let z : ⊥ = omega (arith, e, h) in absurd z, λ h. absurd (none (begins_itself h)))
 
-  pub ends-on-the-way :
+  pub ends-on_the_way :
       {k : ℕ} → Ends states row k → (k ≡ on_the_way) ↔ ((admits states row ≡ false) × BeginsAdmitted states row)
-  ends-on-the-way (is_admitted e passes) =
+  ends-on_the_way (is_admitted e passes) =
       (λ h. let z : ⊥ = omega (arith, e, h) in absurd z, λ h. absurd (true≢false (sym passes ∙ h.0)))
-  ends-on-the-way (is_on_the_way e not_yet begins) = (λ h. (not_yet, begins), λ h. e)
-  ends-on-the-way (is_stopped e none) = (λ h. let z : ⊥ = omega (arith, e, h) in absurd z, λ h. absurd (none h.1))
+  ends-on_the_way (is_on_the_way e not_yet begins) = (λ h. (not_yet, begins), λ h. e)
+  ends-on_the_way (is_stopped e none) = (λ h. let z : ⊥ = omega (arith, e, h) in absurd z, λ h. absurd (none h.1))
 
   pub ends-stops : {k : ℕ} → Ends states row k → (k ≡ stops) ↔ (BeginsAdmitted states row → ⊥)
   ends-stops (is_admitted e passes) =
-      (λ h. let z : ⊥ = omega (arith, e, h) in absurd z, λ h. absurd (h (begins-itself passes)))
+      (λ h. let z : ⊥ = omega (arith, e, h) in absurd z, λ h. absurd (h (begins_itself passes)))
   ends-stops (is_on_the_way e not_yet begins) = (λ h. let z : ⊥ = omega (arith, e, h) in absurd z, λ h. absurd (h begins))
   ends-stops (is_stopped e none) = (λ h. none, λ h. e)

@@ -13,8 +13,8 @@ use Rattle.endings.proofs.NameByName.{tells_none, admitted-cons}
 
 module _ (states : List State) (ascend : ArcsAscend states) where
   -- a state that accepts leads to an end: itself
-  accepting-live : (q : ℕ) → (get_or states q empty_state).accepts ≡ true → HasWay states q
-  accepting-live q accepts = ([], (tells_none states q).fact accepts)
+  accepting_live : (q : ℕ) → (get_or states q empty_state).accepts ≡ true → HasWay states q
+  accepting_live q accepts = ([], (tells_none states q).fact accepts)
 
   -- and so does one with an arc to a state that does
   arc-live : (q : ℕ) (a : Arc) → In a (get_or states q empty_state).arcs → HasWay states a.to → HasWay states q
@@ -35,7 +35,7 @@ module _ (states : List State) (ascend : ArcsAscend states) where
             ((get_or states q empty_state).accepts ≡ true)
             ⊎ ((a : Arc) × In a (get_or states q empty_state).arcs × (q < a.to) × (a.to < length states)) →
             ((p : ℕ) → p < length states → length states ≤ p + n → HasWay states p) → HasWay states q
-        go (inl accepts) again = accepting-live q accepts
+        go (inl accepts) again = accepting_live q accepts
         go (inr a) again =
             let up : q < a.0.to = a.2 in
             arc-live q a.0 a.1 (again a.0.to a.3 (omega arith))

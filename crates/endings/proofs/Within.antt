@@ -12,9 +12,9 @@ use native.Mathlib.Omega.{arith}
 use lib.ListN.{length, get_or, get_or-map}
 use Rattle.base.specs.Limits.{when}
 use Rattle.base.specs.Lists.{any, total, how_many, numbers_from}
-use Rattle.base.proofs.Tests.{Tells, tells_by, tells_itself, tells_or, tells-any, le_or_lt}
+use Rattle.base.proofs.Tests.{Tells, tells_by, tells_itself, tells_or, tells_any, le_or_lt}
 use Rattle.base.proofs.Places.{length-numbers_from, in_numbers_from}
-use Rattle.base.proofs.Totals.{total-le, many-few, many-some}
+use Rattle.base.proofs.Totals.{total-le, many_few, many_some}
 use Rattle.model.specs.Tables.{Arc, arc, State, empty_state}
 use Rattle.model.specs.Classes.{Word}
 use Rattle.model.specs.Sources.{AdmittedFrom}
@@ -22,7 +22,7 @@ use Rattle.model.proofs.Reached.{target_of_lem}
 use Rattle.model.proofs.Walkable.{target_arc}
 use Rattle.model.proofs.TableWalks.{admitted-in}
 use Rattle.endings.specs.Live.{within, ArcsAscend}
-use Rattle.endings.proofs.NameByName.{tells_none, admitted-cons, cons-admitted}
+use Rattle.endings.proofs.NameByName.{tells_none, admitted-cons, cons_admitted}
 
 -- ---- sums
 
@@ -61,21 +61,21 @@ module _ (states : List State) where
   Within n q = (w : Word) × (length w ≤ n) × AdmittedFrom states q w
 
   -- the test of it
-  abbrev pub isWithin : ℕ → ℕ → Bool
-  isWithin n q = get_or (within states n) q false
+  abbrev pub is_within : ℕ → ℕ → Bool
+  is_within n q = get_or (within states n) q false
 
   -- its two cases, by the state
-  within-zero : (q : ℕ) → isWithin 0 q ≡ (get_or states q empty_state).accepts
+  within-zero : (q : ℕ) → is_within 0 q ≡ (get_or states q empty_state).accepts
   unfolding within
   within-zero q = get_or-map (λ (s : State). s.accepts) states q empty_state
 
   within-suc :
       (n q : ℕ) →
-      isWithin (suc n) q
-      ≡ ((get_or states q empty_state).accepts || any (λ (a : Arc). isWithin n a.to) (get_or states q empty_state).arcs)
+      is_within (suc n) q
+      ≡ ((get_or states q empty_state).accepts || any (λ (a : Arc). is_within n a.to) (get_or states q empty_state).arcs)
   unfolding within any
   within-suc n q =
-      get_or-map (λ (s : State). s.accepts || any (λ (a : Arc). isWithin n a.to) s.arcs) states q empty_state
+      get_or-map (λ (s : State). s.accepts || any (λ (a : Arc). is_within n a.to) s.arcs) states q empty_state
 
   -- a word of no names
   no_names : (q : ℕ) → Within 0 q → AdmittedFrom states q []
@@ -83,12 +83,12 @@ module _ (states : List State) where
   no_names q (x ∷ w, short, h) = let z : ⊥ = omega arith in absurd z
 
   -- a word of at most n + 1 names is none, or an arc and a word of at most n names from its target
-  by_first :
+  by_first_lem :
       ArcsAscend states → (n q : ℕ) →
       ((get_or states q empty_state).accepts ≡ true) ⊎ ((a : Arc) × In a (get_or states q empty_state).arcs × Within n a.to) →
       Within (suc n) q
-  by_first up n q (inl e) = ([], omega arith, (tells_none states q).fact e)
-  by_first up n q (inr r) =
+  by_first_lem up n q (inl e) = ([], omega arith, (tells_none states q).fact e)
+  by_first_lem up n q (inr r) =
       let a : Arc = r.0 in
       let short : length r.2.0 ≤ n = r.2.1 in (
         a.name ∷ r.2.0,
@@ -102,12 +102,12 @@ module _ (states : List State) where
       ((get_or states q empty_state).accepts ≡ true) ⊎ ((a : Arc) × In a (get_or states q empty_state).arcs × Within n a.to)
   first_of_lem n q ([], short, h) = inl ((tells_none states q).test h)
   first_of_lem n q (x ∷ w, short, h) =
-      let r = cons-admitted states q x w h in
+      let r = cons_admitted states q x w h in
       inr (arc x r.0, target_arc x r.0 (get_or states q empty_state).arcs r.1, (w, omega arith, r.2))
 
   module _ (up : ArcsAscend states) where
     -- the test tells it
-    pub tells-within : (n q : ℕ) → Tells (isWithin n q) (Within n q)
+    pub tells-within : (n q : ℕ) → Tells (is_within n q) (Within n q)
     tells-within zero q =
         subst (λ (b : Bool). Tells b (Within 0 q)) (sym (within-zero q))
         (tells_by (tells_none states q) (λ h. ([], omega arith, h)) (no_names q))
@@ -115,11 +115,11 @@ module _ (states : List State) where
         subst (λ (b : Bool). Tells b (Within (suc n) q)) (sym (within-suc n q))
         (tells_by
         (tells_or (tells_itself (get_or states q empty_state).accepts)
-        (tells-any (λ a. tells-within n a.to) (get_or states q empty_state).arcs))
-        (by_first up n q) (first_of_lem n q))
+        (tells_any (λ a. tells-within n a.to) (get_or states q empty_state).arcs))
+        (by_first_lem up n q) (first_of_lem n q))
 
     -- more names suffice too
-    more_names : (n m q : ℕ) → n ≤ m → isWithin n q ≡ true → isWithin m q ≡ true
+    more_names : (n m q : ℕ) → n ≤ m → is_within n q ≡ true → is_within m q ≡ true
     more_names n m q low e =
         let r = (tells-within n q).fact e in
         let short : length r.0 ≤ n = r.1 in
@@ -129,29 +129,29 @@ module _ (states : List State) where
 
     -- so many names suffice wherever any number does
     abbrev Enough : ℕ → Type 0
-    Enough n = (w : Word) (q : ℕ) → AdmittedFrom states q w → isWithin n q ≡ true
+    Enough n = (w : Word) (q : ℕ) → AdmittedFrom states q w → is_within n q ≡ true
 
     -- they do if one name more is of no use from any state
-    enough-if : (n : ℕ) → ((q : ℕ) → isWithin (suc n) q ≡ true → isWithin n q ≡ true) → Enough n
+    enough-if : (n : ℕ) → ((q : ℕ) → is_within (suc n) q ≡ true → is_within n q ≡ true) → Enough n
     enough-if n no-use [] q h = (tells-within n q).test ([], omega arith, h)
     enough-if n no-use (x ∷ w) q h =
-        let r = cons-admitted states q x w h in
+        let r = cons_admitted states q x w h in
         let after = (tells-within n r.0).fact (enough-if n no-use w r.0 r.2) in
         let short : length after.0 ≤ n = after.1 in
         no-use q ((tells-within (suc n) q).test (x ∷ after.0, omega arith, admitted-cons states q r.0 x after.0 r.1 after.2))
 
     -- from how many states n names suffice
     abbrev count : ℕ → ℕ
-    count n = how_many (isWithin n) (numbers_from (length states) 0)
+    count n = how_many (is_within n) (numbers_from (length states) 0)
 
     -- from no more than there are
     count-few : (n : ℕ) → count n ≤ length states
     count-few n =
-        let few = many-few (isWithin n) (numbers_from (length states) 0) in
+        let few = many_few (is_within n) (numbers_from (length states) 0) in
         omega (arith, few, length-numbers_from (length states) 0)
 
     -- a state from which they suffice is a state of the table
-    numbered : (n q : ℕ) → isWithin n q ≡ true → In q (numbers_from (length states) 0)
+    numbered : (n q : ℕ) → is_within n q ≡ true → In q (numbers_from (length states) 0)
     numbered n q e =
         let r = (tells-within n q).fact e in
         in_numbers_from (length states) 0 q (omega arith) (omega (arith, admitted-in states q r.0 r.2))
@@ -160,9 +160,9 @@ module _ (states : List State) where
     enough-by-count : (n : ℕ) → count (suc n) ≤ count n → Enough n
     enough-by-count n most =
         enough-if n (λ q e.
-        when_true (isWithin (suc n) q) (isWithin n q)
-        (total-tight (λ (k : ℕ). when (isWithin n k) 1) (λ (k : ℕ). when (isWithin (suc n) k) 1) (numbers_from (length states) 0)
-        (λ k m. true_when (isWithin n k) (isWithin (suc n) k) (more_names n (suc n) k (omega arith))) most q
+        when_true (is_within (suc n) q) (is_within n q)
+        (total-tight (λ (k : ℕ). when (is_within n k) 1) (λ (k : ℕ). when (is_within (suc n) k) 1) (numbers_from (length states) 0)
+        (λ k m. true_when (is_within n k) (is_within (suc n) k) (more_names n (suc n) k (omega arith))) most q
         (numbered (suc n) q e)) e)
 
     -- n names are enough, or suffice from more than n states
@@ -171,9 +171,9 @@ module _ (states : List State) where
       where
         if_none : count 0 ≤ 0 → Enough 0
         if_none none w q h =
-            let at_end_fact : isWithin 0 h.end ≡ true = within-zero h.end ∙ h.accepting in
+            let at_end_fact : is_within 0 h.end ≡ true = within-zero h.end ∙ h.accepting in
             let some : 0 < count 0 =
-            many-some (isWithin 0) (numbers_from (length states) 0) h.end (numbered 0 h.end at_end_fact) at_end_fact in
+            many_some (is_within 0) (numbers_from (length states) 0) h.end (numbered 0 h.end at_end_fact) at_end_fact in
             let z : ⊥ = omega arith in
             absurd z
     enough-or-many (suc n) = go (enough-or-many n) (le_or_lt (count (suc n)) (count n))
@@ -186,10 +186,10 @@ module _ (states : List State) where
         go (inr many) (inr grown) = inr (omega arith)
 
     -- so a number below that of the states is enough
-    pub few-enough : (w : Word) (q : ℕ) → AdmittedFrom states q w → (n : ℕ) × (n < length states) × (isWithin n q ≡ true)
+    pub few-enough : (w : Word) (q : ℕ) → AdmittedFrom states q w → (n : ℕ) × (n < length states) × (is_within n q ≡ true)
     few-enough w q h = go (length states) refl
       where
-        go : (size : ℕ) → length states ≡ size → (n : ℕ) × (n < length states) × (isWithin n q ≡ true)
+        go : (size : ℕ) → length states ≡ size → (n : ℕ) × (n < length states) × (is_within n q ≡ true)
         go zero e = let z : ⊥ = omega (arith, admitted-in states q w h) in absurd z
         go (suc n) e =
             let all : n < count n → Enough n = λ (many : n < count n). enough-by-count n (omega (arith, count-few (suc n))) in

@@ -26,29 +26,29 @@ module _ (kind : FileKind) (s : List ℕ) (p : Place) where
       record { is = misplaced-fault kind (file_of s p) (get_or s p.at 0) (body_at s p.at) e; some = omega arith }
 
   -- what the arm for a mark found is what the mark's field comes to
-  by-mark : (r : Step) (mark fault : ℕ) → get_or s p.at 0 ≡ mark → field_fault kind (file_of s p) mark (body_at s p.at) ≡ fault
+  by_mark_lem : (r : Step) (mark fault : ℕ) → get_or s p.at 0 ≡ mark → field_fault kind (file_of s p) mark (body_at s p.at) ≡ fault
       → Stepped s p fault (with_field (file_of s p) mark (body_at s p.at)) r → FieldStep kind s p r
-  by-mark r mark fault m e h = rw (m, e) h
+  by_mark_lem r mark fault m e h = rw (m, e) h
 
   pub name-arm : (r : Step) → get_or s p.at 0 ≡ 1 → p.stage ≤ 1
       → StepBy (λ f. name_fault f.names) 1 s p r → FieldStep kind s p r
   unfolding field_fault
-  name-arm r m h = by-mark r 1 (name_fault (file_of s p).names (body_at s p.at)) m (rw (le-leb p.stage 1 h))
+  name-arm r m h = by_mark_lem r 1 (name_fault (file_of s p).names (body_at s p.at)) m (rw (le-leb p.stage 1 h))
 
-  pub class-arm : (r : Step) (takes : Bool) → takes ≡ takes_class kind → get_or s p.at 0 ≡ 2 → (takes && eqb p.stage 1) ≡ true
+  pub class_arm : (r : Step) (takes : Bool) → takes ≡ takes_class kind → get_or s p.at 0 ≡ 2 → (takes && eqb p.stage 1) ≡ true
       → StepBy (λ _. class_fault) 2 s p r → FieldStep kind s p r
   unfolding field_fault
-  class-arm r takes k m h = by-mark r 2 (class_fault (body_at s p.at)) m (rw (sym k, h))
+  class_arm r takes k m h = by_mark_lem r 2 (class_fault (body_at s p.at)) m (rw (sym k, h))
 
-  pub row-arm : (r : Step) (takes : Bool) → takes ≡ takes_rows kind → get_or s p.at 0 ≡ 3 → (takes && leb 1 p.stage) ≡ true
+  pub row_arm : (r : Step) (takes : Bool) → takes ≡ takes_rows kind → get_or s p.at 0 ≡ 3 → (takes && leb 1 p.stage) ≡ true
       → StepBy row_fault 3 s p r → FieldStep kind s p r
   unfolding field_fault
-  row-arm r takes k m h = by-mark r 3 (row_fault (file_of s p) (body_at s p.at)) m (rw (sym k, h))
+  row_arm r takes k m h = by_mark_lem r 3 (row_fault (file_of s p) (body_at s p.at)) m (rw (sym k, h))
 
   pub state-arm : (r : Step) (takes : Bool) → takes ≡ takes_states kind → get_or s p.at 0 ≡ 4 → (takes && leb 2 p.stage) ≡ true
       → StepBy state_fault 4 s p r → FieldStep kind s p r
   unfolding field_fault
-  state-arm r takes k m h = by-mark r 4 (state_fault (file_of s p) (body_at s p.at)) m (rw (sym k, h))
+  state-arm r takes k m h = by_mark_lem r 4 (state_fault (file_of s p) (body_at s p.at)) m (rw (sym k, h))
 
 -- where a class may come its stage is that after names
 pub class_stage : (takes : Bool) (stage : ℕ) → (takes && eqb stage 1) ≡ true → stage ≡ 1
@@ -59,14 +59,14 @@ pub no_name : (kind : FileKind) (stage mark : ℕ) → mark ≡ 1 → 1 < stage 
 no_name kind stage mark m h = rw (m, lt-leb stage 1 h)
 
 module _ (kind : FileKind) (stage mark : ℕ) (takes : Bool) where
-  pub no-class : takes ≡ takes_class kind → mark ≡ 2 → (takes && eqb stage 1) ≡ false → may_come kind stage mark ≡ false
-  no-class k m h = rw (m, sym k, h)
+  pub no_class : takes ≡ takes_class kind → mark ≡ 2 → (takes && eqb stage 1) ≡ false → may_come kind stage mark ≡ false
+  no_class k m h = rw (m, sym k, h)
 
   pub no_row : takes ≡ takes_rows kind → mark ≡ 3 → (takes && leb 1 stage) ≡ false → may_come kind stage mark ≡ false
   no_row k m h = rw (m, sym k, h)
 
-  pub no-state : takes ≡ takes_states kind → mark ≡ 4 → (takes && leb 2 stage) ≡ false → may_come kind stage mark ≡ false
-  no-state k m h = rw (m, sym k, h)
+  pub no_state : takes ≡ takes_states kind → mark ≡ 4 → (takes && leb 2 stage) ≡ false → may_come kind stage mark ≡ false
+  no_state k m h = rw (m, sym k, h)
 
 pub no_mark : (kind : FileKind) (stage mark : ℕ) → (mark ≡ 1 → ⊥) → (mark ≡ 2 → ⊥) → (mark ≡ 3 → ⊥) → (mark ≡ 4 → ⊥)
     → may_come kind stage mark ≡ false

@@ -15,7 +15,7 @@ use Rattle.judging.specs.Offsets.{length_at, body_at, next_at, offset_at, fields
 use Rattle.judging.specs.Judged.{NameJudged, ItemJudged}
 use Rattle.fields.specs.Places.{file_of, with_item, Sound, Whole, Grown, StepBy}
 use Rattle.fields.specs.declared.Place.{Place}
-use Rattle.base.proofs.Lists.{lastOr-snoc}
+use Rattle.base.proofs.Lists.{last_or-snoc}
 use Rattle.fields.specs.declared.Step.{Step}
 use Rattle.judging.proofs.OffsetLaws.{body_at_lem, length-body, offset_suc, length_fields, fields_more}
 
@@ -75,12 +75,12 @@ module _ (s : List ℕ) (p : Place) (whole : Whole s p) where
   names_more : p.stage ≤ 1 → fields_at s 0 (p.names + 1) ≡ fields_at s 0 p.names ++ (body_at s p.at ∷ [])
   names_more h = rw (add-one, fields_more, sound.names_end_fact h)
 
-  no-items-yet : p.stage ≤ 2 → fields_at s p.start p.items ≡ []
+  no_items_yet : p.stage ≤ 2 → fields_at s p.start p.items ≡ []
   unfolding fields_at
-  no-items-yet h = rw (sound.no_items h)
+  no_items_yet h = rw (sound.no_items h)
 
-  last-body : body_at s p.at ≡ take (length_at s p.at) (drop (p.at + 3) s)
-  last-body =
+  last_body : body_at s p.at ≡ take (length_at s p.at) (drop (p.at + 3) s)
+  last_body =
       let q : next_at s p.at - (p.at + 3) ≡ length_at s p.at = omega arith in
       rw q at (body_at_lem s p.at)
 
@@ -94,7 +94,7 @@ module _ (s : List ℕ) (p : Place) (whole : Whole s p) where
         names_within = omega (arith, names-next h);
         names_end_fact = λ _. names-next h;
         last_end = omega (arith, names-next h);
-        last_is = rw (names_more h, lastOr-snoc) last-body;
+        last_is = rw (names_more h, last_or-snoc) last_body;
         items_end = refl;
         no_items = λ _. refl;
         some_items = λ (g : 3 ≤ 1). let z : ⊥ = omega arith in absurd z;
@@ -108,15 +108,15 @@ module _ (s : List ℕ) (p : Place) (whole : Whole s p) where
       record {
         no_fault = e;
         sound = name-sound h (omega (arith, (name_fits (file_of s p).names (body_at s p.at) e).few, length_fields s 0 p.names));
-        file_is = rw (names_more h, no-items-yet (omega arith));
+        file_is = rw (names_more h, no_items_yet (omega arith));
         after = refl;
       }
 
-  class-grows : p.stage ≤ 2 → class_fault (body_at s p.at) ≡ 0
+  class_grows : p.stage ≤ 2 → class_fault (body_at s p.at) ≡ 0
       → Grown s p (class_fault (body_at s p.at)) (with_field (file_of s p) 2 (body_at s p.at))
       (class_place p (next_at s p.at) (body_at s p.at))
   unfolding with_field fields_at offset_at
-  class-grows h e =
+  class_grows h e =
       record {
         no_fault = e;
         sound =
@@ -132,18 +132,18 @@ module _ (s : List ℕ) (p : Place) (whole : Whole s p) where
               no_items = λ _. refl;
               some_items = λ (g : 3 ≤ 2). let z : ⊥ = omega arith in absurd z;
             };
-        file_is = rw (no-items-yet h);
+        file_is = rw (no_items_yet h);
         after = refl;
       }
 
-  items-next : offset_at s p.start (p.items + 1) ≡ next_at s p.at
-  items-next = rw (add-one, offset_suc, sound.items_end)
+  items_next : offset_at s p.start (p.items + 1) ≡ next_at s p.at
+  items_next = rw (add-one, offset_suc, sound.items_end)
 
   items_more : fields_at s p.start (p.items + 1) ≡ fields_at s p.start p.items ++ (body_at s p.at ∷ [])
   items_more = rw (add-one, fields_more, sound.items_end)
 
-  item-sound : p.items < state_limit → Sound s (with_item p (next_at s p.at))
-  item-sound few =
+  item_sound : p.items < state_limit → Sound s (with_item p (next_at s p.at))
+  item_sound few =
       record {
         within = fits;
         few_names = sound.few_names;
@@ -152,17 +152,17 @@ module _ (s : List ℕ) (p : Place) (whole : Whole s p) where
         names_end_fact = λ (g : 3 ≤ 1). let z : ⊥ = omega arith in absurd z;
         last_end = sound.last_end;
         last_is = sound.last_is;
-        items_end = items-next;
+        items_end = items_next;
         no_items = λ (g : 3 ≤ 2). let z : ⊥ = omega arith in absurd z;
         some_items = λ _. omega arith;
       }
 
   -- the place after an item that nothing refuses
-  pub item-goes : (q : Place) (next fault : ℕ) → q ≡ with_item p next → next ≡ next_at s p.at → fault ≡ 0 → p.items < state_limit
+  pub item_goes : (q : Place) (next fault : ℕ) → q ≡ with_item p next → next ≡ next_at s p.at → fault ≡ 0 → p.items < state_limit
       → Grown s p fault (with_field (file_of s p) 3 (body_at s p.at)) q
   unfolding with_field
-  item-goes q next fault m n e few =
-      rw (m, n) (record { no_fault = e; sound = item-sound few; file_is = rw items_more; after = refl })
+  item_goes q next fault m n e few =
+      rw (m, n) (record { no_fault = e; sound = item_sound few; file_is = rw items_more; after = refl })
 
 -- a fault that is not 0 is a refusal
 pub refuses_some : (fault number : ℕ) → fault ≡ number → (number ≡ 0 → ⊥) → Refuses fault number
@@ -192,12 +192,12 @@ module _ (s : List ℕ) (p : Place) (whole : Whole s p) (class : List ℕ) (faul
   class-fault-is : class_fault (body_at s p.at) ≡ fault
   class-fault-is = rw bytes at (sym judged)
 
-  pub class-refused : (fault ≡ 0 → ⊥) → Refuses (class_fault (body_at s p.at)) fault
-  class-refused n = refuses_some (class_fault (body_at s p.at)) fault class-fault-is n
+  pub class_refused : (fault ≡ 0 → ⊥) → Refuses (class_fault (body_at s p.at)) fault
+  class_refused n = refuses_some (class_fault (body_at s p.at)) fault class-fault-is n
 
-  pub class-goes : (next : ℕ) → next ≡ next_at s p.at → p.stage ≤ 2 → fault ≡ 0
+  pub class_goes : (next : ℕ) → next ≡ next_at s p.at → p.stage ≤ 2 → fault ≡ 0
       → Grown s p (class_fault (body_at s p.at)) (with_field (file_of s p) 2 (body_at s p.at)) (class_place p next class)
-  class-goes next n h e = rw (n, bytes) (class-grows s p whole h (class-fault-is ∙ e))
+  class_goes next n h e = rw (n, bytes) (class_grows s p whole h (class-fault-is ∙ e))
 
 -- of an item, a row or a state, by what judges it:
 module _ (judge : File → List ℕ → ℕ) (s : List ℕ) (p : Place) (item : List ℕ) (fault : ℕ) (bytes : item ≡ body_at s p.at)
@@ -213,5 +213,5 @@ module _ (judge : File → List ℕ → ℕ) (s : List ℕ) (p : Place) (item : 
       omega (arith, few (file_of s p) (body_at s p.at) (item-fault-is ∙ e), length_fields s p.start p.items)
 
   -- what is found of its fault is found of what judges it; a row and a state are added to a file in one way
-  pub item-step : (r : Step) → StepBy (λ _ _. fault) 3 s p r → StepBy judge 3 s p r
-  item-step r h = rw item-fault-is h
+  pub item_step : (r : Step) → StepBy (λ _ _. fault) 3 s p r → StepBy judge 3 s p r
+  item_step r h = rw item-fault-is h

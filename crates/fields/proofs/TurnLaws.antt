@@ -47,8 +47,8 @@ module _ (s : List ℕ) (p : Place) (before-end : p.at < length s) where
   some_left : eqb (length (drop p.at s)) 0 ≡ false
   some_left = ne_eqb (length (drop p.at s)) 0 (λ (e : length (drop p.at s) ≡ 0). omega (arith, e, length-drop p.at s))
 
-  mark-left : get_or (drop p.at s) 0 0 ≡ get_or s p.at 0
-  mark-left = get_or-drop p.at s 0 0 ∙ rw add-zero
+  mark_left : get_or (drop p.at s) 0 0 ≡ get_or s p.at 0
+  mark_left = get_or-drop p.at s 0 0 ∙ rw add-zero
 
   after-left : after_field (drop p.at s) ≡ drop (next_at s p.at) s
   unfolding length_at
@@ -57,9 +57,9 @@ module _ (s : List ℕ) (p : Place) (before-end : p.at < length s) where
   past : length s - p.at < 3 → runs_past (drop p.at s) ≡ true
   past h = rw (length-drop p.at s, lt-ltb (length s - p.at) 3 h)
 
-  past-body : 3 ≤ length s - p.at → length s - p.at - 3 < length_at s p.at → runs_past (drop p.at s) ≡ true
+  past_body : 3 ≤ length s - p.at → length s - p.at - 3 < length_at s p.at → runs_past (drop p.at s) ≡ true
   unfolding length_at
-  past-body g h =
+  past_body g h =
       let q : length s - p.at < 3 + length_at s p.at = omega arith in
       rw (length-drop p.at s, le-ltb (length s - p.at) 3 g, lt-ltb (length s - p.at) (3 + length_at s p.at) q)
 
@@ -70,19 +70,19 @@ module _ (s : List ℕ) (p : Place) (before-end : p.at < length s) where
       let q : 3 + length_at s p.at ≤ length s - p.at = omega arith in
       rw (length-drop p.at s, le-ltb (length s - p.at) 3 g, le-ltb (length s - p.at) (3 + length_at s p.at) q)
 
-  pub turn-cut : (kind : FileKind) → length s - p.at < 3 → RefusedAt kind s p cut_off
-  turn-cut kind h =
+  pub turn_cut : (kind : FileKind) → length s - p.at < 3 → RefusedAt kind s p cut_off
+  turn_cut kind h =
       record { some = omega arith; reads = λ (l : ℕ). read_cut l kind (file_of s p) (drop p.at s) some_left (past h) }
 
-  pub turn-cut-body : (kind : FileKind) → 3 ≤ length s - p.at → length s - p.at - 3 < length_at s p.at → RefusedAt kind s p cut_off
-  turn-cut-body kind g h =
-      record { some = omega arith; reads = λ (l : ℕ). read_cut l kind (file_of s p) (drop p.at s) some_left (past-body g h) }
+  pub turn_cut_body : (kind : FileKind) → 3 ≤ length s - p.at → length s - p.at - 3 < length_at s p.at → RefusedAt kind s p cut_off
+  turn_cut_body kind g h =
+      record { some = omega arith; reads = λ (l : ℕ). read_cut l kind (file_of s p) (drop p.at s) some_left (past_body g h) }
 
   -- what judging the field found, of the bytes that are left
   fault-left : (kind : FileKind) (fault : ℕ) → field_fault kind (file_of s p) (get_or s p.at 0) (body_at s p.at) ≡ fault
       → field_fault kind (file_of s p) (get_or (drop p.at s) 0 0) (body_of (drop p.at s)) ≡ fault
   unfolding body_at
-  fault-left kind fault e = rw mark-left e
+  fault-left kind fault e = rw mark_left e
 
   goes : (kind : FileKind) (q : Place) → next_at s p.at ≤ length s → FieldStep kind s p (Go q) → Goes kind s p q
   unfolding body_at
@@ -93,7 +93,7 @@ module _ (s : List ℕ) (p : Place) (before-end : p.at < length s) where
         reads =
             λ (l : ℕ).
             read_on l kind (file_of s p) (drop p.at s) some_left (whole h) (fault-left kind 0 j.no_fault)
-            ∙ rw (mark-left, after-left, j.file_is, j.after);
+            ∙ rw (mark_left, after-left, j.file_is, j.after);
       }
 
   refuses : (kind : FileKind) (k : ℕ) → next_at s p.at ≤ length s → FieldStep kind s p (Refused k) → RefusedAt kind s p k
@@ -156,17 +156,17 @@ reading_begins settings kind s = record { sound = begin-sound settings s; fuel =
 
 module _ (settings : Settings) (kind : FileKind) (s : List ℕ) (p : Place) (reading : Reading settings kind s p) where
   -- there is fuel for one turn at least
-  one-turn : (l : ℕ) × (length s < suc l + p.at) × (read_from (suc l) kind (file_of s p) (drop p.at s) ≡ read_with settings kind s)
-  one-turn = go reading.fuel reading.enough reading.reads
+  one_turn : (l : ℕ) × (length s < suc l + p.at) × (read_from (suc l) kind (file_of s p) (drop p.at s) ≡ read_with settings kind s)
+  one_turn = go reading.fuel reading.enough reading.reads
     where
       go : (f : ℕ) → length s < f + p.at → read_from f kind (file_of s p) (drop p.at s) ≡ read_with settings kind s
           → (l : ℕ) × (length s < suc l + p.at) × (read_from (suc l) kind (file_of s p) (drop p.at s) ≡ read_with settings kind s)
       go zero e r = let z : ⊥ = omega (arith, e, reading.sound.within) in absurd z
       go (suc l) e r = (l, e, r)
 
-  pub reading-goes : (q : Place) → Goes kind s p q → Reading settings kind s q
-  reading-goes q g =
-      let t = one-turn in
+  pub reading_goes : (q : Place) → Goes kind s p q → Reading settings kind s q
+  reading_goes q g =
+      let t = one_turn in
       record {
         sound = g.sound;
         fuel = t.0;
@@ -174,21 +174,21 @@ module _ (settings : Settings) (kind : FileKind) (s : List ℕ) (p : Place) (rea
         reads = sym (g.reads t.0) ∙ t.2;
       }
 
-  pub reading-refused : (k : ℕ) → RefusedAt kind s p k → ReadAs settings kind s (answer.Refused k)
-  reading-refused k g =
-      let t = one-turn in
+  pub reading_refused : (k : ℕ) → RefusedAt kind s p k → ReadAs settings kind s (answer.Refused k)
+  reading_refused k g =
+      let t = one_turn in
       record { is = sym (g.reads t.0) ∙ t.2; kept = g.some }
 
   at_end_fact : length s ≤ p.at → at_end kind (file_of s p) ≡ read_with settings kind s
   at_end_fact h =
-      let t = one-turn in
+      let t = one_turn in
       sym (read_end t.0 kind (file_of s p)) ∙ rw (drop_of_length-le s h) at t.2
 
   finished : length s ≤ p.at → p.stage ≡ last_stage kind → Finished kind s p
   finished h e = record { sound = reading.sound; at_end_fact = omega (arith, reading.sound.within); met = e }
 
-  pub reading-accepted : length s ≤ p.at → p.stage ≡ last_stage kind → ReadAs settings kind s (answer.Accepted p)
-  reading-accepted h e = record { is = rw (eq-eqb p.stage (last_stage kind) e) at (at_end_fact h); kept = finished h e }
+  pub reading_accepted : length s ≤ p.at → p.stage ≡ last_stage kind → ReadAs settings kind s (answer.Accepted p)
+  reading_accepted h e = record { is = rw (eq-eqb p.stage (last_stage kind) e) at (at_end_fact h); kept = finished h e }
 
-  pub reading-unfinished : length s ≤ p.at → (p.stage ≡ last_stage kind → ⊥) → ReadAs settings kind s (answer.Refused unfinished)
-  reading-unfinished h e = record { is = rw (ne_eqb p.stage (last_stage kind) e) at (at_end_fact h); kept = omega arith }
+  pub reading_unfinished : length s ≤ p.at → (p.stage ≡ last_stage kind → ⊥) → ReadAs settings kind s (answer.Refused unfinished)
+  reading_unfinished h e = record { is = rw (ne_eqb p.stage (last_stage kind) e) at (at_end_fact h); kept = omega arith }

@@ -13,7 +13,7 @@ use Rattle.indexed.specs.Trees.{Arrays}
 use Rattle.indexed.specs.Partitions.{Refines, KeyClosed, ForkClosed, EndsClosed, BackClosed}
 use Rattle.indexed.specs.Passes.{SuffixAlike, ByEnds, NamesAbove, SeenSets, KeysWhere, FJoined}
 use Rattle.indexed.proofs.Keys.{forks-keys, keys_forks}
-use Rattle.indexed.proofs.Functions.{last_forks, seen_forks, last-back, last_keys, seen_back, seen-keys}
+use Rattle.indexed.proofs.Functions.{last_forks, seen_forks, last_back, last_keys, seen_back, seen_keys}
 use Rattle.worklist.specs.Settling.{RoundClosed, JoinedUntil}
 use Rattle.functions.specs.Rounds.{Finished}
 use Rattle.functions.specs.Results.{JoinedByLast, JoinedBySeen}
@@ -26,7 +26,7 @@ module _ (n : ℕ) (parents names ends values : List ℕ) (arrays : Arrays n par
       ⊎_elim (λ e. ap (λ (x : ℕ). get_or others x 0) e) (λ t. closed v w hv hw t.0 t.1 t.2) ((by.alike v w hv hw).0 one)
 
   -- the rule against the arcs said by keys, both ways, where members of a group agree in f
-  pub f-joined :
+  pub f_joined :
       (keys more start groups : List ℕ) → ForkClosed n parents names values → ByEnds n ends values start →
       ((l : List ℕ) → Refines n l values → KeyClosed n (numbers_from n 0) parents keys l →
       KeyClosed n (numbers_from n 0) parents more l → BackClosed n parents names values l) →
@@ -36,7 +36,7 @@ module _ (n : ℕ) (parents names ends values : List ℕ) (arrays : Arrays n par
       KeyClosed n (numbers_from n 0) parents more l) →
       JoinedUntil (RoundClosed n parents names (numbers_from n 0) keys more) n start groups →
       FJoined n parents names ends values groups
-  f-joined keys more start groups value-forks by back-of keys_of more_of until =
+  f_joined keys more start groups value-forks by back-of keys_of more_of until =
       record {
         labelled = until.labelled;
         sound = λ others agree forks ends-shut back.
@@ -83,9 +83,9 @@ joined_by_last n j parents names ends codes keys none groups arrays by above is 
       codes = codes;
       by_codes = by;
       joined =
-          f-joined n parents names ends codes arrays keys none finished.start groups
+          f_joined n parents names ends codes arrays keys none finished.start groups
           (last_forks n j parents names codes arrays by) finished.by_ends
-          (λ l agree shut more. last-back n parents names arrays j codes keys l by above agree shut)
+          (λ l agree shut more. last_back n parents names arrays j codes keys l by above agree shut)
           (λ l agree back. last_keys n parents names arrays j codes keys l by above agree back)
           (λ l agree back. none-closed n (numbers_from n 0) parents none l is) finished.until;
     }
@@ -100,10 +100,10 @@ joined_by_seen n parents names ends seen enlarging others groups arrays sets key
       seen = seen;
       sets = sets;
       joined =
-          f-joined n parents names ends seen arrays enlarging others finished.start groups
+          f_joined n parents names ends seen arrays enlarging others finished.start groups
           (seen_forks n parents names seen sets) finished.by_ends
           (λ l agree shut more. seen_back n parents names arrays seen enlarging others l sets keys keys' shut more)
-          (λ l agree back. seen-keys n parents names arrays true seen enlarging l sets keys agree back)
-          (λ l agree back. seen-keys n parents names arrays false seen others l sets keys' agree back)
+          (λ l agree back. seen_keys n parents names arrays true seen enlarging l sets keys agree back)
+          (λ l agree back. seen_keys n parents names arrays false seen others l sets keys' agree back)
           finished.until;
     }

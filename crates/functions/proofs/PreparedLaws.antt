@@ -16,9 +16,9 @@ use Rattle.functions.proofs.FLaws.{joined_by_last, joined_by_seen}
 
 module _ (seen : Bool) (n j : ℕ) (parents names unused values keys more : List ℕ) where
   -- sets and keys, where f is the set of names seen
-  pub by-sets :
+  pub by_sets :
       seen ≡ true → SetsAndKeys n parents names values keys more → ValuesAndKeys seen n j parents names unused values keys more
-  by-sets is told = record { of_seen = λ e. told; of_last = λ e. absurd (true≢false (sym is ∙ e)) }
+  by_sets is told = record { of_seen = λ e. told; of_last = λ e. absurd (true≢false (sym is ∙ e)) }
 
   -- codes and keys, where f is the last names
   pub by_codes :

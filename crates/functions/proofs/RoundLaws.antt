@@ -11,7 +11,7 @@ use Rattle.indexed.specs.Passes.{ByEnds}
 use Rattle.base.proofs.Places.{number_at}
 use Rattle.indexed.proofs.Keys.{forks-keys}
 use Rattle.indexed.proofs.Suffixes.{parent_below}
-use Rattle.indexed.proofs.Alone.{alone_same, alone-forks}
+use Rattle.indexed.proofs.Alone.{alone_same, alone_forks}
 use Rattle.worklist.specs.Settling.{RoundReady, RoundClosed, JoinedUntil}
 use Rattle.functions.specs.Rounds.{FinishReady, Finished}
 
@@ -53,7 +53,7 @@ alone_closed :
     RoundClosed n parents names (numbers_from n 0) keys more groups
 alone_closed n parents names keys more groups arrays alone =
     record {
-      forks = forks-keys n parents names groups arrays (alone-forks n parents names groups arrays alone);
+      forks = forks-keys n parents names groups arrays (alone_forks n parents names groups arrays alone);
       backs = backs keys;
       others = backs more;
     }

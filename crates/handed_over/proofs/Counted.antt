@@ -19,7 +19,7 @@ use Rattle.model.proofs.CallLaws.{refusal_is, answered, untouched, wrote, call-s
 use Rattle.model.proofs.Demands.{demands}
 use Rattle.counts.specs.Counts.{counts_file, book_counts}
 use Rattle.counts.specs.Claims.{SameBag}
-use Rattle.counts.proofs.Written.{book-counts-length}
+use Rattle.counts.proofs.Written.{book_counts-length}
 use Rattle.counts.proofs.Claims.{counts_hold}
 use Rattle.results.specs.declared.Counted.{Counted}
 use Rattle.results.specs.Says.{building_counted, uncounted}
@@ -58,14 +58,14 @@ module _ (b : CountedBuild) where
 
   enough : counts_bytes ≤ length b.counts → AsBuilt b
   enough long =
-      built-where (λ none. omega (arith, book-counts-length b.settings b.allowed b.book (book_accepted none), long))
+      built-where (λ none. omega (arith, book_counts-length b.settings b.allowed b.book (book_accepted none), long))
 
   -- whether an output is too short: that of the table, or that of the counts
-  short-is :
+  short_is :
       too_short call.writes outs
       ≡ (ltb (length b.out) (length (book_table (book_counted b))) || ltb (length b.counts) (length (book_counts (book_counted b))))
   unfolding building_counted too_short book_counts
-  short-is =
+  short_is =
       ap (λ (t : Bool). ltb (length b.out) (length (book_table (book_counted b))) || t)
       (or_false (ltb (length b.counts) (length (book_counts (book_counted b)))))
 
@@ -75,7 +75,7 @@ module _ (b : CountedBuild) where
   refused-short none short =
       let table-short = ltb (length b.out) (length (book_table (book_counted b))) in
       let told : too_short call.writes outs ≡ true =
-      short-is
+      short_is
       ∙ ap (λ (t : Bool). table-short || t) (lt-ltb (length b.counts) (length (book_counts (book_counted b))) short)
       ∙ or-true table-short in
       let refused = call-short call outs none told in
@@ -87,9 +87,9 @@ module _ (b : CountedBuild) where
       }
 
   -- refused: both outputs are as they were
-  both-kept : 0 < b.result.refusal → (b.out' ≡ b.out) × (b.counts' ≡ b.counts)
+  both_kept : 0 < b.result.refusal → (b.out' ≡ b.out) × (b.counts' ≡ b.counts)
   unfolding building_counted
-  both-kept some =
+  both_kept some =
       let told = refusal_is b.says.gives (λ (r : Counted). r.refusal) (λ k. refl) refl in
       let same = untouched b.says.gives (record { is = sym told; some = some }) in
       (ap (λ (l : List (List ℕ)). get_or l 0 []) same, ap (λ (l : List (List ℕ)). get_or l 1 []) same)
@@ -101,24 +101,24 @@ module _ (b : CountedBuild) (none : b.result.refusal ≡ 0) where
   unfolding building_counted
   no_fault = sym (refusal_is b.says.gives (λ (r : Counted). r.refusal) (λ k. refl) refl) ∙ none
 
-  build-passes : fault b ≡ 0
+  build_passes : fault b ≡ 0
   unfolding building_counted
-  build-passes = (first_of_lem (fault b) _ no_fault).0
+  build_passes = (first_of_lem (fault b) _ no_fault).0
 
   ok : Accepted b.settings b.book
-  ok = book_accepted b build-passes
+  ok = book_accepted b build_passes
 
-  counts-room : length (book_counts (book_counted b)) ≤ length b.counts
+  counts_room : length (book_counts (book_counted b)) ≤ length b.counts
   unfolding building_counted
-  counts-room =
+  counts_room =
       let long = when-none (too_short (call b).writes (outs b)) output_too_short (omega arith) (first_of_lem (fault b) _ no_fault).1 in
       let table-short = ltb (length b.out) (length (book_table (book_counted b))) in
       let counts-short = ltb (length b.counts) (length (book_counts (book_counted b))) in
       ltb-false (length b.counts) (length (book_counts (book_counted b)))
-      (false_or table-short counts-short (sym (short-is b) ∙ long)).1
+      (false_or table-short counts-short (sym (short_is b) ∙ long)).1
 
-  is-build : AsBuilt b
-  is-build = built-where b (λ e. counts-room)
+  is_build : AsBuilt b
+  is_build = built-where b (λ e. counts_room)
 
   -- what it left in its outputs
   table_is : table_written b ≡ book_table (book_counted b)
@@ -128,9 +128,9 @@ module _ (b : CountedBuild) (none : b.result.refusal ≡ 0) where
       (ap (λ (l : List (List ℕ)). get_or l 0 []) (wrote b.says.gives no_fault))
       (ap (λ (r : Counted). r.length) (answered b.says.gives no_fault))).bytes_are
 
-  counts-are : counts_written b ≡ book_counts (book_counted b)
+  counts_are : counts_written b ≡ book_counts (book_counted b)
   unfolding building_counted fronts book_counts
-  counts-are =
+  counts_are =
       (front_of_lem (book_counts (book_counted b)) b.counts b.counts' b.result.counts_length
       (ap (λ (l : List (List ℕ)). get_or l 1 []) (wrote b.says.gives no_fault))
       (ap (λ (r : Counted). r.counts_length) (answered b.says.gives no_fault))).bytes_are
@@ -140,7 +140,7 @@ module _ (b : CountedBuild) (none : b.result.refusal ≡ 0) where
 
   walked : counts_written b ≡ counts_file (table_states (table_written b)) (book_counted b).items
   unfolding book_counts
-  walked = counts-are ∙ ap (λ (states : List State). counts_file states (book_counted b).items) (sym read_back)
+  walked = counts_are ∙ ap (λ (states : List State). counts_file states (book_counted b).items) (sym read_back)
 
   -- demand 3, of the build that it is
   demand_3 : HandedOver (book_counted b) (table_written b)
@@ -155,7 +155,7 @@ module _ (b : CountedBuild) (none : b.result.refusal ≡ 0) where
         out = b.out;
         out' = b.out';
         result = uncounted b.result;
-        says = is-build;
+        says = is_build;
         not_refused = none;
       })
 
@@ -165,9 +165,9 @@ same-counts :
     (b c : CountedBuild) → b.result.refusal ≡ 0 → c.result.refusal ≡ 0 → SameBag (book_counted b) (book_counted c) →
     counts_written b ≡ counts_written c
 same-counts b c none-b none-c bag =
-    counts-are b none-b
+    counts_are b none-b
     ∙ counts_hold.by_bag b.settings c.settings b.book c.book b.allowed c.allowed (ok b none-b) (ok c none-c) bag
-    ∙ sym (counts-are c none-c)
+    ∙ sym (counts_are c none-c)
 
 -- ---- all of it
 
@@ -177,8 +177,8 @@ counted-handed_over =
       as_built = built-where;
       always_enough = enough;
       too_short_fact = refused-short;
-      refused = both-kept;
-      accepted = is-build;
+      refused = both_kept;
+      accepted = is_build;
       handed_over = demand_3;
       by_walking = walked;
       states_are = read_back;

@@ -84,28 +84,28 @@ handed_over b =
 -- ---- two builds
 
 module _ (b c : AcceptedBuild) (like : SameBook (book_in b) (book_in c)) where
-  tables-same : book_table (book_in b) ≡ book_table (book_in c)
-  tables-same =
+  tables_same : book_table (book_in b) ≡ book_table (book_in c)
+  tables_same =
       (demands.third b.settings b.allowed).same_table c.settings b.book c.book (book_accepted b) (book_accepted c) like
 
-  book-states-same : book_states (book_in b) ≡ book_states (book_in c)
-  book-states-same =
+  book_states-same : book_states (book_in b) ≡ book_states (book_in c)
+  book_states-same =
       sym ((demands.reads_back b.settings b.allowed).same_states b.book (book_accepted b))
-      ∙ ap table_states tables-same
+      ∙ ap table_states tables_same
       ∙ (demands.reads_back c.settings c.allowed).same_states c.book (book_accepted c)
 
-  book-joins-same : joins_of (book_in b) ≡ joins_of (book_in c)
+  book_joins_same : joins_of (book_in b) ≡ joins_of (book_in c)
   unfolding joins_of
-  book-joins-same =
-      ap₂ (λ (m n : ℕ). m - n) (tree_size_same (book_in b) (book_in c) like) (ap length book-states-same)
+  book_joins_same =
+      ap₂ (λ (m n : ℕ). m - n) (tree_size_same (book_in b) (book_in c) like) (ap length book_states-same)
 
   same-results : SameResults b c
   same-results =
       record {
-        bytes_same = written_is b ∙ tables-same ∙ sym (written_is c);
-        lengths_same = omega (arith, length-is b, ap length tables-same, length-is c);
-        states_same = omega (arith, states_are b, ap length book-states-same, states_are c);
-        joins_same = omega (arith, joins_are b, book-joins-same, joins_are c);
+        bytes_same = written_is b ∙ tables_same ∙ sym (written_is c);
+        lengths_same = omega (arith, length-is b, ap length tables_same, length-is c);
+        states_same = omega (arith, states_are b, ap length book_states-same, states_are c);
+        joins_same = omega (arith, joins_are b, book_joins_same, joins_are c);
         distinct_same =
             omega (
               arith,

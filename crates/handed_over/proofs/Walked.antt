@@ -30,13 +30,13 @@ module _ (w : AcceptedWalk) where
   no_fault = sym (refusal_is w.says.gives (λ (r : Walked). r.refusal) (λ k. refl) refl) ∙ w.not_refused
 
   -- so its table is accepted
-  table-passes : table_fault w.table w.work ≡ 0
+  table_passes : table_fault w.table w.work ≡ 0
   unfolding walking walk_fault
-  table-passes = (first_of_lem (table_fault w.table w.work) _ (first_of_lem (walk_fault w.table w.row w.work) _ no_fault).0).0
+  table_passes = (first_of_lem (table_fault w.table w.work) _ (first_of_lem (walk_fault w.table w.row w.work) _ no_fault).0).0
 
   -- what shall be told of the row
   shall : TellsByWords states w.row (live_walk states w.row)
-  shall = endings_hold.walks.by_words w.table w.work table-passes w.row
+  shall = endings_hold.walks.by_words w.table w.work table_passes w.row
 
   -- the beginning by its length
   beginning_is :
@@ -60,7 +60,7 @@ walks_handed_over =
     record {
       by_words = λ w. subst (TellsByWords (states w) w.row) (sym (told_is w)) (shall w);
       admits_nothing = λ w none.
-          told_is w ∙ endings_hold.walks.admits_nothing w.table w.work (table-passes w) none w.row;
+          told_is w ∙ endings_hold.walks.admits_nothing w.table w.work (table_passes w) none w.row;
       as_before = λ b w over.
           told_is w
           ∙ subst (λ (bytes : List ℕ). live_walk (table_states bytes) w.row ≡ plain_walk (table_states bytes) w.row)

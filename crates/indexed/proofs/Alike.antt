@@ -36,15 +36,15 @@ module _ (h : ℕ) where
   alike_refl : (u : Word) → Alike h u u
   alike_refl u = record { alike = inl refl }
 
-  alike-sym : (u w : Word) → Alike h u w → Alike h w u
-  alike-sym u w r = record { alike = go r.alike }
+  alike_sym : (u w : Word) → Alike h u w → Alike h w u
+  alike_sym u w r = record { alike = go r.alike }
     where
       go : (u ≡ w) ⊎ SameLast h u w → (w ≡ u) ⊎ SameLast h w u
       go (inl e) = inl (sym e)
       go (inr s) = inr (s.1, s.0, sym s.2)
 
-  alike-trans : (u v w : Word) → Alike h u v → Alike h v w → Alike h u w
-  alike-trans u v w r q = record { alike = go r.alike q.alike }
+  alike_trans : (u v w : Word) → Alike h u v → Alike h v w → Alike h u w
+  alike_trans u v w r q = record { alike = go r.alike q.alike }
     where
       go : (u ≡ v) ⊎ SameLast h u v → (v ≡ w) ⊎ SameLast h v w → (u ≡ w) ⊎ SameLast h u w
       go (inl e) (inl f) = inl (e ∙ f)
@@ -52,8 +52,8 @@ module _ (h : ℕ) where
       go (inr s) (inl f) = inr (subst (λ (x : Word). SameLast h u x) f s)
       go (inr s) (inr t) = inr (s.0, t.1, s.2 ∙ t.2)
 
-  alike-snoc : (u w : Word) (a : ℕ) → Alike h u w → Alike h (u ▸ a) (w ▸ a)
-  alike-snoc u w a r = record { alike = go r.alike }
+  alike_snoc : (u w : Word) (a : ℕ) → Alike h u w → Alike h (u ▸ a) (w ▸ a)
+  alike_snoc u w a r = record { alike = go r.alike }
     where
       go : (u ≡ w) ⊎ SameLast h u w → (u ▸ a ≡ w ▸ a) ⊎ SameLast h (u ▸ a) (w ▸ a)
       go (inl e) = inl (ap (λ (x : Word). x ▸ a) e)
@@ -63,23 +63,23 @@ module _ (h : ℕ) where
         last_snoc_same h u w a s.2,
       )
 
-  alike-append : (p u w : Word) → Alike h u w → Alike h (u ++ p) (w ++ p)
-  alike-append [] u w r =
+  alike_append : (p u w : Word) → Alike h u w → Alike h (u ++ p) (w ++ p)
+  alike_append [] u w r =
       let nil-u : u ++ [] ≡ u = append-nil u in
       let nil-w : w ++ [] ≡ w = append-nil w in
       rw (nil-u, nil-w) r
-  alike-append (a ∷ p) u w r =
+  alike_append (a ∷ p) u w r =
       let cons-u : (u ▸ a) ++ p ≡ u ++ (a ∷ p) = append_assoc u (a ∷ []) p in
       let cons-w : (w ▸ a) ++ p ≡ w ++ (a ∷ p) = append_assoc w (a ∷ []) p in
-      rw (← cons-u, ← cons-w) (alike-append p (u ▸ a) (w ▸ a) (alike-snoc u w a r))
+      rw (← cons-u, ← cons-w) (alike_append p (u ▸ a) (w ▸ a) (alike_snoc u w a r))
 
   -- a way modulo the relation leads where the word itself leads
-  ways-alike : (nodes : List Word) (p u w : Word) → Ways nodes (Alike h) u p w → Alike h (u ++ p) w
-  ways-alike nodes [] u w f = subst (λ (v : Word). Alike h v w) (sym (append-nil u)) f
-  ways-alike nodes (a ∷ p) u w f =
+  ways_alike : (nodes : List Word) (p u w : Word) → Ways nodes (Alike h) u p w → Alike h (u ++ p) w
+  ways_alike nodes [] u w f = subst (λ (v : Word). Alike h v w) (sym (append-nil u)) f
+  ways_alike nodes (a ∷ p) u w f =
       let v = f.0 in
-      let rest : Alike h ((v ▸ a) ++ p) w = ways-alike nodes p (v ▸ a) w f.4 in
-      alike-trans (u ++ (a ∷ p)) (v ++ (a ∷ p)) w (alike-append (a ∷ p) u v f.2)
+      let rest : Alike h ((v ▸ a) ++ p) w = ways_alike nodes p (v ▸ a) w f.4 in
+      alike_trans (u ++ (a ∷ p)) (v ++ (a ∷ p)) w (alike_append (a ∷ p) u v f.2)
       (subst (λ (z : Word). Alike h z w) (append_assoc v (a ∷ []) p) rest)
 
   ends-in : (s p w : Word) → h ≤ length p → Alike h (s ++ p) w → EndsIn h p w
@@ -90,16 +90,16 @@ module _ (h : ℕ) where
       go (inr t) = (t.1, sym t.2 ∙ last_append h s p low)
 
   -- a way by at least h names ends in the last h of them
-  pub ways-end-in : (nodes : List Word) (p u w : Word) → h ≤ length p → Ways nodes (Alike h) u p w → EndsIn h p w
-  ways-end-in nodes p u w low f = ends-in u p w low (ways-alike nodes p u w f)
+  pub ways_end_in : (nodes : List Word) (p u w : Word) → h ≤ length p → Ways nodes (Alike h) u p w → EndsIn h p w
+  ways_end_in nodes p u w low f = ends-in u p w low (ways_alike nodes p u w f)
 
 pub alike_closed : (c : Class) (rows nodes : List Word) → eqb c.kind 0 ≡ true → Closed c rows nodes (Alike c.second)
 alike_closed c rows nodes kind =
     record {
       reflexive = λ u m. alike_refl c.second u;
-      symmetric = alike-sym c.second;
-      transitive = alike-trans c.second;
-      fork = λ u w a r m n. alike-snoc c.second u w a r;
+      symmetric = alike_sym c.second;
+      transitive = alike_trans c.second;
+      fork = λ u w a r m n. alike_snoc c.second u w a r;
       context = λ k u w one. of-context u w one;
       ends = λ other u w r s e m n o q ur ws i j. absurd (true≢false (sym kind ∙ other));
       back = λ other u w r s a e m n o q ur ws i j after. absurd (true≢false (sym kind ∙ other));
@@ -107,8 +107,8 @@ alike_closed c rows nodes kind =
   where
     of-context : (u w : Word) → OneContext c nodes (Alike c.second) u w → Alike c.second u w
     of-context u w one =
-        let in-u = ways-end-in c.second nodes one.p one.from_u u one.low one.into_u in
-        let in-w = ways-end-in c.second nodes one.p one.from_w w one.low one.into_w in
+        let in-u = ways_end_in c.second nodes one.p one.from_u u one.low one.into_u in
+        let in-w = ways_end_in c.second nodes one.p one.from_w w one.low one.into_w in
         record { alike = inr (in-u.0, in-w.0, in-u.1 ∙ sym in-w.1) }
 
 -- members of a joined group are alike

@@ -9,7 +9,7 @@ use lib.ListN.{get_or}
 use Rattle.indexed.specs.Trees.{Arrays, SameSuffix}
 use Rattle.indexed.specs.Partitions.{Alone, ForkClosed, Share}
 use Rattle.indexed.specs.Passes.{BySuffix, ContextJoined}
-use Rattle.indexed.proofs.Suffixes.{parent_below, suffix-cast}
+use Rattle.indexed.proofs.Suffixes.{parent_below, suffix_cast}
 
 -- states of one group are one state
 pub alone_same :
@@ -21,8 +21,8 @@ module _ (n : ℕ) (parents names groups : List ℕ) (arrays : Arrays n parents 
   same = alone_same n groups alone
 
   -- a state has at most one child by a name
-  pub alone-forks : ForkClosed n parents names groups
-  alone-forks v w pv pw hv hw name one =
+  pub alone_forks : ForkClosed n parents names groups
+  alone_forks v w pv pw hv hw name one =
       let inside = parent_below n parents names arrays in
       ap (λ (x : ℕ). get_or groups x 0)
       (arrays.one_child v w pv pw hv hw (same (get_or parents v 0) (get_or parents w 0) (inside v hv) (inside w hw) one) name)
@@ -32,7 +32,7 @@ module _ (n : ℕ) (parents names groups : List ℕ) (arrays : Arrays n parents 
     one-path :
         (j i v w : ℕ) → i + j ≡ k → v < n → w < n → SameSuffix parents names i v w → Share n parents names groups j v w → v ≡ w
     one-path zero i v w sum hv hw s shared =
-        same v w hv hw ((by.alike v w hv hw).1 (inr (suffix-cast n parents names arrays i k v w (omega arith) s)))
+        same v w hv hw ((by.alike v w hv hw).1 (inr (suffix_cast n parents names arrays i k v w (omega arith) s)))
     one-path (suc j) i v w sum hv hw s (x, y, px, py, hx, hy, name, from_v, from_w, shared) =
         let inside = parent_below n parents names arrays in
         let at-v : get_or parents x 0 ≡ v = same (get_or parents x 0) v (inside x hx) hv from_v in
@@ -47,6 +47,6 @@ module _ (n : ℕ) (parents names groups : List ℕ) (arrays : Arrays n parents 
         record {
           labelled = by.labelled;
           sound = λ m e others fork context v w hv hw one. ap (λ (x : ℕ). get_or others x 0) (same v w hv hw one);
-          fork_closed = alone-forks;
+          fork_closed = alone_forks;
           context_closed = λ m e v w hv hw s shared. ap (λ (x : ℕ). get_or groups x 0) (one-path m h v w e hv hw s shared);
         }

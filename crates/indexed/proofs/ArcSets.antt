@@ -77,13 +77,13 @@ module _ {n : ℕ} {work : List ℕ} {row set : ℕ} where
       absurd z
   arcs_more m (a ∷ arcs) r h e = take-first m a arcs r e
 
-  pub arcs-done : (arcs : List Arc) → ArcsAt n work row set arcs → set ≤ 0 → arcs ≡ []
-  arcs-done [] r h = refl
-  arcs-done (a ∷ arcs) r h =
+  pub arcs_done : (arcs : List Arc) → ArcsAt n work row set arcs → set ≤ 0 → arcs ≡ []
+  arcs_done [] r h = refl
+  arcs_done (a ∷ arcs) r h =
       let set_is : set ≡ name_set (a ∷ arcs) = r.set_is in
       let z : ⊥ = omega (arith, first_in_set a arcs, pow_pos a.name) in
       absurd z
 
   -- as many arcs as the set has names
-  pub arcs-counted : (arcs : List Arc) → ArcsAt n work row set arcs → ones set ≡ length arcs
-  arcs-counted arcs r = ap ones r.set_is ∙ ones_name_set r.from arcs r.ascending
+  pub arcs_counted : (arcs : List Arc) → ArcsAt n work row set arcs → ones set ≡ length arcs
+  arcs_counted arcs r = ap ones r.set_is ∙ ones_name_set r.from arcs r.ascending

@@ -6,7 +6,7 @@ use Prim.Native.Nat.{ℕ, ◌<◌}
 use lib.ListN.{length, get_or}
 use Rattle.base.specs.Lists.{same, copies}
 use Rattle.base.proofs.Tests.{tells_same}
-use Rattle.base.proofs.Totals.{many-some, some-many}
+use Rattle.base.proofs.Totals.{many_some, some_many}
 use Rattle.model.specs.Classes.{Word}
 use Rattle.model.specs.Joinings.{tree_of}
 use Rattle.indexed.specs.Trees.{word_at, EndsArray}
@@ -15,9 +15,9 @@ use Rattle.indexed.specs.Trees.{word_at, EndsArray}
 pub row_copies : (row : Word) (rows : List Word) → (0 < copies row rows) ↔ In row rows
 row_copies row rows = (
   λ some.
-      let r = some-many (same row) rows some in
+      let r = some_many (same row) rows some in
       subst (λ (w : Word). In w rows) (sym ((tells_same row r.0).fact r.2)) r.1,
-  λ m. many-some (same row) rows row m ((tells_same row row).test refl),
+  λ m. many_some (same row) rows row m ((tells_same row row).test refl),
 )
 
 pub ended-row :

@@ -16,8 +16,8 @@ use Rattle.indexed.specs.Partitions.{Refines, KeyClosed, ForkClosed, BackClosed}
 use Rattle.indexed.specs.Passes.{SuffixAlike, NamesAbove, SeenSets, KeysWhere}
 use Rattle.base.proofs.Places.{number_at}
 use Rattle.indexed.proofs.Keys.{named-not_root}
-use Rattle.indexed.proofs.Suffixes.{parent_below, up-below, suffix-cast, suffix-up, suffix-more}
-use Rattle.indexed.proofs.Contexts.{suffix-forks}
+use Rattle.indexed.proofs.Suffixes.{parent_below, up-below, suffix_cast, suffix_up, suffix_more}
+use Rattle.indexed.proofs.Contexts.{suffix_forks}
 use Rattle.indexed.proofs.ArcKeys.{seen_forward, seen_before, key_is, keyed}
 pub use Rattle.indexed.proofs.Values.{last_classes, seen_classes}
 
@@ -25,7 +25,7 @@ pub use Rattle.indexed.proofs.Values.{last_classes, seen_classes}
 pub last_forks :
     (n j : ℕ) (parents names values : List ℕ) → Arrays n parents names → SuffixAlike n j parents names values →
     ForkClosed n parents names values
-last_forks n j parents names values arrays by = suffix-forks n parents names arrays j values by
+last_forks n j parents names values arrays by = suffix_forks n parents names arrays j values by
 
 pub seen_forks :
     (n : ℕ) (parents names seen : List ℕ) → SeenSets n parents names seen → ForkClosed n parents names seen
@@ -52,10 +52,10 @@ module _ (n : ℕ) (parents names : List ℕ) (arrays : Arrays n parents names) 
       ap (λ (x : ℕ). get_or groups x 0) (sym (number_at n v hv)) ∙ one ∙ ap (λ (x : ℕ). get_or groups x 0) (number_at n w hw)
 
   -- last j names
-  pub last-back :
+  pub last_back :
       (j : ℕ) (values keys groups : List ℕ) → SuffixAlike n j parents names values → NamesAbove n j parents names keys →
       Refines n groups values → KeyClosed n (numbers_from n 0) parents keys groups → BackClosed n parents names values groups
-  last-back j values keys groups by above agree closed v w pv pw hv hw same_name same-value one =
+  last_back j values keys groups by above agree closed v w pv pw hv hw same_name same-value one =
       let pv-below : get_or parents v 0 < n = parent_below n parents names arrays v hv in
       let pw-below : get_or parents w 0 < n = parent_below n parents names arrays w hw in
       go ((by.alike (get_or parents v 0) (get_or parents w 0) pv-below pw-below).0 same-value)
@@ -67,9 +67,9 @@ module _ (n : ℕ) (parents names : List ℕ) (arrays : Arrays n parents names) 
       go (inr s) =
           let sum_is : suc j ≡ j + 1 = omega arith in
           let cut : SameSuffix parents names (j + 1) v w =
-          suffix-cast n parents names arrays (suc j) (j + 1) v w sum_is (pv, pw, same_name, s) in
+          suffix_cast n parents names arrays (suc j) (j + 1) v w sum_is (pv, pw, same_name, s) in
           let top : SameSuffix parents names 1 (up parents j v) (up parents j w) =
-          suffix-up n parents names arrays j 1 v w cut in
+          suffix_up n parents names arrays j 1 v w cut in
           let below : get_or keys v 0 < name_limit =
           subst (λ (x : ℕ). x < name_limit) (sym (above.above v hv))
           (arrays.name_below (up parents j v) top.0 (up-below n parents (parent_below n parents names arrays) j v hv)) in
@@ -92,7 +92,7 @@ module _ (n : ℕ) (parents names : List ℕ) (arrays : Arrays n parents names) 
           let top-v : 0 < up parents j v = named-not_root n parents names arrays (up parents j v) (omega arith) in
           let top-w : 0 < up parents j w = named-not_root n parents names arrays (up parents j w) (omega arith) in
           let long : SameSuffix parents names (suc j) v w =
-          suffix-more n parents names arrays j v w s top-v top-w (sym key-v ∙ keys-same ∙ key-w) in
+          suffix_more n parents names arrays j v w s top-v top-w (sym key-v ∙ keys-same ∙ key-w) in
           let pv-below : get_or parents v 0 < n = parent_below n parents names arrays v hv in
           let pw-below : get_or parents w 0 < n = parent_below n parents names arrays w hw in
           closed v w long.0 long.1 hv hw long.2
@@ -130,11 +130,11 @@ module _ (n : ℕ) (parents names : List ℕ) (arrays : Arrays n parents names) 
       go true e = by-keys true false others keys' closed' e refl
       go false e = by-keys false true enlarging keys closed e refl
 
-  pub seen-keys :
+  pub seen_keys :
       (enlarge : Bool) (seen keys groups : List ℕ) → SeenSets n parents names seen →
       KeysWhere n enlarge parents names seen keys → Refines n groups seen → BackClosed n parents names seen groups →
       KeyClosed n (numbers_from n 0) parents keys groups
-  seen-keys enlarge seen keys groups sets keys-where agree closed v w hv hw below keys-same numbers-one =
+  seen_keys enlarge seen keys groups sets keys-where agree closed v w hv hw below keys-same numbers-one =
       let one : get_or groups v 0 ≡ get_or groups w 0 = from-numbers groups v w hv hw numbers-one in
       let at-v = keyed n enlarge parents names seen keys keys-where v hv below in
       let at-w = keyed n enlarge parents names seen keys keys-where w hw (omega arith) in

@@ -16,12 +16,12 @@ use Rattle.model.proofs.Notions.{Fits, Ways, OneContext, Closed, Inside, Ker, �
 use Rattle.model.proofs.Trees.{tree_of-tree}
 use Rattle.model.proofs.Transitions.{beginning_in, walks_down}
 use Rattle.model.proofs.Sound.{walks_ways}
-use Rattle.model.proofs.Joined.{joined_groups-joined, joined-closed, members-agree}
+use Rattle.model.proofs.Joined.{joined_groups-joined, joined_closed, members_agree}
 use Rattle.indexed.specs.Trees.{word_at, TreeArrays, EndsArray, SameSuffix}
 use Rattle.indexed.specs.Partitions.{Refines, ForkClosed, Share, ContextClosed, EndsClosed, BackClosed}
 use Rattle.indexed.proofs.Ends.{ended-row}
 use Rattle.indexed.proofs.Words.{word_at-in, suffix_words}
-use Rattle.indexed.proofs.Kernels.{parent_below, arc-into, number-ker, ker-number, share-ways}
+use Rattle.indexed.proofs.Kernels.{parent_below, arc-into, number-ker, ker_number, share_ways}
 
 -- equal classes are equal f
 pub record ClassesOfF (c : Class) (rows : List Word) (classes : List ℕ) : Type 0 where
@@ -59,26 +59,26 @@ way_into rows groups i w m =
 -- ---- the joined partition
 
 module _ (c : Class) (rows : List Word) (parents names : List ℕ) (tree : TreeArrays rows parents names) where
-  joined-fits : Fits (tree_of rows) (joined_groups c rows)
-  joined-fits = (joined_groups-joined c rows).fits
+  joined_fits : Fits (tree_of rows) (joined_groups c rows)
+  joined_fits = (joined_groups-joined c rows).fits
 
   closed : Closed c rows (tree_of rows) (Ker (tree_of rows) (joined_groups c rows))
-  closed = joined-closed c rows (joined_groups c rows) (joined_groups-joined c rows)
+  closed = joined_closed c rows (joined_groups c rows) (joined_groups-joined c rows)
 
   one :
       (v w : ℕ) → v < length (tree_of rows) → w < length (tree_of rows) →
       get_or (joined_groups c rows) v 0 ≡ get_or (joined_groups c rows) w 0 →
       Ker (tree_of rows) (joined_groups c rows) (word_at rows v) (word_at rows w)
-  one = number-ker rows (joined_groups c rows) joined-fits
+  one = number-ker rows (joined_groups c rows) joined_fits
 
   told-one :
       (v w : ℕ) → v < length (tree_of rows) → w < length (tree_of rows) →
       Ker (tree_of rows) (joined_groups c rows) (word_at rows v) (word_at rows w) →
       get_or (joined_groups c rows) v 0 ≡ get_or (joined_groups c rows) w 0
-  told-one = ker-number rows (joined_groups c rows) joined-fits
+  told-one = ker_number rows (joined_groups c rows) joined_fits
 
-  pub joined-fork-closed : ForkClosed (length (tree_of rows)) parents names (joined_groups c rows)
-  joined-fork-closed v w pos-v pos-w hv hw e g =
+  pub joined_fork_closed : ForkClosed (length (tree_of rows)) parents names (joined_groups c rows)
+  joined_fork_closed v w pos-v pos-w hv hw e g =
       let x = get_or parents v 0 in
       let y = get_or parents w 0 in
       let a = get_or names v 0 in
@@ -91,15 +91,15 @@ module _ (c : Class) (rows : List Word) (parents names : List ℕ) (tree : TreeA
       (arc-into rows parents names tree v pos-v hv) (Memᴰ.cast (sym word-w) (word_at-in rows w hw))))
 
   -- two states with the same last h names that share m names more are of one context
-  one-context :
+  one_context :
       (m v w : ℕ) → c.second + m ≡ c.first → v < length (tree_of rows) → w < length (tree_of rows) →
       SameSuffix parents names c.second v w →
       Share (length (tree_of rows)) parents names (joined_groups c rows) m v w →
       OneContext c (tree_of rows) (Ker (tree_of rows) (joined_groups c rows)) (word_at rows v) (word_at rows w)
-  one-context m v w e hv hw s share =
+  one_context m v w e hv hw s share =
       let h = c.second in
       let last = (suffix_words rows parents names tree h v w hv hw).0 s in
-      let out = share-ways rows parents names (joined_groups c rows) tree joined-fits m v w hv hw share in
+      let out = share_ways rows parents names (joined_groups c rows) tree joined_fits m v w hv hw share in
       let into-v = way_into rows (joined_groups c rows) h (word_at rows v) (word_at-in rows v hv) in
       let into_w = way_into rows (joined_groups c rows) h (word_at rows w) (word_at-in rows w hw) in
       let size : length (last_names h (word_at rows v)) ≡ h = length_last h (word_at rows v) last.0 in
@@ -126,16 +126,16 @@ module _ (c : Class) (rows : List Word) (parents names : List ℕ) (tree : TreeA
         out_of_w = out.way_w;
       }
 
-  pub joined-context-closed :
+  pub joined_context_closed :
       eqb c.kind 0 ≡ true → (m : ℕ) → c.second + m ≡ c.first →
       ContextClosed (length (tree_of rows)) c.second m parents names (joined_groups c rows)
-  joined-context-closed kind m e v w hv hw s share =
-      told-one v w hv hw (closed.context kind (word_at rows v) (word_at rows w) (one-context m v w e hv hw s share))
+  joined_context_closed kind m e v w hv hw s share =
+      told-one v w hv hw (closed.context kind (word_at rows v) (word_at rows w) (one_context m v w e hv hw s share))
 
-  pub joined-ends-closed :
+  pub joined_ends_closed :
       eqb c.kind 0 ≡ false → (ends classes : List ℕ) → EndsArray rows ends → ClassesOfF c rows classes →
       EndsClosed (length (tree_of rows)) ends classes (joined_groups c rows)
-  joined-ends-closed kind ends classes ended told v w hv hw av aw e =
+  joined_ends_closed kind ends classes ended told v w hv hw av aw e =
       let u = word_at rows v in
       let z = word_at rows w in
       let node-u = word_at-in rows v hv in
@@ -144,10 +144,10 @@ module _ (c : Class) (rows : List Word) (parents names : List ℕ) (tree : TreeA
       (closed.ends kind u z u z ((told.told v w hv hw).0 e) node-u node-z node-u node-z (one v v hv hv refl) (one w w hw hw refl)
       ((ended-row rows ends ended v hv).0 av) ((ended-row rows ends ended w hw).0 aw))
 
-  pub joined-back-closed :
+  pub joined_back_closed :
       eqb c.kind 0 ≡ false → (classes : List ℕ) → ClassesOfF c rows classes →
       BackClosed (length (tree_of rows)) parents names classes (joined_groups c rows)
-  joined-back-closed kind classes told v w pos-v pos-w hv hw e f g =
+  joined_back_closed kind classes told v w pos-v pos-w hv hw e f g =
       let x = get_or parents v 0 in
       let y = get_or parents w 0 in
       let a = get_or names v 0 in
@@ -163,11 +163,11 @@ module _ (c : Class) (rows : List Word) (parents names : List ℕ) (tree : TreeA
       (subst₂ (λ (s t : Word). Ker (tree_of rows) (joined_groups c rows) s t) (tree.word v pos-v hv) word-w (one v w hv hw g)))
 
   -- members of a joined group have the same f
-  pub joined-refines-classes :
+  pub joined_refines_classes :
       eqb c.kind 0 ≡ false → (classes : List ℕ) → ClassesOfF c rows classes →
       Refines (length (tree_of rows)) (joined_groups c rows) classes
-  joined-refines-classes kind classes told v w hv hw e =
-      let agree = members-agree c rows (joined_groups c rows) (joined_groups-joined c rows) kind in
+  joined_refines_classes kind classes told v w hv hw e =
+      let agree = members_agree c rows (joined_groups c rows) (joined_groups-joined c rows) kind in
       let k = one v w hv hw e in
       (told.told v w hv hw).1
       (agree.related (word_at rows v) (word_at rows w) k.left_node k.right_node k.one_group).same_f

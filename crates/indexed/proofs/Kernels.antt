@@ -64,22 +64,22 @@ module _ (rows : List Word) (groups : List ℕ) (fits : Fits (tree_of rows) grou
         one_group = group_at-number rows groups v fits h ∙ e ∙ sym (group_at-number rows groups w fits k);
       }
 
-  pub ker-number :
+  pub ker_number :
       (v w : ℕ) → v < length (tree_of rows) → w < length (tree_of rows) →
       Ker (tree_of rows) groups (word_at rows v) (word_at rows w) → get_or groups v 0 ≡ get_or groups w 0
-  ker-number v w h k r = sym (group_at-number rows groups v fits h) ∙ r.one_group ∙ group_at-number rows groups w fits k
+  ker_number v w h k r = sym (group_at-number rows groups v fits h) ∙ r.one_group ∙ group_at-number rows groups w fits k
 
   -- the same of numbers given by their words
-  pub ker-numbers :
+  pub ker_numbers :
       (v w : ℕ) (x y : Word) → v < length (tree_of rows) → w < length (tree_of rows) → word_at rows v ≡ x → word_at rows w ≡ y →
       Ker (tree_of rows) groups x y → get_or groups v 0 ≡ get_or groups w 0
-  ker-numbers v w x y h k e f r =
-      ker-number v w h k (subst₂ (λ (s t : Word). Ker (tree_of rows) groups s t) (sym e) (sym f) r)
+  ker_numbers v w x y h k e f r =
+      ker_number v w h k (subst₂ (λ (s t : Word). Ker (tree_of rows) groups s t) (sym e) (sym f) r)
 
-  pub numbers-ker :
+  pub numbers_ker :
       (v w : ℕ) (x y : Word) → v < length (tree_of rows) → w < length (tree_of rows) → word_at rows v ≡ x → word_at rows w ≡ y →
       get_or groups v 0 ≡ get_or groups w 0 → Ker (tree_of rows) groups x y
-  numbers-ker v w x y h k e f g =
+  numbers_ker v w x y h k e f g =
       subst₂ (λ (s t : Word). Ker (tree_of rows) groups s t) e f (number-ker v w h k g)
 
 -- two states go on by one word of m names, modulo one group
@@ -112,10 +112,10 @@ module _ (rows : List Word) (parents names groups : List ℕ) (tree : TreeArrays
         subst (λ (u : Word). Ways (tree_of rows) (Ker (tree_of rows) groups) u q t) is_word f,
       )
 
-  pub share-ways :
+  pub share_ways :
       (m v w : ℕ) → v < length (tree_of rows) → w < length (tree_of rows) →
       Share (length (tree_of rows)) parents names groups m v w → TwoWays rows groups m v w
-  share-ways zero v w h k s =
+  share_ways zero v w h k s =
       record {
         by = [];
         size = refl;
@@ -126,10 +126,10 @@ module _ (rows : List Word) (parents names groups : List ℕ) (tree : TreeArrays
         way_v = number-ker rows groups fits v v h h refl;
         way_w = number-ker rows groups fits w w k k refl;
       }
-  share-ways (suc j) v w h k s =
+  share_ways (suc j) v w h k s =
       let x = s.0 in
       let y = s.1 in
-      let rest = share-ways j x y s.4 s.5 s.9 in
+      let rest = share_ways j x y s.4 s.5 s.9 in
       record {
         by = get_or names x 0 ∷ rest.by;
         size = ap suc rest.size;
@@ -141,13 +141,13 @@ module _ (rows : List Word) (parents names groups : List ℕ) (tree : TreeArrays
         way_w = way-more w y (get_or names x 0) rest.by rest.to_w k s.3 s.5 (sym s.6) s.8 rest.way_w;
       }
 
-  pub ways-share :
+  pub ways_share :
       (q : Word) (v w : ℕ) (x y t z : Word) → v < length (tree_of rows) → w < length (tree_of rows) →
       word_at rows v ≡ x → word_at rows w ≡ y →
       Ways (tree_of rows) (Ker (tree_of rows) groups) x q t → Ways (tree_of rows) (Ker (tree_of rows) groups) y q z →
       Share (length (tree_of rows)) parents names groups (length q) v w
-  ways-share [] v w x y t z h k e f s r = tt
-  ways-share (a ∷ q) v w x y t z h k e f s r =
+  ways_share [] v w x y t z h k e f s r = tt
+  ways_share (a ∷ q) v w x y t z h k e f s r =
       let i = arc-number rows parents names tree s.0 a s.3 in
       let j = arc-number rows parents names tree r.0 a r.3 in (
         i.number,
@@ -157,8 +157,8 @@ module _ (rows : List Word) (parents names groups : List ℕ) (tree : TreeArrays
         i.low,
         j.low,
         i.by_name ∙ sym j.by_name,
-        sym (ker-numbers rows groups fits v (get_or parents i.number 0) x s.0 h i.parent_low e i.from_word s.2),
-        sym (ker-numbers rows groups fits w (get_or parents j.number 0) y r.0 k j.parent_low f j.from_word r.2),
-        ways-share q i.number j.number (s.0 ▸ a) (r.0 ▸ a) t z i.low j.low i.is_word j.is_word
+        sym (ker_numbers rows groups fits v (get_or parents i.number 0) x s.0 h i.parent_low e i.from_word s.2),
+        sym (ker_numbers rows groups fits w (get_or parents j.number 0) y r.0 k j.parent_low f j.from_word r.2),
+        ways_share q i.number j.number (s.0 ▸ a) (r.0 ▸ a) t z i.low j.low i.is_word j.is_word
             s.4 r.4,
       )

@@ -76,8 +76,8 @@ module _ (n : ℕ) (test : ℕ → ℕ → Bool) (R : ℕ → ℕ → Type 0) (e
       listed_at (λ (u : ℕ). first (test u) n 0) n 0 v h ∙ ap (λ (u : ℕ). first (test u) n 0) sum_is
 
   -- a state's label is a state that comes no later and is equivalent to it
-  label-found : (v : ℕ) → v < n → (get_or (labels test n) v 0 ≤ v) × R v (get_or (labels test n) v 0)
-  label-found v h =
+  label_found : (v : ℕ) → v < n → (get_or (labels test n) v 0 ≤ v) × R v (get_or (labels test n) v 0)
+  label_found v h =
       let itself : test v v ≡ true = (equivalence.told v v).test (equivalence.reflexive v) in
       let found = first_found (test v) n 0 v (omega arith) (omega arith) itself in
       rw (label_at v h) (found.0, (equivalence.told v (first (test v) n 0)).fact found.1)
@@ -87,13 +87,13 @@ module _ (n : ℕ) (test : ℕ → ℕ → Bool) (R : ℕ → ℕ → Type 0) (e
   both false true f g = g refl
   both false false f g = refl
 
-  pub labels-alike : (v w : ℕ) → v < n → w < n → (get_or (labels test n) v 0 ≡ get_or (labels test n) w 0) ↔ R v w
-  labels-alike v w hv hw = (there, back)
+  pub labels_alike : (v w : ℕ) → v < n → w < n → (get_or (labels test n) v 0 ≡ get_or (labels test n) w 0) ↔ R v w
+  labels_alike v w hv hw = (there, back)
     where
       there : get_or (labels test n) v 0 ≡ get_or (labels test n) w 0 → R v w
       there e =
-          let at-v : R v (get_or (labels test n) v 0) = (label-found v hv).1 in
-          let at-w : R w (get_or (labels test n) v 0) = rw e (label-found w hw).1 in
+          let at-v : R v (get_or (labels test n) v 0) = (label_found v hv).1 in
+          let at-w : R w (get_or (labels test n) v 0) = rw e (label_found w hw).1 in
           equivalence.transitive v (get_or (labels test n) v 0) w at-v
           (equivalence.symmetric w (get_or (labels test n) v 0) at-w)
 

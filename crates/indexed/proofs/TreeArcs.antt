@@ -89,8 +89,8 @@ module _ (rows : List Word) (parents names groups : List ℕ) (joined : Joined r
       (sym (group_at-number rows groups v fits low) ∙ ap (group_at (tree_of rows) groups) (joined.tree.word v pos low)))
       (in_transitions (tree_of rows) groups (word_at rows p) a (arc-into rows parents names joined.tree v pos low))
 
-  pub one-target : Deterministic (transitions_of (tree_of rows) groups)
-  one-target x a y z m k =
+  pub one_target : Deterministic (transitions_of (tree_of rows) groups)
+  one_target x a y z m k =
       let r = transition-number x a y m in
       let s = transition-number x a z k in
       sym r.to_is

@@ -143,18 +143,18 @@ module _ (s : List ℕ) (p : Place) (at : BookAt s p) where
   rows-within = let sound = at.read.kept.sound in omega (arith, sound.items_end, sound.within)
 
   -- it is sound
-  book-ok : BookOk (file_of s p)
-  book-ok =
+  book_ok : BookOk (file_of s p)
+  book_ok =
       subst BookOk (accepted_file-is at.settings book s p at.read)
       (read_book_lem at.settings at.allowed s (accepted_number at.settings book s p at.read)).1
 
   -- its rows are short and few
   pub rows_short : RowsShort (rows_at s p)
   rows_short =
-      record { short = λ row m. ((tells_row_ok (length (file_of s p).names) row).fact (book-ok.rows_ok row m)).0 }
+      record { short = λ row m. ((tells_row_ok (length (file_of s p).names) row).fact (book_ok.rows_ok row m)).0 }
 
-  pub items-few : p.items ≤ book_rows
-  items-few = omega (arith, length_fields s p.start p.items, book-ok.few_rows)
+  pub items_few : p.items ≤ book_rows
+  items_few = omega (arith, length_fields s p.start p.items, book_ok.few_rows)
 
 -- what holds at its end, its bytes being bytes
 module _ (s : List ℕ) (p : Place) (at : BookAt s p) (bytes : (i : ℕ) → i < length s → get_or s i 0 < 256) where
@@ -177,8 +177,8 @@ module _ (s : List ℕ) (p : Place) (at : BookAt s p) (bytes : (i : ℕ) → i <
       sym (take_at (name_fields (file_of s p).names) keeps.later (names_end p) size)
       ∙ ap (take (names_end p)) keeps.front
 
-  pub class-allowed : settings_ok p.kind p.first p.second ≡ true
-  class-allowed = keeps.class_ok_fact
+  pub class_allowed : settings_ok p.kind p.first p.second ≡ true
+  class_allowed = keeps.class_ok_fact
 
   -- entries of its rows are below the limit for names
   pub rows-entries : RowsBelow (rows_at s p)

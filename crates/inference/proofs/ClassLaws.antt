@@ -71,10 +71,10 @@ module _ (kind first second n : ℕ) (rows : List Word) (parents names ends grou
             settings.some settings.within at;
       }
 
-  by-f :
+  by_f_lem :
       (kind ≡ 0 → ⊥) → (classes : List ℕ) → ClassesOfF (class_of kind first second) rows classes →
       FJoined (length (tree_of rows)) parents names ends classes groups → JoinedBy (class_of kind first second) rows parents names groups
-  by-f e classes told at =
+  by_f_lem e classes told at =
       record {
         labels = at.labelled;
         forks = at.fork_closed;
@@ -89,7 +89,7 @@ module _ (kind first second n : ℕ) (rows : List Word) (parents names ends grou
   by_seen not-context is joined =
       let at : JoinedBySeen (length (tree_of rows)) parents names ends groups =
       subst (λ (m : ℕ). JoinedBySeen m parents names ends groups) all-states joined in
-      by-f not-context at.seen
+      by_f_lem not-context at.seen
       (seen_classes (class_of kind first second) rows parents names at.seen tree.tree is at.sets)
       at.joined
 
@@ -99,14 +99,14 @@ module _ (kind first second n : ℕ) (rows : List Word) (parents names ends grou
   by_last not-context is joined =
       let at : JoinedByLast (length (tree_of rows)) first parents names ends groups =
       subst (λ (m : ℕ). JoinedByLast m first parents names ends groups) all-states joined in
-      by-f not-context at.codes
+      by_f_lem not-context at.codes
       (last_classes (class_of kind first second) rows parents names at.codes tree.tree is at.by_codes)
       at.joined
 
-  pub by-function :
+  pub by_function :
       (kind ≡ 0 → ⊥) → JoinedByF (eqb kind 1) n first parents names ends groups →
       JoinedBy (class_of kind first second) rows parents names groups
-  by-function not-context joined = go (eqb kind 1) refl
+  by_function not-context joined = go (eqb kind 1) refl
     where
       go : (seen : Bool) → eqb kind 1 ≡ seen → JoinedBy (class_of kind first second) rows parents names groups
       go true e = by_seen not-context e (joined.by_seen e)

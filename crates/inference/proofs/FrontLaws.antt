@@ -21,12 +21,12 @@ module _ (s : List ℕ) (p : Place) (at : BookAt s p) (bytes : (i : ℕ) → i <
   abbrev states : List ℕ
   states = state_fields (book_states (file_of s p))
 
-  pub table-parts : book_table (file_of s p) ≡ front ++ states
+  pub table_parts : book_table (file_of s p) ≡ front ++ states
   unfolding book_table bytes_of_table
-  table-parts =
+  table_parts =
       ap (λ (z : List ℕ). z ++ (class_field (class_at p) ++ states)) (names-front s p at bytes)
       ∙ sym (append_assoc (take (names_end p) s) (class_field (class_at p)) states)
 
-  pub table-length : length (book_table (file_of s p)) ≡ (names_end p + class_bytes) + length states
-  table-length =
-      omega (arith, ap length table-parts, length-append front states, front_length s (names_end p) (class_at p) (names-fit s p at))
+  pub table_length : length (book_table (file_of s p)) ≡ (names_end p + class_bytes) + length states
+  table_length =
+      omega (arith, ap length table_parts, length-append front states, front_length s (names_end p) (class_at p) (names-fit s p at))

@@ -17,13 +17,13 @@ use Rattle.inference.specs.declared.Table.{Table}
 use Rattle.inference.specs.declared.Table.TheVariants as table
 
 module _ (wanted : Bool) (f : File) (outs : List (List ℕ)) where
-  pub gives-too-large : tree_too_large ≡ tree_fault f.items → Infers wanted f outs outs (refused_with tree_too_large)
+  pub gives_too_large : tree_too_large ≡ tree_fault f.items → Infers wanted f outs outs (refused_with tree_too_large)
   unfolding inferring
-  gives-too-large e = call-refused (inferring wanted f) outs (record { is = sym e; some = omega arith })
+  gives_too_large e = call-refused (inferring wanted f) outs (record { is = sym e; some = omega arith })
 
-  not-too-large : length (tree_of f.items) ≤ state_limit → (inferring wanted f).refusal ≡ 0
+  not_too_large : length (tree_of f.items) ≤ state_limit → (inferring wanted f).refusal ≡ 0
   unfolding inferring
-  not-too-large few = ap (λ (b : Bool). when b tree_too_large) (le-ltb state_limit (length (tree_of f.items)) few)
+  not_too_large few = ap (λ (b : Bool). when b tree_too_large) (le-ltb state_limit (length (tree_of f.items)) few)
 
   module _ (outs' : List (List ℕ)) where
     -- the states that an answer tells are at most those of the tree
@@ -40,7 +40,7 @@ module _ (wanted : Bool) (f : File) (outs : List (List ℕ)) where
         Infers wanted f outs outs' (result_of answer tree distinct)
     unfolding inferring joins_of
     gives-result (table.Written bytes states size) tree distinct few all different h =
-        let accepted = call-accepted (inferring wanted f) outs (not-too-large few) h.room in
+        let accepted = call-accepted (inferring wanted f) outs (not_too_large few) h.room in
         record { answer_is = answer ∙ accepted.answer_is; outputs_are = h.outs_are ∙ accepted.outputs_are }
       where
         joined : tree - states ≡ joins_of f
@@ -58,4 +58,4 @@ module _ (wanted : Bool) (f : File) (outs : List (List ℕ)) where
             }
     gives-result table.TooLong tree distinct few all different h =
         subst (λ (after : List (List ℕ)). Infers wanted f outs after (refused_with output_too_short)) (sym h.outs_kept)
-        (call-short (inferring wanted f) outs (not-too-large few) h.short)
+        (call-short (inferring wanted f) outs (not_too_large few) h.short)

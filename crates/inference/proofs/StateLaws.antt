@@ -39,60 +39,60 @@ module _ (rows : List Word) (groups : List ℕ) (wanted : Bool) (states arcs siz
   abbrev fields : List ℕ
   fields = state_fields (made_of rows groups)
 
-  abbrev wantedCounts : List ℕ
-  wantedCounts = counts_if wanted (made_of rows groups) rows
+  abbrev wanted_counts : List ℕ
+  wanted_counts = counts_if wanted (made_of rows groups) rows
 
   -- how many bytes they take
-  pub fields-size : 4 * states + 3 * arcs ≡ length fields
-  fields-size = omega (arith, number, many, state-fields_length (made_of rows groups))
+  pub fields_size : 4 * states + 3 * arcs ≡ length fields
+  fields_size = omega (arith, number, many, state-fields_length (made_of rows groups))
 
-  counts-size : size ≡ length wantedCounts
-  counts-size = told ∙ go wanted
+  counts_size : size ≡ length wanted_counts
+  counts_size = told ∙ go wanted
     where
       go : (b : Bool) → cond b (5 * states + 2 * arcs) 0 ≡ length (counts_if b (made_of rows groups) rows)
       go true = omega (arith, number, many, counts_file-length (made_of rows groups) rows)
       go false = refl
 
   -- the test that comes first
-  short-told :
+  short_told :
       (ltb (length out) (4 * states + 3 * arcs) || ltb (length counts) size)
-      ≡ too_short (fields ∷ (wantedCounts ∷ [])) (out ∷ (counts ∷ []))
+      ≡ too_short (fields ∷ (wanted_counts ∷ [])) (out ∷ (counts ∷ []))
   unfolding too_short
-  short-told =
-      ap₂ (λ (m n : ℕ). ltb (length out) m || ltb (length counts) n) fields-size counts-size
-      ∙ ap (λ (b : Bool). ltb (length out) (length fields) || b) (sym (or_false (ltb (length counts) (length wantedCounts))))
+  short_told =
+      ap₂ (λ (m n : ℕ). ltb (length out) m || ltb (length counts) n) fields_size counts_size
+      ∙ ap (λ (b : Bool). ltb (length out) (length fields) || b) (sym (or_false (ltb (length counts) (length wanted_counts))))
 
-  pub states-too-long :
+  pub states-too_long :
       (ltb (length out) (4 * states + 3 * arcs) || ltb (length counts) size) ≡ true →
-      TableTooLong fields wantedCounts (out ∷ (counts ∷ [])) (out ∷ (counts ∷ []))
-  states-too-long short = record { short = sym short-told ∙ short; outs_kept = refl }
+      TableTooLong fields wanted_counts (out ∷ (counts ∷ [])) (out ∷ (counts ∷ []))
+  states-too_long short = record { short = sym short_told ∙ short; outs_kept = refl }
 
   module _ (fit : (ltb (length out) (4 * states + 3 * arcs) || ltb (length counts) size) ≡ false) where
     pub states-fit : Fits out 0 fields
     states-fit =
         let both = false_or (ltb (length out) (4 * states + 3 * arcs)) (ltb (length counts) size) fit in
-        omega (arith, ltb-false (length out) (4 * states + 3 * arcs) both.0, fields-size)
+        omega (arith, ltb-false (length out) (4 * states + 3 * arcs) both.0, fields_size)
 
     pub counts-fit : wanted ≡ true → Fits counts 0 (counts_file (made_of rows groups) rows)
     counts-fit e =
         let both = false_or (ltb (length out) (4 * states + 3 * arcs)) (ltb (length counts) size) fit in
-        let same : length wantedCounts ≡ length (counts_file (made_of rows groups) rows) =
+        let same : length wanted_counts ≡ length (counts_file (made_of rows groups) rows) =
         ap (λ (b : Bool). length (counts_if b (made_of rows groups) rows)) e in
-        omega (arith, ltb-false (length counts) size both.1, counts-size)
+        omega (arith, ltb-false (length counts) size both.1, counts_size)
 
     -- both written: the counts are those that are wanted
     pub states-written :
-        (out' counts' : List ℕ) (end : ℕ) → Put out out' 0 fields end → counts' ≡ over wantedCounts counts →
-        TableWritten fields wantedCounts (length (made_of rows groups)) (out ∷ (counts ∷ [])) (out' ∷ (counts' ∷ []))
+        (out' counts' : List ℕ) (end : ℕ) → Put out out' 0 fields end → counts' ≡ over wanted_counts counts →
+        TableWritten fields wanted_counts (length (made_of rows groups)) (out ∷ (counts ∷ [])) (out' ∷ (counts' ∷ []))
         end states size
     unfolding fronts
     states-written out' counts' end put front =
         record {
-          room = sym short-told ∙ fit;
+          room = sym short_told ∙ fit;
           outs_are = ap₂ (λ (a b : List ℕ). a ∷ (b ∷ [])) (written-from_zero put.written) front;
           bytes_are = put.ends ∙ zero-add _;
           states_are = number;
-          size_is = counts-size;
+          size_is = counts_size;
         }
 
 -- ---- what the parts of the writing are handed

@@ -28,7 +28,7 @@ use Rattle.writing.specs.Writing.{Put, front_of}
 use Rattle.writing.proofs.WritingLaws.{put_before, written-from_zero}
 use Rattle.inference.specs.Books.{BookAt, rows_at, class_at, names_end, made_of, TreeIn, JoinedBy}
 use Rattle.inference.specs.Results.{TableWritten, TableTooLong}
-use Rattle.inference.proofs.FrontLaws.{table-parts, table-length}
+use Rattle.inference.proofs.FrontLaws.{table_parts, table_length}
 
 -- a front of a list that was written, and read again
 pub prefix_fits : (n : ℕ) (front rest : List ℕ) → length front ≡ n → n ≤ length (front ++ rest)
@@ -120,18 +120,18 @@ module _ (s : List ℕ) (p : Place) (at : BookAt s p) (bytes : (i : ℕ) → i <
   front = names_end p + class_bytes
 
   -- the book's counts where they are wanted
-  abbrev wantedCounts : List ℕ
-  wantedCounts = counts_if wanted (book_states (file_of s p)) (rows_at s p)
+  abbrev wanted_counts : List ℕ
+  wanted_counts = counts_if wanted (book_states (file_of s p)) (rows_at s p)
 
   -- there is no room for the front
-  pub front-too-long :
-      length out < front → TableTooLong (book_table (file_of s p)) wantedCounts (out ∷ (counts ∷ [])) (out ∷ (counts ∷ []))
+  pub front-too_long :
+      length out < front → TableTooLong (book_table (file_of s p)) wanted_counts (out ∷ (counts ∷ [])) (out ∷ (counts ∷ []))
   unfolding too_short
-  front-too-long short =
+  front-too_long short =
       record {
         short =
-            ap (λ (b : Bool). b || too_short (wantedCounts ∷ []) (counts ∷ []))
-            (lt-ltb (length out) (length (book_table (file_of s p))) (omega (arith, table-length s p at bytes)));
+            ap (λ (b : Bool). b || too_short (wanted_counts ∷ []) (counts ∷ []))
+            (lt-ltb (length out) (length (book_table (file_of s p))) (omega (arith, table_length s p at bytes)));
         outs_kept = refl;
       }
 
@@ -149,7 +149,7 @@ module _ (s : List ℕ) (p : Place) (at : BookAt s p) (bytes : (i : ℕ) → i <
     abbrev these : List ℕ
     these = counts_if wanted made (rows_at s p)
 
-    counts_same : these ≡ wantedCounts
+    counts_same : these ≡ wanted_counts
     counts_same = ap (λ (states : List State). counts_if wanted states (rows_at s p)) states_same
 
     -- the table's length
@@ -157,14 +157,14 @@ module _ (s : List ℕ) (p : Place) (at : BookAt s p) (bytes : (i : ℕ) → i <
     total =
         omega (
           arith,
-          table-length s p at bytes,
+          table_length s p at bytes,
           ap (λ (states : List State). length (state_fields states)) states_same,
         )
 
     -- what follows the front takes the states' fields exactly if the output takes the table
     short-same :
         too_short (state_fields made ∷ (these ∷ [])) (lent front out ∷ (counts ∷ []))
-        ≡ too_short (book_table (file_of s p) ∷ (wantedCounts ∷ [])) (out ∷ (counts ∷ []))
+        ≡ too_short (book_table (file_of s p) ∷ (wanted_counts ∷ [])) (out ∷ (counts ∷ []))
     unfolding too_short
     short-same =
         let room : length (lent front out) ≡ length out - front =
@@ -178,7 +178,7 @@ module _ (s : List ℕ) (p : Place) (at : BookAt s p) (bytes : (i : ℕ) → i <
     pub table-too-long :
         (tail counts' : List ℕ) →
         TableTooLong (state_fields made) these (lent front out ∷ (counts ∷ [])) (tail ∷ (counts' ∷ [])) →
-        TableTooLong (book_table (file_of s p)) wantedCounts (out ∷ (counts ∷ [])) (back front out tail ∷ (counts' ∷ []))
+        TableTooLong (book_table (file_of s p)) wanted_counts (out ∷ (counts ∷ [])) (back front out tail ∷ (counts' ∷ []))
     table-too-long tail counts' long =
         record {
           short = sym short-same ∙ long.short;
@@ -193,7 +193,7 @@ module _ (s : List ℕ) (p : Place) (at : BookAt s p) (bytes : (i : ℕ) → i <
         size states more →
         length (front_of s (names_end p) (class_at p)) ≡ front →
         Put (back front out tail) out' 0 (front_of s (names_end p) (class_at p)) next →
-        TableWritten (book_table (file_of s p)) wantedCounts (length (book_states (file_of s p))) (out ∷ (counts ∷ []))
+        TableWritten (book_table (file_of s p)) wanted_counts (length (book_states (file_of s p))) (out ∷ (counts ∷ []))
         (out' ∷ (counts' ∷ [])) (front + size) states more
     unfolding fronts
     table-written tail counts' out' size states more next w front-size put =
@@ -201,14 +201,14 @@ module _ (s : List ℕ) (p : Place) (at : BookAt s p) (bytes : (i : ℕ) → i <
         let seam : front ≡ 0 + length (front_of s (names_end p) (class_at p)) = omega (arith, front-size) in
         let whole = put_before (back-put front out (state_fields made) tail tail-is) put seam fits in
         let all : front_of s (names_end p) (class_at p) ++ state_fields made ≡ book_table (file_of s p) =
-        ap (λ (z : List State). front_of s (names_end p) (class_at p) ++ state_fields z) states_same ∙ sym (table-parts s p at bytes) in
+        ap (λ (z : List State). front_of s (names_end p) (class_at p) ++ state_fields z) states_same ∙ sym (table_parts s p at bytes) in
         let out-is : out' ≡ over (book_table (file_of s p)) out =
         subst (λ (z : List ℕ). out' ≡ over z out) all (written-from_zero whole.written) in
-        let counts-are : counts' ≡ over wantedCounts counts =
+        let counts_are : counts' ≡ over wanted_counts counts =
         ap (λ (l : List (List ℕ)). get_or l 1 []) w.outs_are ∙ ap (λ (l : List ℕ). over l counts) counts_same in
         record {
           room = sym short-same ∙ w.room;
-          outs_are = ap₂ (λ (a b : List ℕ). a ∷ (b ∷ [])) out-is counts-are;
+          outs_are = ap₂ (λ (a b : List ℕ). a ∷ (b ∷ [])) out-is counts_are;
           bytes_are = omega (arith, w.bytes_are, total);
           states_are = w.states_are ∙ ap length states_same;
           size_is = w.size_is ∙ ap length counts_same;

@@ -10,14 +10,14 @@ use Rattle.model.specs.Fields.{File, item_fault}
 use Rattle.judging.specs.Judged.{ItemJudged}
 
 module _ (limit : ℕ) (ok : ℕ → List ℕ → Bool) (bad names count : ℕ) (item : List ℕ) where
-  pub item-too-many : limit ≤ count → ItemJudged (item_fault limit ok bad) names count item too_many
-  item-too-many h =
+  pub item_too_many : limit ≤ count → ItemJudged (item_fault limit ok bad) names count item too_many
+  item_too_many h =
       record { is = λ (f : File) (e : length f.names ≡ names) (g : length f.items ≡ count). rw (g, le-leb limit count h) }
 
-  pub item-bad : count < limit → ok names item ≡ false → ItemJudged (item_fault limit ok bad) names count item bad
-  item-bad h b =
+  pub item_bad : count < limit → ok names item ≡ false → ItemJudged (item_fault limit ok bad) names count item bad
+  item_bad h b =
       record { is = λ (f : File) (e : length f.names ≡ names) (g : length f.items ≡ count). rw (g, e, lt-leb limit count h, b) }
 
-  pub item-good : count < limit → ok names item ≡ true → ItemJudged (item_fault limit ok bad) names count item 0
-  item-good h b =
+  pub item_good : count < limit → ok names item ≡ true → ItemJudged (item_fault limit ok bad) names count item 0
+  item_good h b =
       record { is = λ (f : File) (e : length f.names ≡ names) (g : length f.items ≡ count). rw (g, e, lt-leb limit count h, b) }

@@ -44,8 +44,8 @@ module _
   level-here : get_or (set levels q level) q 0 ≡ level
   level-here = get_or-set_same levels q level 0 (omega (arith, may.queued.levels_size))
 
-  level-kept : (p : ℕ) → 0 < get_or levels p 0 → get_or (set levels q level) p 0 ≡ get_or levels p 0
-  level-kept p some =
+  level_kept : (p : ℕ) → 0 < get_or levels p 0 → get_or (set levels q level) p 0 ≡ get_or levels p 0
+  level_kept p some =
       get_or-set_other levels q p level 0 (λ (e : p ≡ q). omega (arith, ap (λ (k : ℕ). get_or levels k 0) e, none, some))
 
   -- it stands in the last place, and the others in theirs
@@ -63,29 +63,29 @@ module _
       ∙ ap (λ (p : ℕ). get_or (set levels q level) p 0) place_here
       ∙ level-here
 
-  at-kept :
+  at_kept :
       (i : ℕ) → i < last → get_or (set levels q level) (get_or (set queue last q) i 0) 0 ≡ get_or levels (get_or queue i 0) 0
-  at-kept i low =
+  at_kept i low =
       ap (λ (p : ℕ). get_or (set levels q level) p 0) (place_kept i low)
-      ∙ level-kept (get_or queue i 0) (may.queued.has_level i low)
+      ∙ level_kept (get_or queue i 0) (may.queued.has_level i low)
 
   -- a place is the last one, or was there
   place-cases : (i : ℕ) → i < last + 1 → (i < last) ⊎ (i ≡ last)
   place-cases i low = ⊎_elim (λ past. inr (omega (arith, low, past))) (λ before. inl before) (le_or_lt last i)
 
   -- a state with a level is the new one, or had it
-  level-cases :
+  level_cases :
       (p : ℕ) → 0 < get_or (set levels q level) p 0 →
       (p ≡ q) ⊎ ((0 < get_or levels p 0) × (get_or (set levels q level) p 0 ≡ get_or levels p 0))
-  level-cases p some =
+  level_cases p some =
       ⊎_elim (λ e. inl e)
       (λ (apart : p ≡ q → ⊥).
       let same = get_or-set_other levels q p level 0 apart in
       inr (omega (arith, same, some), same))
       (eq_dec p q)
 
-  queue-entered : Queue (set levels q level) (set queue last q) (last + 1)
-  queue-entered =
+  queue_entered : Queue (set levels q level) (set queue last q) (last + 1)
+  queue_entered =
       record {
         levels_size = length-set levels q level ∙ may.queued.levels_size;
         queue_size = length-set queue last q ∙ may.queued.queue_size;
@@ -96,20 +96,20 @@ module _
               without_set levels q level (omega (arith, may.queued.levels_size)) none may.some_level,
             );
         has_level = λ i low.
-            ⊎_elim (λ before. omega (arith, at-kept i before, may.queued.has_level i before))
+            ⊎_elim (λ before. omega (arith, at_kept i before, may.queued.has_level i before))
             (λ e. omega (arith, at_last i e, may.some_level)) (place-cases i low);
         stands = λ p some.
             ⊎_elim (λ e. (last, omega arith, place_here ∙ sym e))
             (λ had.
             let r = may.queued.stands p had.0 in
             (r.0, omega (arith, r.1), place_kept r.0 r.1 ∙ r.2))
-            (level-cases p some);
+            (level_cases p some);
         ordered = λ i low.
-            let kept = at-kept i (omega (arith, low)) in
-            ⊎_elim (λ before. omega (arith, kept, at-kept (suc i) before, may.queued.ordered i before))
+            let kept = at_kept i (omega (arith, low)) in
+            ⊎_elim (λ before. omega (arith, kept, at_kept (suc i) before, may.queued.ordered i before))
             (λ e. omega (arith, kept, at_last (suc i) e, may.highest (get_or queue i 0))) (place-cases (suc i) low);
         near = λ i low.
-            ⊎_elim (λ before. omega (arith, at-kept i before, may.queued.near i before))
+            ⊎_elim (λ before. omega (arith, at_kept i before, may.queued.near i before))
             (λ e. omega (arith, at_last i e, may.next_level, e)) (place-cases i low);
       }
 
@@ -119,7 +119,7 @@ module _
       record {
         after =
             record {
-              queued = queue-entered;
+              queued = queue_entered;
               some_level = may.some_level;
               next_level = omega (arith, may.next_level);
               highest = λ p.
@@ -128,9 +128,9 @@ module _
             };
         more = omega arith;
         same_place = place_kept;
-        same_level = level-kept;
+        same_level = level_kept;
         all = λ p e. omega (arith, ap (λ (k : ℕ). get_or (set levels q level) k 0) e, level-here, may.some_level);
         only = λ p some.
             ⊎_elim (λ e. inr (ap (λ (k : ℕ). get_or (set levels q level) k 0) e ∙ level-here, e)) (λ had. inl had.1)
-            (level-cases p some);
+            (level_cases p some);
       }

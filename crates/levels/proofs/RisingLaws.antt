@@ -9,15 +9,15 @@ use borrow.Author.Tests.{lt-ltb, le-ltb, eq-eqb, ne_eqb}
 use lib.Dec.{ltb}
 use lib.ListN.{length, get_or}
 use Rattle.base.specs.Lists.{any}
-use Rattle.base.proofs.Tests.{Tells, tells_or, tells-any, tells_ltb, tells_itself}
+use Rattle.base.proofs.Tests.{Tells, tells_or, tells_any, tells_ltb, tells_itself}
 use Rattle.model.specs.Tables.{Arc, State, empty_state, state_in}
 use Rattle.model.specs.Calls.{table_states}
 use Rattle.tables.specs.Arcs.{StateOk, target_at}
 use Rattle.tables.specs.Accepting.{Ready}
 use Rattle.tables.proofs.ArcLaws.{arcs_from, arcs_turn, arcs_end, arcs_all, state-accepts}
-use Rattle.tables.proofs.ReadyLaws.{ready-ascends, targets-inside}
+use Rattle.tables.proofs.ReadyLaws.{ready_ascends, targets_inside}
 use Rattle.endings.specs.Live.{ArcsAscend, is_live}
-use Rattle.endings.proofs.Levels.{tells-live}
+use Rattle.endings.proofs.Levels.{tells_live}
 use Rattle.endings.proofs.Rising.{all_live}
 use Rattle.levels.specs.Found.{rises}
 
@@ -47,9 +47,9 @@ module _ (s : List ℕ) (q : ℕ) (ok : StateOk s) where
   rises-accepting e = rw (sym (state-accepts s ok), eq-eqb (get_or s 0 0) 1 e)
 
   -- of one that does not, its arcs decide
-  pub rises-by-arcs : (get_or s 0 0 ≡ 1 → ⊥) → any (up q) (arcs_from s 1) ≡ rises q (state_in s)
+  pub rises-by_arcs : (get_or s 0 0 ≡ 1 → ⊥) → any (up q) (arcs_from s 1) ≡ rises q (state_in s)
   unfolding rises
-  rises-by-arcs n = rw (sym (state-accepts s ok), ne_eqb (get_or s 0 0) 1 n, arcs_all s)
+  rises-by_arcs n = rw (sym (state-accepts s ok), ne_eqb (get_or s 0 0) 1 n, arcs_all s)
 
 -- where every state of an accepted table rises, every state leads to an end
 pub all-rising :
@@ -58,20 +58,20 @@ pub all-rising :
     (q : ℕ) → q < length (table_states s) → is_live (table_states s) q ≡ true
 unfolding rises
 all-rising s work ready rise q h =
-    (tells-live states ascend q).test (all_live states ascend (λ p low. go p low ((told p).fact (rise p low))) q h)
+    (tells_live states ascend q).test (all_live states ascend (λ p low. go p low ((told p).fact (rise p low))) q h)
   where
     states : List State
     states = table_states s
 
     ascend : ArcsAscend states
-    ascend = ready-ascends s work ready
+    ascend = ready_ascends s work ready
 
     told :
         (p : ℕ) → Tells ((get_or states p empty_state).accepts || any (up p) (get_or states p empty_state).arcs)
         (((get_or states p empty_state).accepts ≡ true) ⊎ ((a : Arc) × In a (get_or states p empty_state).arcs × (p < a.to)))
     told p =
         tells_or (tells_itself (get_or states p empty_state).accepts)
-        (tells-any (λ (a : Arc). tells_ltb p a.to) (get_or states p empty_state).arcs)
+        (tells_any (λ (a : Arc). tells_ltb p a.to) (get_or states p empty_state).arcs)
 
     go :
         (p : ℕ) → p < length states →
@@ -80,4 +80,4 @@ all-rising s work ready rise q h =
         ⊎ ((a : Arc) × In a (get_or states p empty_state).arcs × (p < a.to) × (a.to < length states))
     go p low (inl accepts) = inl accepts
     go p low (inr found) =
-        inr (found.0, found.1, found.2, (targets-inside s work ready p low).below found.0 found.1)
+        inr (found.0, found.1, found.2, (targets_inside s work ready p low).below found.0 found.1)

@@ -67,8 +67,8 @@ module _
   has_level : 0 < get_or levels t 0
   has_level = subst (λ (k : ℕ). 0 < get_or levels k 0) (sym here) (so_far.queued.has_level first some)
 
-  pub low-level : get_or levels t 0 ≤ suc first
-  low-level = subst (λ (k : ℕ). get_or levels k 0 ≤ suc first) (sym here) (so_far.queued.near first some)
+  pub low_level : get_or levels t 0 ≤ suc first
+  low_level = subst (λ (k : ℕ). get_or levels k 0 ≤ suc first) (sym here) (so_far.queued.near first some)
 
   -- a word of so many names is admitted from it
   way_on : (k : ℕ) → get_or levels t 0 ≡ k → (w : Word) × (suc (length w) ≡ k) × AdmittedFrom states t w
@@ -80,20 +80,20 @@ module _
   state-here = let r = way_on (get_or levels t 0) refl in admitted-in states t r.0 r.2
 
   -- states of the next level may enter
-  pub may-reach : (level : ℕ) → level ≡ suc (get_or levels t 0) → MayEnter level levels queue last
-  may-reach level e =
+  pub may_reach : (level : ℕ) → level ≡ suc (get_or levels t 0) → MayEnter level levels queue last
+  may_reach level e =
       record {
         queued = so_far.queued;
         some_level = omega (arith, e);
-        next_level = omega (arith, e, low-level, some);
+        next_level = omega (arith, e, low_level, some);
         highest = λ q. omega (arith, e, so_far.highest some q, ap (λ (k : ℕ). get_or levels k 0) here);
       }
 
   -- a source of an arc to it has a word of one name more
-  way-to :
+  way_to :
       (q d : ℕ) → ArcsAscend states → Leads states q t → d ≡ get_or levels t 0 →
       (w : Word) × (length w ≡ d) × AdmittedFrom states q w
-  way-to q d up leads e =
+  way_to q d up leads e =
       let r = way_on (get_or levels t 0) refl in
       let a : Arc = leads.0 in
       let target : target_in a.name (get_or states q empty_state).arcs ≡ suc t =
@@ -104,7 +104,7 @@ module _
   module _
       {work ends : List ℕ} (sorted : SortedArcs states work ends) (up : ArcsAscend states)
       {from to level : ℕ} (from_is : from ≡ get_or ends t 0) (to_is : to ≡ get_or ends (suc t) 0)
-      (level-is : level ≡ suc (get_or levels t 0))
+      (level_is : level ≡ suc (get_or levels t 0))
       {levels' queue' : List ℕ} {last' : ℕ}
       (grew : Longer (SourceIn work from to) level levels queue last levels' queue' last') where
     -- by a place of before the level is as before
@@ -126,7 +126,7 @@ module _
     way-new q d e (inr new) =
         let at = new.1 in
         let leads = (sorted.here t at.0 state-here (omega (arith, from_is, at.1)) (omega (arith, to_is, at.2))).1 in
-        way-to q d up (subst (λ (k : ℕ). Leads states k t) at.3 leads) (omega (arith, e, new.0, level-is))
+        way_to q d up (subst (λ (k : ℕ). Leads states k t) at.3 leads) (omega (arith, e, new.0, level_is))
 
     -- the sources of the arcs to this state are done
     done-here :
@@ -134,7 +134,7 @@ module _
     done-here q inside leads =
         let at = sorted.there q t inside state-here leads in (
           grew.all q (at.0, omega (arith, from_is, at.1), omega (arith, to_is, at.2), at.3),
-          omega (arith, grew.after.highest q, level-is),
+          omega (arith, grew.after.highest q, level_is),
         )
 
     -- and so are those of the arcs to the states before it
@@ -158,7 +158,7 @@ module _
           queued = grew.after.queued;
           behind = omega (arith, some, grew.more);
           highest = λ more q.
-              omega (arith, grew.after.highest q, level-is, at_here, grew.after.queued.ordered first more);
+              omega (arith, grew.after.highest q, level_is, at_here, grew.after.queued.ordered first more);
           some_way = λ q d e. way-new q d e (grew.only q (omega (arith, e)));
           at_end_fact = λ q inside yes.
               let one = so_far.at_end_fact q inside yes in

@@ -31,9 +31,9 @@ first_line-length states joins distinct =
     simp length-append (omega (arith, decimal-length states, decimal-length joins, decimal-length distinct))
 
 module _ (names : List (List ℕ)) (short : NamesShort names) where
-  arc-text-length : (a : Arc) → length (arc_text names a) ≤ 39
+  arc-text_length : (a : Arc) → length (arc_text names a) ≤ 39
   unfolding arc_text
-  arc-text-length a =
+  arc-text_length a =
       omega (
         arith,
         length-append (get_or names a.name []) (62 ∷ decimal a.to),
@@ -41,31 +41,31 @@ module _ (names : List (List ℕ)) (short : NamesShort names) where
         decimal-length a.to,
       )
 
-  arc-texts-length : (arcs : List Arc) → length (flat_map (arc_text names) arcs) ≤ 39 * length arcs
+  arc-texts_length : (arcs : List Arc) → length (flat_map (arc_text names) arcs) ≤ 39 * length arcs
   unfolding flat_map
-  arc-texts-length [] = omega arith
-  arc-texts-length (a ∷ arcs) =
+  arc-texts_length [] = omega arith
+  arc-texts_length (a ∷ arcs) =
       omega (
         arith,
         length-append (arc_text names a) (flat_map (arc_text names) arcs),
-        arc-text-length a,
-        arc-texts-length arcs,
+        arc-text_length a,
+        arc-texts_length arcs,
       )
 
-  state-line-length : (i : ℕ) (s : State) → length (state_line names i s) ≤ 8 + 39 * length s.arcs
+  state-line_length : (i : ℕ) (s : State) → length (state_line names i s) ≤ 8 + 39 * length s.arcs
   unfolding state_line
-  state-line-length i s = simp length-append (omega (arith, decimal-length i, arc-texts-length s.arcs))
+  state-line_length i s = simp length-append (omega (arith, decimal-length i, arc-texts_length s.arcs))
 
-  state-lines-length :
+  state-lines_length :
       (i : ℕ) (states : List State) → length (state_lines names i states) ≤ 8 * length states + 39 * arc_count states
   unfolding state_lines arc_count total
-  state-lines-length i [] = omega arith
-  state-lines-length i (s ∷ states) =
+  state-lines_length i [] = omega arith
+  state-lines_length i (s ∷ states) =
       omega (
         arith,
         length-append (state_line names i s) (state_lines names (suc i) states),
-        state-line-length i s,
-        state-lines-length (suc i) states,
+        state-line_length i s,
+        state-lines_length (suc i) states,
       )
 
   pub listing-length :
@@ -77,7 +77,7 @@ module _ (names : List (List ℕ)) (short : NamesShort names) where
         arith,
         length-append (first_line (length states) joins distinct) (state_lines names 0 states),
         first_line-length (length states) joins distinct,
-        state-lines-length 0 states,
+        state-lines_length 0 states,
       )
 
 -- the listing of an accepted book, of states that can be written

@@ -27,21 +27,21 @@ module _ (names : List (List ℕ)) (s : List ℕ) where
       (begins text at whole fits)
 
   -- the next arc comes first of what is left
-  pub arcs-next :
+  pub arcs_next :
       (i to : ℕ) {text₀ : List ℕ} {at : ℕ} {whole text : List ℕ} {next : ℕ} → i < length s → to ≡ target_at s i →
       Writing text₀ at whole text next (flat_map (arc_text names) (arcs_from s i)) →
       Writing text₀ at whole text next (arc_text names (arc (get_or s i 0) to) ++ flat_map (arc_text names) (arcs_from s (i + 3)))
   unfolding flat_map
-  arcs-next i to {text₀} {at} {whole} {text} {next} h e w =
+  arcs_next i to {text₀} {at} {whole} {text} {next} h e w =
       let rest = flat_map (arc_text names) (arcs_from s (i + 3)) in
       subst (Writing text₀ at whole text next)
       (ap (flat_map (arc_text names)) (arcs_turn s i h) ∙ ap (λ (t : ℕ). arc_text names (arc (get_or s i 0) t) ++ rest) (sym e)) w
 
-  pub arcs-finish :
+  pub arcs_finish :
       (i : ℕ) {text₀ : List ℕ} {at : ℕ} {whole text : List ℕ} {next : ℕ} → length s ≤ i →
       Writing text₀ at whole text next (flat_map (arc_text names) (arcs_from s i)) → Put text₀ text at whole next
   unfolding flat_map
-  arcs-finish i {text₀} {at} {whole} {text} {next} h w =
+  arcs_finish i {text₀} {at} {whole} {text} {next} h w =
       finishes (subst (Writing text₀ at whole text next) (ap (flat_map (arc_text names)) (arcs_end s i h)) w)
 
 -- of the states' lines those from state i on are left to write

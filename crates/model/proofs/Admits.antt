@@ -22,7 +22,7 @@ use Rattle.base.proofs.Places.{map-at_index}
 use Rattle.model.proofs.Notions.{Tree, Fits, Walks}
 use Rattle.model.proofs.Transitions.{walks_unique}
 use Rattle.model.proofs.Arcs.{arcs_out_of-in, in_arcs_out_of}
-use Rattle.model.proofs.FirstMet.{met-root, root-met, met-closed}
+use Rattle.model.proofs.FirstMet.{met-root, root_met, met-closed}
 
 -- ---- the target by a name
 
@@ -61,30 +61,30 @@ target met (b ∷ arcs) a = go (eq_dec a b.name) (target met arcs a)
 
 module _ (rows nodes : List Word) (groups : List ℕ) where
   -- the state of a group met stands at its place
-  pub state-of-met :
+  pub state-of_met :
       (g : ℕ) → In g (met_groups nodes groups) →
       get_or (states_of rows nodes groups) (index_in g (met_groups nodes groups)) empty_state
       ≡ state_of rows nodes groups (met_groups nodes groups) g
   unfolding states_of
-  state-of-met g m =
+  state-of_met g m =
       map-at_index (state_of rows nodes groups (met_groups nodes groups)) empty_state (met_groups nodes groups) g m
 
   -- its target by a name is that among the renumbered arcs of the group
-  target-of-met :
+  target_of-met :
       (g a : ℕ) → In g (met_groups nodes groups) →
       target_in a (get_or (states_of rows nodes groups) (index_in g (met_groups nodes groups)) empty_state).arcs
       ≡ target_in a (renumbered (met_groups nodes groups) (arcs_out_of g (transitions_of nodes groups)))
   unfolding state_of
-  target-of-met g a m = ap (λ (s : State). target_in a s.arcs) (state-of-met g m)
+  target_of-met g a m = ap (λ (s : State). target_in a s.arcs) (state-of_met g m)
 
   -- the state of a group met accepts exactly when the group does
-  accepts-of-met :
+  accepts_of_met :
       (g : ℕ) → In g (met_groups nodes groups) →
       Tells (get_or (states_of rows nodes groups) (index_in g (met_groups nodes groups)) empty_state).accepts
       (group_accepts rows nodes groups g ≡ true)
   unfolding state_of
-  accepts-of-met g m =
-      let same = ap (λ (s : State). s.accepts) (state-of-met g m) in
+  accepts_of_met g m =
+      let same = ap (λ (s : State). s.accepts) (state-of_met g m) in
       record { fact = λ e. sym same ∙ e; test = λ e. same ∙ e }
 
 -- ---- one name walked
@@ -159,14 +159,14 @@ module _
           Walked ts states met g n (a ∷ r)
       go (to_group y k e) again =
           let t : In (transition g a y) ts = arcs_out_of-in g a y ts k in
-          further y t (walk-goes states (index_in g met) n a r (index_in y met) (target-of-met rows nodes groups g a m ∙ e))
+          further y t (walk-goes states (index_in g met) n a r (index_in y met) (target_of-met rows nodes groups g a m ∙ e))
           (again y (met-closed nodes groups tree fits det g a y m t))
       go (no_group none e) again =
           let fewer : n < n + suc (length r) = omega arith in
           stopped
           (λ z w. none w.0 (in_arcs_out_of g a w.0 ts det w.1))
           (subst (λ (v : Walk). v.taken < n + suc (length r))
-          (sym (walk-stops states (index_in g met) n a r (target-of-met rows nodes groups g a m ∙ e))) fewer)
+          (sym (walk-stops states (index_in g met) n a r (target_of-met rows nodes groups g a m ∙ e))) fewer)
 
 -- the test of `admits` once the walk is known
 abbrev admits_by : List State → Word → Walk → Bool
@@ -180,7 +180,7 @@ pub tells_admits :
     ((g : ℕ) × Walks (transitions_of nodes groups) (group_at nodes groups []) r g × (group_accepts rows nodes groups g ≡ true))
 unfolding admits reached_state walk
 tells_admits rows nodes groups tree fits det r =
-    go (walked rows nodes groups tree fits det r root 0 (root-met nodes groups tree fits))
+    go (walked rows nodes groups tree fits det r root 0 (root_met nodes groups tree fits))
   where
     ts : List Transition
     ts = transitions_of nodes groups
@@ -205,7 +205,7 @@ tells_admits rows nodes groups tree fits det r =
         let all : 0 + length r ≡ length r = omega arith in
         subst (λ (v : Walk). Tells (admits_by states r v) Goes) (sym e ∙ from-root)
         (tells_by
-        (tells_and (tells_eqb (0 + length r) (length r)) (accepts-of-met rows nodes groups y m))
+        (tells_and (tells_eqb (0 + length r) (length r)) (accepts_of_met rows nodes groups y m))
         (λ both. (y, w, both.1))
         (λ h. (
           all,

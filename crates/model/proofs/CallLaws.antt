@@ -105,8 +105,8 @@ module _ {A : Type 0} {c : Call A} {outs outs' : List (List ℕ)} {r : A} (gives
       go (suc k) = ap (λ (b : Bool). tells (cond b c.answer (c.none (suc k)))) (eqb-suc-zero k) ∙ none (suc k)
 
   -- what holds of every refused answer and of the accepted one holds of the answer
-  pub answer-by : (P : A → Type 0) → ((k : ℕ) → P (c.none k)) → (fault_with c outs ≡ 0 → P c.answer) → P r
-  answer-by P none accepted = subst P (sym gives.answer_is) (go (eqb (fault_with c outs) 0) refl)
+  pub answer_by : (P : A → Type 0) → ((k : ℕ) → P (c.none k)) → (fault_with c outs ≡ 0 → P c.answer) → P r
+  answer_by P none accepted = subst P (sym gives.answer_is) (go (eqb (fault_with c outs) 0) refl)
     where
       go : (b : Bool) → eqb (fault_with c outs) 0 ≡ b → P (cond b c.answer (c.none (fault_with c outs)))
       go true e = accepted (eqb-true (fault_with c outs) 0 e)
@@ -144,22 +144,22 @@ pub record SizesFit (input work : List ℕ) : Type 0 where
   pub work_fits : work_bytes ≤ length work
 
 module _ (input work : List ℕ) where
-  pub sizes-refuse : sizes_bad input work ≡ true → Refuses (sizes_fault input work) bad_sizes
+  pub sizes_refuse : sizes_bad input work ≡ true → Refuses (sizes_fault input work) bad_sizes
   unfolding sizes_fault
-  sizes-refuse bad = refuses_when bad (omega arith)
+  sizes_refuse bad = refuses_when bad (omega arith)
 
-  pub sizes-pass : sizes_bad input work ≡ false → sizes_fault input work ≡ 0
+  pub sizes_pass : sizes_bad input work ≡ false → sizes_fault input work ≡ 0
   unfolding sizes_fault
-  sizes-pass fit = ap (λ (b : Bool). when b bad_sizes) fit
+  sizes_pass fit = ap (λ (b : Bool). when b bad_sizes) fit
 
-  pub sizes-none : SizesFit input work → sizes_fault input work ≡ 0
-  sizes-none fit =
-      sizes-pass
+  pub sizes_none : SizesFit input work → sizes_fault input work ≡ 0
+  sizes_none fit =
+      sizes_pass
       (neither (le-ltb input_limit (length input) fit.input_fits) (le-ltb (length work) work_bytes fit.work_fits))
 
-  pub sizes-fit : sizes_fault input work ≡ 0 → SizesFit input work
+  pub sizes_fit : sizes_fault input work ≡ 0 → SizesFit input work
   unfolding sizes_fault
-  sizes-fit e =
+  sizes_fit e =
       let both = false_or (ltb input_limit (length input)) (ltb (length work) work_bytes)
       (when-none (sizes_bad input work) bad_sizes (omega arith) e) in
       record {
@@ -174,12 +174,12 @@ pub table_accepted :
     (s work : List ℕ) → SizesFit s work → (read_table s).number ≡ 0 → is_first_met (table_states s) ≡ true →
     table_fault s work ≡ 0
 unfolding table_fault
-table_accepted s work fit read met = rw (sizes-none s work fit, read, met)
+table_accepted s work fit read met = rw (sizes_none s work fit, read, met)
 
 -- an accepted table has sizes that fit
 pub table_sizes : (s work : List ℕ) → table_fault s work ≡ 0 → SizesFit s work
 unfolding table_fault
-table_sizes s work none = sizes-fit s work (first_of_lem (sizes_fault s work) _ none).0
+table_sizes s work none = sizes_fit s work (first_of_lem (sizes_fault s work) _ none).0
 
 -- over an accepted table only the row is judged
 pub walk-judged :
@@ -203,20 +203,20 @@ call_answered c no_output none answer =
 
 module _ {A : Type 0} (c : Call A) (bytes out : List ℕ) (one : c.writes ≡ bytes ∷ []) where
   -- whether the output is too short
-  pub short-is : too_short c.writes (out ∷ []) ≡ ltb (length out) (length bytes)
+  pub short_is : too_short c.writes (out ∷ []) ≡ ltb (length out) (length bytes)
   unfolding too_short
-  short-is = ap (λ (ws : List (List ℕ)). too_short ws (out ∷ [])) one ∙ or_false (ltb (length out) (length bytes))
+  short_is = ap (λ (ws : List (List ℕ)). too_short ws (out ∷ [])) one ∙ or_false (ltb (length out) (length bytes))
 
-  pub call-one-short :
+  pub call-one_short :
       c.refusal ≡ 0 → length out < length bytes → Gives c (out ∷ []) (out ∷ []) (c.none output_too_short)
-  call-one-short none short = call-short c (out ∷ []) none (short-is ∙ lt-ltb (length out) (length bytes) short)
+  call-one_short none short = call-short c (out ∷ []) none (short_is ∙ lt-ltb (length out) (length bytes) short)
 
-  pub call-one-wrote :
+  pub call-one_wrote :
       (out' : List ℕ) (r : A) → c.refusal ≡ 0 → length bytes ≤ length out → out' ≡ over bytes out → r ≡ c.answer →
       Gives c (out ∷ []) (out' ∷ []) r
   unfolding fronts
-  call-one-wrote out' r none room written answer =
-      let accepted = call-accepted c (out ∷ []) none (short-is ∙ le-ltb (length out) (length bytes) room) in
+  call-one_wrote out' r none room written answer =
+      let accepted = call-accepted c (out ∷ []) none (short_is ∙ le-ltb (length out) (length bytes) room) in
       let front : fronts c.writes (out ∷ []) ≡ over bytes out ∷ [] =
       ap (λ (ws : List (List ℕ)). fronts ws (out ∷ [])) one in
       record {
@@ -225,31 +225,31 @@ module _ {A : Type 0} (c : Call A) (bytes out : List ℕ) (one : c.writes ≡ by
       }
 
   -- what a call that is not refused left in its output
-  pub one-wrote :
+  pub one_wrote :
       (out' : List ℕ) (r : A) → Gives c (out ∷ []) (out' ∷ []) r → fault_with c (out ∷ []) ≡ 0 →
       out' ≡ over bytes out
   unfolding fronts
-  one-wrote out' r gives accepted =
+  one_wrote out' r gives accepted =
       ap (λ (l : List (List ℕ)). get_or l 0 []) (wrote gives accepted ∙ ap (λ (ws : List (List ℕ)). fronts ws (out ∷ [])) one)
 
 -- ---- a call with two outputs
 
 module _ {A : Type 0} (c : Call A) (first second out other : List ℕ) (two : c.writes ≡ first ∷ (second ∷ [])) where
   -- the call by its first output alone, its answer seen as another
-  abbrev pub byFirst : {B : Type 0} → (A → B) → Call B
-  byFirst see = record { refusal = c.refusal; none = λ k. see (c.none k); answer = see c.answer; writes = first ∷ [] }
+  abbrev pub by_first : {B : Type 0} → (A → B) → Call B
+  by_first see = record { refusal = c.refusal; none = λ k. see (c.none k); answer = see c.answer; writes = first ∷ [] }
 
   -- an output that is long enough does not make the call refused
-  short-by-first : length second ≤ length other → too_short c.writes (out ∷ (other ∷ [])) ≡ too_short (first ∷ []) (out ∷ [])
+  short_by_first : length second ≤ length other → too_short c.writes (out ∷ (other ∷ [])) ≡ too_short (first ∷ []) (out ∷ [])
   unfolding too_short
-  short-by-first room =
+  short_by_first room =
       ap (λ (ws : List (List ℕ)). too_short ws (out ∷ (other ∷ []))) two
       ∙ ap (λ (b : Bool). ltb (length out) (length first) || (b || false)) (le-ltb (length other) (length second) room)
 
-  fault-by-first :
+  fault-by_first :
       {B : Type 0} (see : A → B) → (c.refusal ≡ 0 → length second ≤ length other) →
-      fault_with c (out ∷ (other ∷ [])) ≡ fault_with (byFirst see) (out ∷ [])
-  fault-by-first see room = go c.refusal (λ e. short-by-first (room e))
+      fault_with c (out ∷ (other ∷ [])) ≡ fault_with (by_first see) (out ∷ [])
+  fault-by_first see room = go c.refusal (λ e. short_by_first (room e))
     where
       go :
           (k : ℕ) → (k ≡ 0 → too_short c.writes (out ∷ (other ∷ [])) ≡ too_short (first ∷ []) (out ∷ [])) →
@@ -261,7 +261,7 @@ module _ {A : Type 0} (c : Call A) (first second out other : List ℕ) (two : c.
   -- where the second output is long enough, the call is what it is without it
   pub first_alone :
       {B : Type 0} (see : A → B) (out' other' : List ℕ) (r : A) → (c.refusal ≡ 0 → length second ≤ length other) →
-      Gives c (out ∷ (other ∷ [])) (out' ∷ (other' ∷ [])) r → Gives (byFirst see) (out ∷ []) (out' ∷ []) (see r)
+      Gives c (out ∷ (other ∷ [])) (out' ∷ (other' ∷ [])) r → Gives (by_first see) (out ∷ []) (out' ∷ []) (see r)
   unfolding fronts
   first_alone see out' other' r room gives =
       record {
@@ -281,8 +281,8 @@ module _ {A : Type 0} (c : Call A) (first second out other : List ℕ) (two : c.
       fault : ℕ
       fault = fault_with c outs
 
-      same : fault ≡ fault_with (byFirst see) (out ∷ [])
-      same = fault-by-first see room
+      same : fault ≡ fault_with (by_first see) (out ∷ [])
+      same = fault-by_first see room
 
       alone : List (List ℕ) → List (List ℕ)
       alone l = get_or l 0 [] ∷ []

@@ -66,14 +66,14 @@ module _ (c : Class) (rows nodes : List Word) (groups : List ℕ) (fits : Fits n
       }
 
   -- the rules one by one: forks, contexts, and by f ends and ways back
-  ker-fork :
+  ker_fork :
       (u w : Word) (a : ℕ) → Ker nodes groups u w → In (u ▸ a) nodes → In (w ▸ a) nodes → Ker nodes groups (u ▸ a) (w ▸ a)
-  ker-fork u w a k m n =
+  ker_fork u w a k m n =
       ruled-ker (u ▸ a) (w ▸ a) m n
       (forked (group_at nodes groups u) a (in_transitions nodes groups u a m) (arc-from nodes groups u w a k.one_group n))
 
-  ker-context : eqb c.kind 0 ≡ true → (u w : Word) → OneContext c nodes (Ker nodes groups) u w → Ker nodes groups u w
-  ker-context kind u w one =
+  ker_context : eqb c.kind 0 ≡ true → (u w : Word) → OneContext c nodes (Ker nodes groups) u w → Ker nodes groups u w
+  ker_context kind u w one =
       let x = group_at nodes groups u in
       let y = group_at nodes groups w in
       let two : TwoPaths c.first c.second (transitions_of nodes groups) groups x y =
@@ -100,15 +100,15 @@ module _ (c : Class) (rows nodes : List Word) (groups : List ℕ) (fits : Fits n
     groups-f : f_of_group c nodes groups (group_at nodes groups u) ≡ f_of_group c nodes groups (group_at nodes groups w)
     groups-f = group_f c nodes groups tree fits agree u m ∙ same_f ∙ sym (group_f c nodes groups tree fits agree w n)
 
-    ker-ends : In r rows → In s rows → Ker nodes groups u w
-    ker-ends k l =
+    ker_ends : In r rows → In s rows → Ker nodes groups u w
+    ker_ends k l =
         ruled-ker u w m n
         (by_ends kind groups-f
         ((tells_accepts rows nodes groups (group_at nodes groups u)).test (r, ur.right_node, sym ur.one_group, k))
         ((tells_accepts rows nodes groups (group_at nodes groups w)).test (s, ws.right_node, sym ws.one_group, l)))
 
-    ker-back : (a : ℕ) → In (r ▸ a) nodes → In (s ▸ a) nodes → Ker nodes groups (r ▸ a) (s ▸ a) → Ker nodes groups u w
-    ker-back a k l after =
+    ker_back : (a : ℕ) → In (r ▸ a) nodes → In (s ▸ a) nodes → Ker nodes groups (r ▸ a) (s ▸ a) → Ker nodes groups u w
+    ker_back a k l after =
         let arc-w : In (transition (group_at nodes groups w) a (group_at nodes groups (r ▸ a))) (transitions_of nodes groups) =
         subst (λ (g : ℕ). In (transition (group_at nodes groups w) a g) (transitions_of nodes groups)) (sym after.one_group)
         (arc-from nodes groups w s a ws.one_group l) in
@@ -126,10 +126,10 @@ ker_closed c rows nodes groups tree fits full agree =
       symmetric = λ u w k. record { left_node = k.right_node; right_node = k.left_node; one_group = sym k.one_group };
       transitive = λ u v w k l.
           record { left_node = k.left_node; right_node = l.right_node; one_group = k.one_group ∙ l.one_group };
-      fork = ker-fork c rows nodes groups fits full;
-      context = ker-context c rows nodes groups fits full;
+      fork = ker_fork c rows nodes groups fits full;
+      context = ker_context c rows nodes groups fits full;
       ends = λ kind u w r s same_f m n k l ur ws.
-          ker-ends c rows nodes groups fits full tree kind (agree kind) u w r s same_f m n ur ws;
+          ker_ends c rows nodes groups fits full tree kind (agree kind) u w r s same_f m n ur ws;
       back = λ kind u w r s a same_f m n k l ur ws.
-          ker-back c rows nodes groups fits full tree kind (agree kind) u w r s same_f m n ur ws a;
+          ker_back c rows nodes groups fits full tree kind (agree kind) u w r s same_f m n ur ws a;
     }

@@ -8,8 +8,8 @@ use lib.ListN.{length, get_or, take, drop, length-append, take-append-drop}
 use lib.Seq.{length-take-le}
 use Rattle.model.specs.Classes.{Word}
 use Rattle.model.specs.Joinings.{Transition, Route, routes_from, by_context}
-use Rattle.base.proofs.Tests.{Tells, tells_same, tells_and, tells_by, tells-anyTwo}
-use Rattle.base.proofs.Lists.{in-flatMap, flatMap-in}
+use Rattle.base.proofs.Tests.{Tells, tells_same, tells_and, tells_by, tells_any_two}
+use Rattle.base.proofs.Lists.{in_flat_map, flat_map-in}
 use Rattle.model.proofs.Routes.{tells_after_same_arc, Through, RouteBy, route-length, route-through, route-by}
 use Rattle.model.proofs.Notions.{Walks}
 
@@ -56,10 +56,10 @@ two_paths k h ts groups x y r s m n e i low high at_x at_y =
     }
   where
     from-r : (g : ℕ) × In g groups × In r (routes_from ts k g)
-    from-r = flatMap-in (routes_from ts k) groups m
+    from-r = flat_map-in (routes_from ts k) groups m
 
     from-s : (g : ℕ) × In g groups × In s (routes_from ts k g)
-    from-s = flatMap-in (routes_from ts k) groups n
+    from-s = flat_map-in (routes_from ts k) groups n
 
     through-r : Through ts from-r.0 r i
     through-r = route-through ts k from-r.0 r i from-r.2 high
@@ -81,9 +81,9 @@ two_routes :
 two_routes k h ts groups x y f = (
   by-x.0,
   by-y.0,
-  in-flatMap (routes_from ts k) groups f.from_x_in
+  in_flat_map (routes_from ts k) groups f.from_x_in
       (subst (λ (n : ℕ). In by-x.0 (routes_from ts n f.from_x)) long by-x.1),
-  in-flatMap (routes_from ts k) groups f.from_y_in
+  in_flat_map (routes_from ts k) groups f.from_y_in
       (subst (λ (n : ℕ). In by-y.0 (routes_from ts n f.from_y)) long by-y.1),
   (by-x.2 ∙ sym by-y.2, (length f.p, f.low, omega (arith, f.size), by-x.3, by-y.3)),
 )
@@ -104,7 +104,7 @@ pub tells_context :
 unfolding by_context
 tells_context k h ts groups x y =
     tells_by
-    (tells-anyTwo (λ r s. tells_and (tells_same r.names s.names) (tells_after_same_arc k h x y r s))
+    (tells_any_two (λ r s. tells_and (tells_same r.names s.names) (tells_after_same_arc k h x y r s))
     (flat_map (routes_from ts k) groups))
     (λ f. two_paths k h ts groups x y f.0 f.1 f.2 f.3 f.4.0 f.4.1.0 f.4.1.1
     f.4.1.2 f.4.1.3 f.4.1.4)

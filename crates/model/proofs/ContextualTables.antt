@@ -25,9 +25,9 @@ use Rattle.model.proofs.Rules.{Ruled, full_equal}
 use Rattle.model.proofs.Trees.{tree_of-tree}
 use Rattle.model.proofs.FirstMet.{met-distinct, met-in, states-length}
 use Rattle.model.proofs.Admits.{Walked, all_taken, stopped, walked}
-use Rattle.model.proofs.TableWalks.{reaches-append, reaches-split, admitted-cut, admitted-after}
-use Rattle.model.proofs.TableWalks.{admitted-in, tells-admitted, word-tails, equal_tails}
-use Rattle.model.proofs.Joined.{Joined, joined-deterministic, joined_groups-joined}
+use Rattle.model.proofs.TableWalks.{reaches_append, reaches_split, admitted-cut, admitted-after}
+use Rattle.model.proofs.TableWalks.{admitted-in, tells_admitted, word_tails, equal_tails}
+use Rattle.model.proofs.Joined.{Joined, joined_deterministic, joined_groups-joined}
 
 -- ---- any table
 
@@ -60,23 +60,23 @@ module _ (k h : ℕ) (states : List State) where
   -- each admitted word that has u and a in front has such places
   place : (u a w : Word) (i : ℕ) → AdmittedBy states (u ++ (a ++ w)) → Place u a w i
   place u a w i e =
-      let there = admitted-cut states 0 u (a ++ w) ((tells-admitted states (u ++ (a ++ w))).fact e) in
+      let there = admitted-cut states 0 u (a ++ w) ((tells_admitted states (u ++ (a ++ w))).fact e) in
       let on = admitted-cut states there.0 a w there.2 in
       let cut =
-      reaches-split states there.0 on.0 (take i a) (drop i a)
+      reaches_split states there.0 on.0 (take i a) (drop i a)
       (subst (λ (b : Word). Reaches states there.0 b on.0) (sym (take-append-drop i a)) on.1) in
       record { at-it = there.0; after-it = cut.0; way-there = there.1; on-from-it = there.2; way_on = cut.1 }
 
   -- the same tails make the set of words contextual
-  pub tails-contextual : ContextualTails k h states → Contextual k h (AdmittedBy states)
-  tails-contextual same =
+  pub tails_contextual : ContextualTails k h states → Contextual k h (AdmittedBy states)
+  tails_contextual same =
       record {
         equal_tails = λ u1 u2 a w1 w2 i size low high e1 e2.
             let x = place u1 a w1 i e1 in
             let y = place u2 a w2 i e2 in
             (equal_tails states (u1 ++ take i a) (u2 ++ take i a) x.after-it y.after-it
-            (reaches-append states 0 x.at-it x.after-it u1 (take i a) x.way-there x.way_on)
-            (reaches-append states 0 y.at-it y.after-it u2 (take i a) y.way-there y.way_on)).1
+            (reaches_append states 0 x.at-it x.after-it u1 (take i a) x.way-there x.way_on)
+            (reaches_append states 0 y.at-it y.after-it u2 (take i a) y.way-there y.way_on)).1
             (same.same_tails x.at-it y.at-it x.after-it y.after-it i a w1 w2
             (admitted-in states x.at-it (a ++ w1) x.on-from-it)
             (admitted-in states y.at-it (a ++ w2) y.on-from-it)
@@ -84,27 +84,27 @@ module _ (k h : ℕ) (states : List State) where
       }
 
   -- and so do walks that meet
-  pub states-contextual : ContextualStates k h states → Contextual k h (AdmittedBy states)
-  states-contextual one = tails-contextual (states-tails one)
+  pub states_contextual : ContextualStates k h states → Contextual k h (AdmittedBy states)
+  states_contextual one = tails_contextual (states-tails one)
 
   -- a contextual set makes the tails the same, where every state is reached
-  pub contextual-tails : AllReached states → Contextual k h (AdmittedBy states) → ContextualTails k h states
-  contextual-tails reached l =
+  pub contextual_tails : AllReached states → Contextual k h (AdmittedBy states) → ContextualTails k h states
+  contextual_tails reached l =
       record {
         same_tails = λ p q p-after q-after i a v w p-in q-in size low high from-p from-q f g.
             let x = reached p p-in in
             let y = reached q q-in in
             (equal_tails states (x.0 ++ take i a) (y.0 ++ take i a) p-after q-after
-            (reaches-append states 0 p p-after x.0 (take i a) x.1 f)
-            (reaches-append states 0 q q-after y.0 (take i a) y.1 g)).0
+            (reaches_append states 0 p p-after x.0 (take i a) x.1 f)
+            (reaches_append states 0 q q-after y.0 (take i a) y.1 g)).0
             (l.equal_tails x.0 y.0 a v w i size (omega arith) high
-            ((word-tails states x.0 (a ++ v) p x.1).1 from-p)
-            ((word-tails states y.0 (a ++ w) q y.1).1 from-q));
+            ((word_tails states x.0 (a ++ v) p x.1).1 from-p)
+            ((word_tails states y.0 (a ++ w) q y.1).1 from-q));
       }
 
   -- in a canonical automaton states with the same tails are one
-  pub tails-states : Canonical states → ContextualTails k h states → ContextualStates k h states
-  tails-states canonical same =
+  pub tails_states : Canonical states → ContextualTails k h states → ContextualStates k h states
+  tails_states canonical same =
       record {
         one_state = λ p q p-end q-end p-after q-after i a p-in q-in size low high fp fq f g.
             let x = on p p-end a p-in fp in
@@ -117,7 +117,7 @@ module _ (k h : ℕ) (states : List State) where
       goes_on : (p z : ℕ) (b : Word) → p < length states → Reaches states p b z → (v : Word) × AdmittedFrom states z v
       goes_on p z b p-in f =
           let x = canonical.reached p p-in in
-          canonical.live (x.0 ++ b) z (reaches-append states 0 p z x.0 b x.1 f)
+          canonical.live (x.0 ++ b) z (reaches_append states 0 p z x.0 b x.1 f)
 
       on : (p z : ℕ) (b : Word) → p < length states → Reaches states p b z → (v : Word) × AdmittedFrom states p (b ++ v)
       on p z b p-in f =
@@ -142,7 +142,7 @@ module _ (c : Class) (rows : List Word) (groups : List ℕ) (joined : Joined c r
       (p q : ℕ) (w : Word) → p < length (states_of rows (tree_of rows) groups) →
       Reaches (states_of rows (tree_of rows) groups) p w q → Between p q w
   between p q w p-in f =
-      go (walked rows nodes groups (tree_of-tree rows) joined.fits (joined-deterministic c rows groups joined) w from 0 from_met)
+      go (walked rows nodes groups (tree_of-tree rows) joined.fits (joined_deterministic c rows groups joined) w from 0 from_met)
     where
       nodes : List Word
       nodes = tree_of rows
@@ -184,8 +184,8 @@ module _ (c : Class) (rows : List Word) (groups : List ℕ) (joined : Joined c r
           absurd z
 
   -- kind 0: the table meets the condition
-  pub joined-contextual : eqb c.kind 0 ≡ true → ContextualStates c.first c.second (states_of rows (tree_of rows) groups)
-  joined-contextual kind =
+  pub joined_contextual : eqb c.kind 0 ≡ true → ContextualStates c.first c.second (states_of rows (tree_of rows) groups)
+  joined_contextual kind =
       record {
         one_state = λ p q p-end q-end p-after q-after i a p-in q-in size low high fp fq f g.
             meet p q p-after q-after i a size (omega arith) high (between p p-after (take i a) p-in f)
@@ -206,7 +206,7 @@ module _ (c : Class) (rows : List Word) (groups : List ℕ) (joined : Joined c r
           walks_split ts from to (take i a) (drop i a)
           (subst (λ (b : Word). Walks ts from b to) (sym (take-append-drop i a)) g) in
           subst (λ (z : ℕ). Walks ts z (drop i a) to)
-          (walks_unique ts (joined-deterministic c rows groups joined) from cut.0 at (take i a) cut.1 f) cut.2
+          (walks_unique ts (joined_deterministic c rows groups joined) from cut.0 at (take i a) cut.1 f) cut.2
 
       meet :
           (p q p-after q-after i : ℕ) (a : Word) → length a ≡ c.first → c.second ≤ i → i ≤ c.first →
@@ -242,5 +242,5 @@ pub book_contextual :
     (f : File) → f.class_is.kind ≡ 0 → ContextualStates f.class_is.first f.class_is.second (book_states f)
 unfolding book_states
 book_contextual f kind =
-    joined-contextual f.class_is f.items (joined_groups f.class_is f.items)
+    joined_contextual f.class_is f.items (joined_groups f.class_is f.items)
     (joined_groups-joined f.class_is f.items) (eq-eqb f.class_is.kind 0 kind)

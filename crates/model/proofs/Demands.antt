@@ -28,8 +28,8 @@ use Rattle.model.proofs.DifferentRows.{tells_among, different_set, set_size, dif
 use Rattle.model.proofs.DifferentRows.{different_some, accepting_nodes_lem}
 use Rattle.model.proofs.Ends.{joined_is_full_joining}
 use Rattle.model.proofs.FirstMet.{met-few, states-length}
-use Rattle.model.proofs.Joined.{Joined, joining_joined, joined_groups-joined, joined-deterministic, joined_states}
-use Rattle.model.proofs.InTheClass.{admits-row, admits-in-class, admits-smallest}
+use Rattle.model.proofs.Joined.{Joined, joining_joined, joined_groups-joined, joined_deterministic, joined_states}
+use Rattle.model.proofs.InTheClass.{admits-row, admits-in_class, admits-smallest}
 use Rattle.model.proofs.Writable.{Writable}
 use Rattle.model.proofs.FieldLaws.{first_of_lem, when-none}
 use Rattle.model.proofs.CallLaws.{table_accepted}
@@ -37,7 +37,7 @@ use Rattle.model.proofs.StateBodies.{states_read_back}
 use Rattle.model.proofs.WritableStates.{states_writable}
 use Rattle.model.proofs.Identified.{among_itself}
 use Rattle.model.proofs.RowBooks.{rows_make_books}
-use Rattle.model.proofs.Reading.{accepted-has-row, accepted-row, reads-written, written-length, rewrites_same}
+use Rattle.model.proofs.Reading.{accepted_has_row, accepted_row, reads-written, written-length, rewrites_same}
 
 -- ---- what an accepted book and a like book give
 
@@ -137,10 +137,10 @@ demand_3 settings allowed =
           ((tells_has_row r f.items).fact m);
       in_class = λ s ok.
           let f = book_of settings s in
-          admits-in-class f.class_is f.items (joined_groups f.class_is f.items) (joined f);
+          admits-in_class f.class_is f.items (joined_groups f.class_is f.items) (joined f);
       smallest = λ s l ok l-in-class holds r e.
           let f = book_of settings s in
-          let first-row = accepted-has-row settings allowed s ok in
+          let first-row = accepted_has_row settings allowed s ok in
           admits-smallest f.class_is f.items (joined_groups f.class_is f.items) (joined f) l l-in-class
           (λ q m. holds q ((tells_has_row q f.items).test m)) first-row.0 first-row.1 r e;
     }
@@ -149,22 +149,22 @@ demand_3 settings allowed =
 
 module _ (settings : Settings) (allowed : Allowed settings) where
   -- what build writes can be read
-  pub book-writable :
+  pub book_writable :
       (s : List ℕ) → Accepted settings s → Writable (length (book_of settings s).names) (book_states (book_of settings s))
   unfolding book_states
-  book-writable s ok =
+  book_writable s ok =
       let f = book_of settings s in
       let groups = joined_groups f.class_is f.items in
       states_writable f.items (tree_of f.items) groups (length f.names) (tree_of-tree f.items) (joined f).fits
-      (joined-deterministic f.class_is f.items groups (joined f)) (accepted_tree settings s ok) (name_below s ok)
+      (joined_deterministic f.class_is f.items groups (joined f)) (accepted_tree settings s ok) (name_below s ok)
     where
       name_below :
           (s : List ℕ) → Accepted settings s → (w : Word) (a : ℕ) → In (w ▸ a) (tree_of (book_of settings s).items) →
           a < length (book_of settings s).names
       name_below s ok w a m =
-          let first-row = accepted-has-row settings allowed s ok in
+          let first-row = accepted_has_row settings allowed s ok in
           let b = node_begins_row (book_of settings s).items first-row.0 first-row.1 (w ▸ a) m in
-          (accepted-row settings allowed s ok ((w ▸ a) ++ b.0) b.1).1 a
+          (accepted_row settings allowed s ok ((w ▸ a) ++ b.0) b.1).1 a
           (Memᴰ.append_left b.0 (Memᴰ.append_right w (here refl)))
 
   -- the table of a book is read back: its names, its class and its states
@@ -173,31 +173,31 @@ module _ (settings : Settings) (allowed : Allowed settings) where
       read_table (book_table (book_of settings s))
       ≡ accepted_file (file 3 (book_of settings s).names (book_of settings s).class_is (map state_body (book_states (book_of settings s))))
   unfolding book_table
-  read_table s ok = reads-written settings allowed s (book_states (book_of settings s)) ok (book-writable s ok)
+  read_table s ok = reads-written settings allowed s (book_states (book_of settings s)) ok (book_writable s ok)
 
   -- and its states are the book's
-  read-states : (s : List ℕ) → Accepted settings s → table_states (book_table (book_of settings s)) ≡ book_states (book_of settings s)
+  read_states : (s : List ℕ) → Accepted settings s → table_states (book_table (book_of settings s)) ≡ book_states (book_of settings s)
   unfolding table_states table_of
-  read-states s ok =
+  read_states s ok =
       ap (λ (r : Read). states_in r.file_is.items) (read_table s ok)
       ∙ states_read_back (book_states (book_of settings s))
 
   -- it takes few bytes
-  pub table-length : (s : List ℕ) → Accepted settings s → length (book_table (book_of settings s)) ≤ table_bytes
+  pub table_length : (s : List ℕ) → Accepted settings s → length (book_table (book_of settings s)) ≤ table_bytes
   unfolding book_table
-  table-length s ok = written-length settings allowed s (book_states (book_of settings s)) ok (book-writable s ok)
+  table_length s ok = written-length settings allowed s (book_states (book_of settings s)) ok (book_writable s ok)
 
   -- so it is accepted, where there is room to work
-  read-no-fault :
+  read_no_fault :
       (s work : List ℕ) → Accepted settings s → work_bytes ≤ length work → table_fault (book_table (book_of settings s)) work ≡ 0
-  read-no-fault s work ok long =
+  read_no_fault s work ok long =
       table_accepted (book_table (book_of settings s)) work
-      (record { input_fits = omega (arith, table-length s ok); work_fits = long })
-      (ap (λ (r : Read). r.number) (read_table s ok)) (ap is_first_met (read-states s ok) ∙ (book-writable s ok).first_met)
+      (record { input_fits = omega (arith, table_length s ok); work_fits = long })
+      (ap (λ (r : Read). r.number) (read_table s ok)) (ap is_first_met (read_states s ok) ∙ (book_writable s ok).first_met)
 
   -- tables read back as they were written
   pub reads_back : ReadsBack settings
-  reads_back = record { accepted_again = read-no-fault; same_states = read-states }
+  reads_back = record { accepted_again = read_no_fault; same_states = read_states }
 
 -- an accepted table is rewritten to the same bytes
 pub same_bytes : SameBytes
@@ -215,7 +215,7 @@ different_rows_fact =
           ((tells_among g.items f.items).fact back);
       few = λ f. different_few f.items;
       some = λ settings allowed s ok.
-          let first-row = accepted-has-row settings allowed s ok in
+          let first-row = accepted_has_row settings allowed s ok in
           different_some (book_of settings s).items first-row.0 first-row.1;
       accepting = λ f. accepting_nodes_lem f.items;
     }

@@ -72,9 +72,9 @@ record Free (firsts : List ℕ) (nodes : List Word) : Type 0 where
 
 module _ (first : ℕ) (firsts : List ℕ) (row : Word) (nodes : List Word) (open-to : Free (first ∷ firsts) nodes) where
   -- a row with such a first name adds a state for each of its entries
-  row-added : with_states nodes (beginnings (first ∷ row)) ≡ nodes ++ after first (beginnings row)
+  row_added : with_states nodes (beginnings (first ∷ row)) ≡ nodes ++ after first (beginnings row)
   unfolding with_states beginnings
-  row-added =
+  row_added =
       let more = after first (beginnings row) in
       ap (λ (b : Bool). with_states (cond b nodes (nodes ++ ([] ∷ []))) more) ((tells_has_row [] nodes).test open-to.root)
       ∙ all-added nodes more (after-distinct first (beginnings row) (beginnings-distinct row)) new
@@ -85,8 +85,8 @@ module _ (first : ℕ) (firsts : List ℕ) (row : Word) (nodes : List Word) (ope
           open-to.free first r.0 (here refl) (Memᴰ.cast (sym r.2) n)
 
   -- and the states begin with none of the other names then
-  still-free : (In first firsts → ⊥) → Free firsts (nodes ++ after first (beginnings row))
-  still-free other =
+  still_free : (In first firsts → ⊥) → Free firsts (nodes ++ after first (beginnings row))
+  still_free other =
       let more = after first (beginnings row) in
       record {
         root = Memᴰ.append_left more open-to.root;
@@ -108,8 +108,8 @@ rows_added ((x ∷ row) ∷ rows) nodes firsts open-to =
     let size : length more ≡ suc (length row) = length-map (beginnings row) (λ (w : Word). x ∷ w) ∙ beginnings-length row in
     let rest : DifferentFirsts rows =
     record { some_entry = λ m. firsts.some_entry (there m); different = firsts.different.1 } in
-    ap (λ (grown : List Word). length (with_rows grown rows)) (row-added x others row nodes open-to)
-    ∙ rows_added rows (nodes ++ more) rest (still-free x others row nodes open-to firsts.different.0)
+    ap (λ (grown : List Word). length (with_rows grown rows)) (row_added x others row nodes open-to)
+    ∙ rows_added rows (nodes ++ more) rest (still_free x others row nodes open-to firsts.different.0)
     ∙ omega (arith, length-append nodes more, size)
 
 -- the prefix tree has the root besides

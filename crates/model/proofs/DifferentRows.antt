@@ -12,7 +12,7 @@ use Prim.Native.Nat.{suc, ◌≤◌}
 use native.Mathlib.Omega.{arith}
 use lib.ListN.{length, length-append}
 use Rattle.base.specs.Lists.{filter_by, same, has_row, Distinct}
-use Rattle.base.proofs.Lists.{in-filterBy, filterBy-in, distinct-filterBy, distinct_snoc, distinct-length, same_length}
+use Rattle.base.proofs.Lists.{in_filter_by, filter_by-in, distinct_filter_by, distinct_snoc, distinct_length, same_length}
 use Rattle.base.proofs.Tests.{Tells, decided, tells_not, tells_same, tells_all, tells_has_row}
 use Rattle.model.specs.Classes.{Word}
 use Rattle.model.specs.Joinings.{tree_of}
@@ -37,7 +37,7 @@ unfolding different_rows
 different_in_lem [] r m = m
 different_in_lem (row ∷ rows) r m =
     ⊎_elim (λ e. here e)
-    (λ n. there (different_in_lem rows r (filterBy-in (λ (other : Word). not (same row other)) (different_rows rows) n).0))
+    (λ n. there (different_in_lem rows r (filter_by-in (λ (other : Word). not (same row other)) (different_rows rows) n).0))
     (Memᴰ.cases_cons m)
 
 in_different : (rows : List Word) (r : Word) → In r rows → In r (different_rows rows)
@@ -46,7 +46,7 @@ in_different [] r m = m
 in_different (row ∷ rows) r m =
     ⊎_elim (λ e. here (sym e))
     (λ (out : row ≡ r → ⊥).
-    there (in-filterBy (λ (other : Word). not (same row other)) (different_rows rows) (in_different rows r (later out))
+    there (in_filter_by (λ (other : Word). not (same row other)) (different_rows rows) (in_different rows r (later out))
     ((tells_other row r).test out)))
     (decided (tells_same row r))
   where
@@ -57,8 +57,8 @@ different_distinct : (rows : List Word) → Distinct (different_rows rows)
 unfolding different_rows
 different_distinct [] = tt
 different_distinct (row ∷ rows) = (
-  λ m. (tells_other row row).fact (filterBy-in (λ (other : Word). not (same row other)) (different_rows rows) m).1 refl,
-  distinct-filterBy (λ (other : Word). not (same row other)) (different_rows rows) (different_distinct rows),
+  λ m. (tells_other row row).fact (filter_by-in (λ (other : Word). not (same row other)) (different_rows rows) m).1 refl,
+  distinct_filter_by (λ (other : Word). not (same row other)) (different_rows rows) (different_distinct rows),
 )
 
 -- so they are the set of the rows, and every list that is has as many
@@ -93,26 +93,26 @@ different_same rows others f g =
 
 -- no more than the rows, and some where there is a row
 pub different_few : (rows : List Word) → length (different_rows rows) ≤ length rows
-different_few rows = distinct-length (different_rows rows) rows (different_distinct rows) (different_in_lem rows)
+different_few rows = distinct_length (different_rows rows) rows (different_distinct rows) (different_in_lem rows)
 
 pub different_some : (rows : List Word) (r : Word) → In r rows → 1 ≤ length (different_rows rows)
 different_some rows r m =
-    distinct-length (r ∷ []) (different_rows rows) (λ n. Memᴰ.not-nil n, tt)
+    distinct_length (r ∷ []) (different_rows rows) (λ n. Memᴰ.not-nil n, tt)
     (λ q n. Memᴰ.cast (Memᴰ.eq_of_singleton n) (in_different rows r m))
 
 -- no more than the prefix tree has states
 pub different_nodes : (rows : List Word) → length (different_rows rows) ≤ length (tree_of rows)
 different_nodes rows =
-    distinct-length (different_rows rows) (tree_of rows) (different_distinct rows) (λ r m. row_node rows r (different_in_lem rows r m))
+    distinct_length (different_rows rows) (tree_of rows) (different_distinct rows) (λ r m. row_node rows r (different_in_lem rows r m))
 
 -- as many as the prefix tree has accepting states
 pub accepting_nodes_lem : (rows : List Word) → length (accepting_nodes rows) ≡ length (different_rows rows)
 unfolding accepting_nodes
 accepting_nodes_lem rows =
     set-length rows (filter_by (λ (w : Word). has_row w rows) (tree_of rows))
-    (distinct-filterBy (λ (w : Word). has_row w rows) (tree_of rows) (tree_of-tree rows).distinct)
-    (λ r m. (tells_has_row r rows).fact (filterBy-in (λ (w : Word). has_row w rows) (tree_of rows) m).1)
-    (λ r m. in-filterBy (λ (w : Word). has_row w rows) (tree_of rows) (row_node rows r m) ((tells_has_row r rows).test m))
+    (distinct_filter_by (λ (w : Word). has_row w rows) (tree_of rows) (tree_of-tree rows).distinct)
+    (λ r m. (tells_has_row r rows).fact (filter_by-in (λ (w : Word). has_row w rows) (tree_of rows) m).1)
+    (λ r m. in_filter_by (λ (w : Word). has_row w rows) (tree_of rows) (row_node rows r m) ((tells_has_row r rows).test m))
 
 -- ---- one row more
 

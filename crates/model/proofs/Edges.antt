@@ -27,10 +27,10 @@ use Rattle.model.specs.Edges.{thirteen_book, EdgesClaimed}
 use Rattle.base.proofs.Tests.{not_told, tells_itself, tells_eqb, tells_leb, tells_and, tells_has_row}
 use Rattle.base.proofs.Places.{numbers_from-in}
 use Rattle.model.proofs.DifferentFirsts.{different_firsts_states}
-use Rattle.model.proofs.CallLaws.{sizes-none, table_accepted, walk-judged}
-use Rattle.model.proofs.Reading.{accepted-row}
+use Rattle.model.proofs.CallLaws.{sizes_none, table_accepted, walk-judged}
+use Rattle.model.proofs.Reading.{accepted_row}
 use Rattle.model.proofs.WorkedDays.{p2-table_is}
-use Rattle.model.proofs.Walkable.{walkable, walkableTo, onlyThese, admits-only}
+use Rattle.model.proofs.Walkable.{walkable, walkable_to, only_these, admits-only}
 
 -- ---- what computes
 
@@ -67,10 +67,10 @@ record Computed : Type 0 where
   p2_passes : row_ok (length (table_of p2.table_is).names) (snacks 40) ≡ true
   -- the chain
   chain_good : is_good long_chain ≡ true
-  chain_only : onlyThese (table_states long_chain) 41 (replicate 41 0 ∷ []) ≡ true
+  chain_only : only_these (table_states long_chain) 41 (replicate 41 0 ∷ []) ≡ true
 
 computed : Computed
-unfolding is_good flat_map walkable walkableTo onlyThese all_among any all filter_by numbers_from same has_row before last_or name_ok all_below
+unfolding is_good flat_map walkable walkable_to only_these all_among any all filter_by numbers_from same has_row before last_or name_ok all_below
     above name_fault class_fault row_fault state_fault state_ok arcs_ok field_fault with_field read_from read_with field_bytes name_fields
     class_field row_fields arc_bytes state_body state_fields bytes_of_table arcs_in state_in states_in met_by_arcs met_by_states is_first_met
     target_in walk_from walk reached_state admits beginnings with_states with_rows tree_of book_of book_fault table_of table_states chain_from
@@ -94,7 +94,7 @@ book_judged : (book : List ℕ) → leb (length book) input_limit ≡ true → W
 unfolding build_fault
 book_judged book short work enough =
     ap (λ (n : ℕ). first_of n (book_fault standard book))
-    (sizes-none book work (record { input_fits = leb-true (length book) input_limit short; work_fits = enough }))
+    (sizes_none book work (record { input_fits = leb-true (length book) input_limit short; work_fits = enough }))
 
 -- numbers in a row are different
 numbers_distinct : (n i : ℕ) → Distinct (numbers_from n i)
@@ -164,7 +164,7 @@ edges_hold =
           book_judged (day_book (snacks 40 ∷ [])) computed.row_of_40.short work enough ∙ computed.row_of_40.fault_is;
       row_refused = λ work enough.
           book_judged (day_book (snacks 41 ∷ [])) computed.row_of_41.short work enough ∙ computed.row_of_41.fault_is;
-      rows_bounded = λ settings allowed book ok row m. (accepted-row settings allowed book ok row m).0;
+      rows_bounded = λ settings allowed book ok row m. (accepted_row settings allowed book ok row m).0;
       walk_passes = λ work enough. p2-walk (snacks 40) work enough ∙ rw computed.p2_passes;
       walk_refused = λ work enough. p2-walk (snacks 41) work enough;
       walk_bounded = walk_bounded;

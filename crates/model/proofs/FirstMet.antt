@@ -13,21 +13,21 @@ use Rattle.base.specs.Lists.{index_in, Distinct}
 use Rattle.model.specs.Tables.{arc}
 use Rattle.model.specs.Joinings.{transition, transitions_of, group_at, groups_in, member_of, Deterministic}
 use Rattle.model.specs.Quotients.{arcs_out_of, met_groups, state_of, states_of}
-use Rattle.base.proofs.Lists.{distinct-length, same_length}
+use Rattle.base.proofs.Lists.{distinct_length, same_length}
 use Rattle.base.proofs.Places.{index_here, nth_of_index}
 use Rattle.model.proofs.Notions.{Tree, Fits, Walks}
 use Rattle.model.proofs.Groups.{group_in, member_of_lem, in_groups_in, groups_in-in, groups_in-distinct}
 use Rattle.model.proofs.Transitions.{target_in_lem, walks_down}
 use Rattle.model.proofs.Arcs.{in_arcs_out_of}
-use Rattle.model.proofs.Meeting.{MetUpTo, look-all}
+use Rattle.model.proofs.Meeting.{MetUpTo, look_all}
 
 module _ (nodes : List Word) (groups : List ℕ) (tree : Tree nodes) (fits : Fits nodes groups) where
   -- as many looks as there are nodes, from the root's group on
-  met-all-looked-at :
+  met-all_looked_at :
       MetUpTo (transitions_of nodes groups) (group_at nodes groups []) (length nodes + 0) (met_groups nodes groups)
   unfolding met_groups
-  met-all-looked-at =
-      look-all (transitions_of nodes groups) (group_at nodes groups []) (length nodes) 0 (group_at nodes groups [] ∷ [])
+  met-all_looked_at =
+      look_all (transitions_of nodes groups) (group_at nodes groups []) (length nodes) 0 (group_at nodes groups [] ∷ [])
       (record {
         rest = [];
         begins = refl;
@@ -38,20 +38,20 @@ module _ (nodes : List Word) (groups : List ℕ) (tree : Tree nodes) (fits : Fit
 
   -- no group is met twice
   pub met-distinct : Distinct (met_groups nodes groups)
-  met-distinct = met-all-looked-at.distinct
+  met-distinct = met-all_looked_at.distinct
 
   -- the root's group is met, and first
-  pub root-met : In (group_at nodes groups []) (met_groups nodes groups)
-  root-met = subst (λ (xs : List ℕ). In (group_at nodes groups []) xs) (sym met-all-looked-at.begins) (here refl)
+  pub root_met : In (group_at nodes groups []) (met_groups nodes groups)
+  root_met = subst (λ (xs : List ℕ). In (group_at nodes groups []) xs) (sym met-all_looked_at.begins) (here refl)
 
   pub met-root : index_in (group_at nodes groups []) (met_groups nodes groups) ≡ 0
   met-root =
-      ap (index_in (group_at nodes groups [])) met-all-looked-at.begins
-      ∙ index_here (group_at nodes groups []) (group_at nodes groups []) met-all-looked-at.rest refl
+      ap (index_in (group_at nodes groups [])) met-all_looked_at.begins
+      ∙ index_here (group_at nodes groups []) (group_at nodes groups []) met-all_looked_at.rest refl
 
   -- what is met is a group
   pub met-in : (g : ℕ) → In g (met_groups nodes groups) → In g groups
-  met-in g m = go (met-all-looked-at.whence g m)
+  met-in g m = go (met-all_looked_at.whence g m)
     where
       go : (g ≡ group_at nodes groups []) ⊎ ((x a : ℕ) × In (transition x a g) (transitions_of nodes groups)) → In g groups
       go (inl e) = Memᴰ.cast e (group_in nodes groups [] fits tree.root)
@@ -61,7 +61,7 @@ module _ (nodes : List Word) (groups : List ℕ) (tree : Tree nodes) (fits : Fit
   pub met-few : length (met_groups nodes groups) ≤ length nodes
   met-few =
       let few : length (met_groups nodes groups) ≤ length groups =
-      distinct-length (met_groups nodes groups) groups met-distinct met-in in
+      distinct_length (met_groups nodes groups) groups met-distinct met-in in
       let size : length groups ≡ length nodes = fits.lengths in
       omega arith
 
@@ -74,7 +74,7 @@ module _ (nodes : List Word) (groups : List ℕ) (tree : Tree nodes) (fits : Fit
       let place = nth_of_index met x m in
       let inside : index_in x met < length met = place.0 in
       let few : length met ≤ length nodes = met-few in
-      met-all-looked-at.closed (index_in x met) (omega arith) inside (arc a y)
+      met-all_looked_at.closed (index_in x met) (omega arith) inside (arc a y)
       (subst (λ (g : ℕ). In (arc a y) (arcs_out_of g (transitions_of nodes groups))) (sym place.1)
       (in_arcs_out_of x a y (transitions_of nodes groups) det n))
 
@@ -91,7 +91,7 @@ module _ (nodes : List Word) (groups : List ℕ) (tree : Tree nodes) (fits : Fit
       let member : Word = member_of nodes groups g in
       let r = member_of_lem nodes groups g tree.distinct fits m in
       Memᴰ.cast (sym r.1)
-      (walked-met det (group_at nodes groups []) (group_at nodes groups member) member root-met
+      (walked-met det (group_at nodes groups []) (group_at nodes groups member) member root_met
       (walks_down nodes groups tree [] member r.0))
 
   -- a state for each group met
@@ -100,10 +100,10 @@ module _ (nodes : List Word) (groups : List ℕ) (tree : Tree nodes) (fits : Fit
   states-length rows = length-map (met_groups nodes groups) (state_of rows nodes groups (met_groups nodes groups))
 
   -- so the number of states is the number of groups
-  pub states-are-groups :
+  pub states-are_groups :
       Deterministic (transitions_of nodes groups) → (rows : List Word) →
       length (states_of rows nodes groups) ≡ length (groups_in groups)
-  states-are-groups det rows =
+  states-are_groups det rows =
       states-length rows
       ∙ same_length (met_groups nodes groups) (groups_in groups) met-distinct (groups_in-distinct groups)
       (λ g m. in_groups_in groups g (met-in g m))

@@ -161,17 +161,17 @@ same_f_closed c rows nodes kind =
 
 module _ (l : Word → Type 0) where
   -- equal tails are an equivalence, kept by more names
-  tails-refl : (u : Word) → TailsEqual l u u
-  tails-refl u = record { tails = λ v. (λ h. h, λ h. h) }
+  tails_refl : (u : Word) → TailsEqual l u u
+  tails_refl u = record { tails = λ v. (λ h. h, λ h. h) }
 
-  tails-sym : (u w : Word) → TailsEqual l u w → TailsEqual l w u
-  tails-sym u w t = record { tails = λ v. ((t.tails v).1, (t.tails v).0) }
+  tails_sym : (u w : Word) → TailsEqual l u w → TailsEqual l w u
+  tails_sym u w t = record { tails = λ v. ((t.tails v).1, (t.tails v).0) }
 
-  tails-trans : (u v w : Word) → TailsEqual l u v → TailsEqual l v w → TailsEqual l u w
-  tails-trans u v w s t = record { tails = λ z. (λ h. (t.tails z).0 ((s.tails z).0 h), λ h. (s.tails z).1 ((t.tails z).1 h)) }
+  tails_trans : (u v w : Word) → TailsEqual l u v → TailsEqual l v w → TailsEqual l u w
+  tails_trans u v w s t = record { tails = λ z. (λ h. (t.tails z).0 ((s.tails z).0 h), λ h. (s.tails z).1 ((t.tails z).1 h)) }
 
-  tails-append : (u w p : Word) → TailsEqual l u w → TailsEqual l (u ++ p) (w ++ p)
-  tails-append u w p t =
+  tails_append : (u w p : Word) → TailsEqual l u w → TailsEqual l (u ++ p) (w ++ p)
+  tails_append u w p t =
       record {
         tails = λ v.
             subst₂ (λ (x y : Word). l x ↔ l y) (sym (append_assoc u p v)) (sym (append_assoc w p v)) (t.tails (p ++ v));
@@ -184,7 +184,7 @@ ways_tails l nodes [] u w f = subst (λ (v : Word). TailsEqual l v w) (sym (appe
 ways_tails l nodes (a ∷ p) u w f =
     let v = f.0 in
     let rest : TailsEqual l ((v ▸ a) ++ p) w = ways_tails l nodes p (v ▸ a) w f.4 in
-    tails-trans l (u ++ (a ∷ p)) (v ++ (a ∷ p)) w (tails-append l u v (a ∷ p) f.2)
+    tails_trans l (u ++ (a ∷ p)) (v ++ (a ∷ p)) w (tails_append l u v (a ∷ p) f.2)
     (subst (λ (z : Word). TailsEqual l z w) (append_assoc v (a ∷ []) p) rest)
 
 module _ (c : Class) (rows nodes : List Word) (l : Word → Type 0) (holds : (r : Word) → In r rows → l r)
@@ -202,9 +202,9 @@ module _ (c : Class) (rows nodes : List Word) (l : Word → Type 0) (holds : (r 
       (z, simp (append_assoc) (simp (append_assoc) at at-s))
 
   -- the rules one by one: contexts, and by f ends and ways back
-  tails-context :
+  tails_context :
       Contextual c.first c.second l → (u w : Word) → OneContext c nodes (TailsEqual l) u w → TailsEqual l u w
-  tails-context contextual u w one =
+  tails_context contextual u w one =
       let p = one.p in
       let q = one.q in
       let one-u = on_word p q one.from_u u one.to_u one.to_u_node one.into_u one.out_of_u in
@@ -216,9 +216,9 @@ module _ (c : Class) (rows nodes : List Word) (l : Word → Type 0) (holds : (r 
       one-u.1 one-w.1 in
       let met-p : TailsEqual l (one.from_u ++ p) (one.from_w ++ p) =
       subst (λ (i : Word). TailsEqual l (one.from_u ++ i) (one.from_w ++ i)) (take-append_seam p q) met in
-      tails-trans l u (one.from_u ++ p) w
-      (tails-sym l (one.from_u ++ p) u (ways_tails l nodes p one.from_u u one.into_u))
-      (tails-trans l (one.from_u ++ p) (one.from_w ++ p) w met-p (ways_tails l nodes p one.from_w w one.into_w))
+      tails_trans l u (one.from_u ++ p) w
+      (tails_sym l (one.from_u ++ p) u (ways_tails l nodes p one.from_u u one.into_u))
+      (tails_trans l (one.from_u ++ p) (one.from_w ++ p) w met-p (ways_tails l nodes p one.from_w w one.into_w))
 
   module _ (in_class : Distinguishable c l) (u w r s : Word) (same_f : f_of c u ≡ f_of c w) (ur : TailsEqual l u r)
       (ws : TailsEqual l w s) where
@@ -244,11 +244,11 @@ pub tails_closed :
     ((w : Word) → In w nodes → (v : Word) × In (w ++ v) rows) → Closed c rows nodes (TailsEqual l)
 tails_closed c rows nodes l in_class holds begin =
     record {
-      reflexive = λ u m. tails-refl l u;
-      symmetric = tails-sym l;
-      transitive = tails-trans l;
-      fork = λ u w a t m n. tails-append l u w (a ∷ []) t;
-      context = λ kind. tails-context c rows nodes l holds begin (of_kind true kind);
+      reflexive = λ u m. tails_refl l u;
+      symmetric = tails_sym l;
+      transitive = tails_trans l;
+      fork = λ u w a t m n. tails_append l u w (a ∷ []) t;
+      context = λ kind. tails_context c rows nodes l holds begin (of_kind true kind);
       ends = λ kind u w r s e m n o q ur ws.
           tails-ends c rows nodes l holds begin (of_kind false kind) u w r s e ur ws;
       back = λ kind u w r s a e m n o q ur ws i j after.

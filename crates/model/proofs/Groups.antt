@@ -12,8 +12,8 @@ use lib.ListN.{length, length-map}
 use Rattle.model.specs.Classes.{Word}
 use Rattle.base.specs.Lists.{numbers_from, Distinct}
 use Rattle.model.specs.Joinings.{apart, group_at, groups_in, merged_to, merged, member_of, group_accepts}
-use Rattle.base.proofs.Tests.{Tells, tells_eqb, tells_and, tells-any, tells_by, tells_is_in, tells_has_row, decided, eq_dec}
-use Rattle.base.proofs.Lists.{map-in, distinct-length, distinct-shorter}
+use Rattle.base.proofs.Tests.{Tells, tells_eqb, tells_and, tells_any, tells_by, tells_is_in, tells_has_row, decided, eq_dec}
+use Rattle.base.proofs.Lists.{map-in, distinct_length, distinct_shorter}
 use Rattle.base.proofs.Places.{length-numbers_from}
 use Rattle.model.proofs.GroupCases.{group_at-first, group_at-later, first_or_later, no_groups, fits_rest, member_of-first}
 use Rattle.model.proofs.GroupCases.{member_of-later, lower, lower_cases, told-either, merged-either, merged-neither}
@@ -176,7 +176,7 @@ pub tells_accepts :
     Tells (group_accepts rows nodes groups g) ((w : Word) × In w nodes × (group_at nodes groups w ≡ g) × In w rows)
 unfolding group_accepts
 tells_accepts rows nodes groups g =
-    tells_by (tells-any (λ w. tells_and (tells_eqb (group_at nodes groups w) g) (tells_has_row w rows)) nodes)
+    tells_by (tells_any (λ w. tells_and (tells_eqb (group_at nodes groups w) g) (tells_has_row w rows)) nodes)
     (λ h. (h.0, h.1, h.2.0, h.2.1))
     (λ h. (h.0, h.1, (h.2, h.3)))
 
@@ -217,7 +217,7 @@ groups_in-distinct (x ∷ groups) = go (decided (tells_is_in x (groups_in groups
 
 -- so they are no more than the groups listed
 pub groups_in-length : (groups : List ℕ) → length (groups_in groups) ≤ length groups
-groups_in-length groups = distinct-length (groups_in groups) groups (groups_in-distinct groups) (λ g m. groups_in-in groups g m)
+groups_in-length groups = distinct_length (groups_in groups) groups (groups_in-distinct groups) (λ g m. groups_in-in groups g m)
 
 -- a merge of two groups leaves groups that were there
 merged-in : (groups : List ℕ) (x y : ℕ) → In x groups → In y groups → (g : ℕ) → In g (merged x y groups) → In g groups
@@ -252,7 +252,7 @@ merged-fewer groups x y m n d =
         (g : ℕ) → (g ≡ x) ⊎ (g ≡ y) → (g ≡ lower x y → ⊥) → In g groups →
         length (groups_in (merged x y groups)) < length (groups_in groups)
     fewer g h k l =
-        distinct-shorter (groups_in (merged x y groups)) (groups_in groups) g (groups_in-distinct (merged x y groups))
+        distinct_shorter (groups_in (merged x y groups)) (groups_in groups) g (groups_in-distinct (merged x y groups))
         (λ z w. in_groups_in groups z (merged-in groups x y m n z (groups_in-in (merged x y groups) z w)))
         (in_groups_in groups g l)
         (λ w. merged-out groups x y g h k (groups_in-in (merged x y groups) g w))

@@ -19,11 +19,11 @@ use Rattle.model.specs.Quotients.{book_states}
 use Rattle.model.specs.Claims.{all_among}
 use Rattle.model.specs.Sources.{AdmittedBy, ContextualStates, Passing, OverNames, Sample}
 use Rattle.base.proofs.Tests.{tells_itself, tells_all, same_tests}
-use Rattle.base.proofs.Lists.{in-filterBy, filterBy-in}
+use Rattle.base.proofs.Lists.{in_filter_by, filter_by-in}
 use Rattle.model.proofs.Books.{tells_all_below}
 use Rattle.model.proofs.DifferentRows.{tells_among}
 use Rattle.model.proofs.Joined.{Joined, joined_groups-joined}
-use Rattle.model.proofs.ContextualTables.{states-contextual, book_contextual}
+use Rattle.model.proofs.ContextualTables.{states_contextual, book_contextual}
 use Rattle.model.proofs.InTheClass.{admits-row, admits-none, admits-smallest}
 use Rattle.model.proofs.Samples.{short_words, in_short_words, enough, after-all, told-by-short}
 
@@ -73,7 +73,7 @@ module _
     short-admitted r e few =
         admits-row f.class_is f.items (joined_groups f.class_is f.items) joined r
         ((tells_among sample-rows f.items).fact there r
-        (in-filterBy test (short_words m (enough m k))
+        (in_filter_by test (short_words m (enough m k))
         (in_short_words m (enough m k) r ((tells_all_below m r).fact (below r e)) few) e))
 
     -- and with them all words of the set
@@ -84,7 +84,7 @@ module _
         (book_contextual f (ap (λ (c : Class). c.kind) class)) in
         told-by-short k (Passing test) (AdmittedBy (book_states f))
         (after-all k h (Passing test) low in-l)
-        (after-all k h (AdmittedBy (book_states f)) low (states-contextual k h (book_states f) met))
+        (after-all k h (AdmittedBy (book_states f)) low (states_contextual k h (book_states f) met))
         m (λ x e. (tells_all_below m x).fact (below x e)) short-admitted (length r) r (omega arith)
 
     same-words : (r : Word) → admits (book_states f) r ≡ test r
@@ -98,6 +98,6 @@ module _
         rows = sample-rows;
         in_set =
             (tells_all (λ r. tells_itself (test r)) sample-rows).test
-            (λ r n. (filterBy-in test (short_words m (enough m k)) n).1);
+            (λ r n. (filter_by-in test (short_words m (enough m k)) n).1);
         tells = same-words;
       }

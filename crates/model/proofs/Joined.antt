@@ -25,13 +25,13 @@ use Rattle.model.proofs.Numbering.{numbering_law}
 
 module _ (R : Word → Word → Type 0) (nodes nodes' : List Word) (there' : (w : Word) → In w nodes → In w nodes') where
   -- ways, contexts and closure hold with any nodes that hold these
-  pub ways-there : (p u w : Word) → Ways nodes R u p w → Ways nodes' R u p w
-  ways-there [] u w f = f
-  ways-there (a ∷ p) u w f =
-      (f.0, there' f.0 f.1, f.2, there' (f.0 ▸ a) f.3, ways-there p (f.0 ▸ a) w f.4)
+  pub ways_there : (p u w : Word) → Ways nodes R u p w → Ways nodes' R u p w
+  ways_there [] u w f = f
+  ways_there (a ∷ p) u w f =
+      (f.0, there' f.0 f.1, f.2, there' (f.0 ▸ a) f.3, ways_there p (f.0 ▸ a) w f.4)
 
-  pub context-there : (c : Class) (u w : Word) → OneContext c nodes R u w → OneContext c nodes' R u w
-  context-there c u w x =
+  pub context_there : (c : Class) (u w : Word) → OneContext c nodes R u w → OneContext c nodes' R u w
+  context_there c u w x =
       record {
         p = x.p;
         q = x.q;
@@ -47,10 +47,10 @@ module _ (R : Word → Word → Type 0) (nodes nodes' : List Word) (there' : (w 
         w_node = there' w x.w_node;
         to_u_node = there' x.to_u x.to_u_node;
         to_w_node = there' x.to_w x.to_w_node;
-        into_u = ways-there x.p x.from_u u x.into_u;
-        into_w = ways-there x.p x.from_w w x.into_w;
-        out_of_u = ways-there x.q u x.to_u x.out_of_u;
-        out_of_w = ways-there x.q w x.to_w x.out_of_w;
+        into_u = ways_there x.p x.from_u u x.into_u;
+        into_w = ways_there x.p x.from_w w x.into_w;
+        out_of_u = ways_there x.q u x.to_u x.out_of_u;
+        out_of_w = ways_there x.q w x.to_w x.out_of_w;
       }
 
 -- a relation closed for more nodes and rows is closed for these
@@ -63,7 +63,7 @@ closed_there c rows rows' nodes nodes' R n r closed =
       symmetric = closed.symmetric;
       transitive = closed.transitive;
       fork = λ u w a e m m'. closed.fork u w a e (n (u ▸ a) m) (n (w ▸ a) m');
-      context = λ k u w x. closed.context k u w (context-there R nodes nodes' n c u w x);
+      context = λ k u w x. closed.context k u w (context_there R nodes nodes' n c u w x);
       ends = λ k u w x y e mu mw mx my p q rx ry.
           closed.ends k u w x y e (n u mu) (n w mw) (n x mx) (n y my) p q (r x rx) (r y ry);
       back = λ k u w x y a e mu mw mx my p q ma mb z.
@@ -104,16 +104,16 @@ joined_groups-joined c rows =
 
 module _ (c : Class) (rows : List Word) (groups : List ℕ) (joined : Joined c rows groups) where
   -- members of a group have the same f
-  pub members-agree : eqb c.kind 0 ≡ false → Inside (tree_of rows) groups (SameF c)
-  members-agree kind = joined.inside (SameF c) (same_f_closed c rows (tree_of rows) kind)
+  pub members_agree : eqb c.kind 0 ≡ false → Inside (tree_of rows) groups (SameF c)
+  members_agree kind = joined.inside (SameF c) (same_f_closed c rows (tree_of rows) kind)
 
   -- its kernel is closed
-  pub joined-closed : Closed c rows (tree_of rows) (Ker (tree_of rows) groups)
-  joined-closed = ker_closed c rows (tree_of rows) groups (tree_of-tree rows) joined.fits joined.full members-agree
+  pub joined_closed : Closed c rows (tree_of rows) (Ker (tree_of rows) groups)
+  joined_closed = ker_closed c rows (tree_of rows) groups (tree_of-tree rows) joined.fits joined.full members_agree
 
   -- its automaton is deterministic
-  pub joined-deterministic : Deterministic (transitions_of (tree_of rows) groups)
-  joined-deterministic = full_deterministic c rows (tree_of rows) groups (tree_of-tree rows) joined.fits joined.full
+  pub joined_deterministic : Deterministic (transitions_of (tree_of rows) groups)
+  joined_deterministic = full_deterministic c rows (tree_of rows) groups (tree_of-tree rows) joined.fits joined.full
 
 -- two full joinings, of books with the same set of rows, have the same states
 pub joined_states :
@@ -131,16 +131,16 @@ joined_states c rows rows' groups groups' same j j' =
       tree' = tree_of-tree rows';
       fits = j.fits;
       fits' = j'.fits;
-      det = joined-deterministic c rows groups j;
-      det' = joined-deterministic c rows' groups' j';
+      det = joined_deterministic c rows groups j;
+      det' = joined_deterministic c rows' groups' j';
       same_nodes = λ w. (go w, back w);
       same_rows = same;
       inside =
           j.inside (Ker nodes' groups')
-          (closed_there c rows rows' nodes nodes' (Ker nodes' groups') go (λ r. (same r).0) (joined-closed c rows' groups' j'));
+          (closed_there c rows rows' nodes nodes' (Ker nodes' groups') go (λ r. (same r).0) (joined_closed c rows' groups' j'));
       inside' =
           j'.inside (Ker nodes groups)
-          (closed_there c rows' rows nodes' nodes (Ker nodes groups) back (λ r. (same r).1) (joined-closed c rows groups j));
+          (closed_there c rows' rows nodes' nodes (Ker nodes groups) back (λ r. (same r).1) (joined_closed c rows groups j));
     })
 
 -- ---- the joining law
@@ -172,7 +172,7 @@ joining_law c rows nodes groups tree fits same inside closed =
       fits = fits;
       fits' = j.fits;
       det = closed_deterministic c rows nodes groups tree closed;
-      det' = joined-deterministic c rows (joined_groups c rows) j;
+      det' = joined_deterministic c rows (joined_groups c rows) j;
       same_nodes = same;
       same_rows = λ r. (λ m. m, λ m. m);
       inside = inside;

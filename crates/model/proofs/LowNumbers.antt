@@ -56,9 +56,9 @@ unfolding field_fault
 field_low kind f mark body =
     let item = either_low (eqb mark row_mark) (row_fault f body) (state_fault f body) (row_low f body) (state-low f body) in
     let more = either_low (eqb mark class_mark) (class_fault body) _ (class_low body) item in
-    let by-mark = either_low (eqb mark name_mark) (name_fault f.names body) _ (name_low f.names body) more in
+    let by_mark_lem = either_low (eqb mark name_mark) (name_fault f.names body) _ (name_low f.names body) more in
     let may-not = not (may_come kind f.stage mark) in
-    first_low (when may-not misplaced) _ (when-low may-not misplaced (omega arith)) by-mark
+    first_low (when may-not misplaced) _ (when-low may-not misplaced (omega arith)) by_mark_lem
 
 -- what reading from any file on comes to, whatever the fuel
 from_low : (l : ℕ) (kind : FileKind) (f : File) (s : List ℕ) → (read_from l kind f s).number < output_too_short

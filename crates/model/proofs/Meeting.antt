@@ -177,12 +177,12 @@ module _ (ts : List Transition) (start : ℕ) where
           }
 
   -- n looks more, one after the other
-  pub look-all : (n i : ℕ) (met : List ℕ) → MetUpTo ts start i met → MetUpTo ts start (n + i) (met_from n i ts met)
+  pub look_all : (n i : ℕ) (met : List ℕ) → MetUpTo ts start i met → MetUpTo ts start (n + i) (met_from n i ts met)
   unfolding met_from
-  look-all zero i met r =
+  look_all zero i met r =
       let e : i ≡ 0 + i = omega arith in
       subst (λ (k : ℕ). MetUpTo ts start k met) e r
-  look-all (suc n) i met r =
+  look_all (suc n) i met r =
       let next : List ℕ = cond (ltb i (length met)) (met_with met (arcs_out_of (get_or met i 0) ts)) met in
       let e : n + suc i ≡ suc n + i = omega arith in
-      subst (λ (k : ℕ). MetUpTo ts start k (met_from n (suc i) ts next)) e (look-all n (suc i) next (look i met r))
+      subst (λ (k : ℕ). MetUpTo ts start k (met_from n (suc i) ts next)) e (look_all n (suc i) next (look i met r))

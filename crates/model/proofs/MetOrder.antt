@@ -138,13 +138,13 @@ module _ (rows nodes : List Word) (groups every : List ℕ) where
       ∙ ap (λ (m : ℕ). met_by_states (suc i) m later) counted
 
   -- so over all states it meets as many as there are
-  pub metByStates-follows :
+  pub met_by_states-follows :
       (n i : ℕ) (met : List ℕ) → every ≡ met_from n i (transitions_of nodes groups) met → length every ≤ n + i →
       met_by_states i (length met) (map (state_of rows nodes groups every) (drop i every)) ≡ length every
   unfolding met_from
-  metByStates-follows zero i met e h = past_end i (length met) (omega arith) ∙ ap length (sym e)
-  metByStates-follows (suc n) i met e h =
-      go (ltb i (length met)) refl (λ m d. metByStates-follows n (suc i) m d (omega arith))
+  met_by_states-follows zero i met e h = past_end i (length met) (omega arith) ∙ ap length (sym e)
+  met_by_states-follows (suc n) i met e h =
+      go (ltb i (length met)) refl (λ m d. met_by_states-follows n (suc i) m d (omega arith))
     where
       go :
           (b : Bool) → ltb i (length met) ≡ b →

@@ -10,7 +10,7 @@ use Rattle.base.specs.Limits.{name_limit}
 use Rattle.base.specs.Lists.{before, last_or}
 use Rattle.model.specs.Fields.{standard, unread, name_list, Ascends, above, read_names, read_with}
 use Rattle.model.specs.Calls.{names_of}
-use Rattle.base.proofs.Lists.{lastOr-snoc}
+use Rattle.base.proofs.Lists.{last_or-snoc}
 use Rattle.base.proofs.Tests.{before-trans}
 use Rattle.model.proofs.FieldLaws.{fitting}
 use Rattle.model.proofs.Turns.{read_keeps}
@@ -28,7 +28,7 @@ unfolding above
 ascend_from d names [] ok = tt
 ascend_from d names (n ∷ more) ok = (
   ok.0.in_order,
-  subst (λ (z : List ℕ). AscendFrom z more) (lastOr-snoc d names n) (ascend_from d (names ++ (n ∷ [])) more ok.1),
+  subst (λ (z : List ℕ). AscendFrom z more) (last_or-snoc d names n) (ascend_from d (names ++ (n ∷ [])) more ok.1),
 )
 
 -- so all of them stand above d

@@ -86,8 +86,8 @@ known_test names n =
 
 module _ (names : List (List ℕ)) (ascending : Ascends names) where
   -- a name stands before none that has a lower place, nor before itself
-  not-before : (i j : ℕ) → i ≤ j → j < length names → before (get_or names j []) (get_or names i []) ≡ true → ⊥
-  not-before i j l h o =
+  not_before : (i j : ℕ) → i ≤ j → j < length names → before (get_or names j []) (get_or names i []) ≡ true → ⊥
+  not_before i j l h o =
       ⊎_elim
       (λ (q : j ≤ i).
       let is : j ≡ i = omega arith in
@@ -98,21 +98,21 @@ module _ (names : List (List ℕ)) (ascending : Ascends names) where
       (le_or_lt j i)
 
   -- a name before the one at place j stands at no place from j on
-  pub places-below :
+  pub places_below :
       (n : List ℕ) (j : ℕ) → before n (get_or names j []) ≡ true →
       (i : ℕ) → i < length names → get_or names i [] ≡ n → i < j
-  places-below n j o i h e =
+  places_below n j o i h e =
       ⊎_elim
-      (λ (l : j ≤ i). absurd (not-before j i l h (subst (λ (z : List ℕ). before z (get_or names j []) ≡ true) (sym e) o)))
+      (λ (l : j ≤ i). absurd (not_before j i l h (subst (λ (z : List ℕ). before z (get_or names j []) ≡ true) (sym e) o)))
       (λ (l : i < j). l) (le_or_lt j i)
 
   -- and a name after that one stands at no place up to j
-  pub places-above :
+  pub places_above :
       (n : List ℕ) (j : ℕ) → j < length names → before (get_or names j []) n ≡ true →
       (i : ℕ) → get_or names i [] ≡ n → j < i
-  places-above n j h o i e =
+  places_above n j h o i e =
       ⊎_elim
-      (λ (l : i ≤ j). absurd (not-before i j l h (subst (λ (z : List ℕ). before (get_or names j []) z ≡ true) (sym e) o)))
+      (λ (l : i ≤ j). absurd (not_before i j l h (subst (λ (z : List ℕ). before (get_or names j []) z ≡ true) (sym e) o)))
       (λ (l : j < i). l) (le_or_lt i j)
 
   -- places of one name
@@ -126,8 +126,8 @@ module _ (names : List (List ℕ)) (ascending : Ascends names) where
       (le_or_lt i j)
 
   -- the name at a place has that number
-  pub number-at-place : (i : ℕ) → i < length names → name_number names (get_or names i []) ≡ i
-  number-at-place i h =
+  pub number-at_place : (i : ℕ) → i < length names → name_number names (get_or names i []) ≡ i
+  number-at_place i h =
       let n = name_number names (get_or names i []) in
       let known = number_of-known names (get_or names i []) (nth_in [] names i h) in
       let low : n ≤ i = same_place n i known.0 known.1 in
@@ -140,4 +140,4 @@ module _ (names : List (List ℕ)) (ascending : Ascends names) where
       same_tests (tells_eqb (name_number names n) i) (tells_same n (get_or names i []))
       (λ (e : name_number names n ≡ i).
       sym (name_of-number names n (omega arith)) ∙ ap (λ (k : ℕ). get_or names k []) e)
-      (λ e. ap (name_number names) e ∙ number-at-place i h)
+      (λ e. ap (name_number names) e ∙ number-at_place i h)

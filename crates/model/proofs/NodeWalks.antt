@@ -16,9 +16,9 @@ use Rattle.model.specs.Sources.{Reaches}
 use Rattle.model.proofs.Groups.{member_of_lem}
 use Rattle.model.proofs.Transitions.{walks_unique, walks_down}
 use Rattle.model.proofs.Trees.{tree_of-tree}
-use Rattle.model.proofs.FirstMet.{met-distinct, root-met, met-root, met-in, states-length}
+use Rattle.model.proofs.FirstMet.{met-distinct, root_met, met-root, met-in, states-length}
 use Rattle.model.proofs.Admits.{Walked, all_taken, stopped, walked}
-use Rattle.model.proofs.Joined.{Joined, joined-deterministic}
+use Rattle.model.proofs.Joined.{Joined, joined_deterministic}
 
 module _ (c : Class) (rows : List Word) (groups : List ℕ) (joined : Joined c rows groups) where
   -- the prefix tree, the groups met, the arcs and the states
@@ -36,17 +36,17 @@ module _ (c : Class) (rows : List Word) (groups : List ℕ) (joined : Joined c r
 
   -- its automaton is deterministic
   det : Deterministic ts
-  det = joined-deterministic c rows groups joined
+  det = joined_deterministic c rows groups joined
 
   -- a word of the tree reaches the state of its group
-  pub node-reaches : (w : Word) → In w nodes → Reaches states 0 w (index_in (group_at nodes groups w) met)
-  node-reaches w m = go (walked rows nodes groups (tree_of-tree rows) joined.fits det w root 0 root-is-met)
+  pub node_reaches : (w : Word) → In w nodes → Reaches states 0 w (index_in (group_at nodes groups w) met)
+  node_reaches w m = go (walked rows nodes groups (tree_of-tree rows) joined.fits det w root 0 root-is-met)
     where
       root : ℕ
       root = group_at nodes groups []
 
       root-is-met : In root met
-      root-is-met = root-met nodes groups (tree_of-tree rows) joined.fits
+      root-is-met = root_met nodes groups (tree_of-tree rows) joined.fits
 
       go : Walked ts states met root 0 w → Reaches states 0 w (index_in (group_at nodes groups w) met)
       go (all_taken y by_word_lem there e) =
@@ -74,5 +74,5 @@ module _ (c : Class) (rows : List Word) (groups : List ℕ) (joined : Joined c r
         w,
         member.0,
         subst (λ (k : ℕ). Reaches states 0 w k) (ap (λ (k : ℕ). index_in k met) member.1 ∙ place)
-            (node-reaches w member.0),
+            (node_reaches w member.0),
       )

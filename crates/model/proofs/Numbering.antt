@@ -19,7 +19,7 @@ use Rattle.model.proofs.Notions.{Tree, Fits, Inside, Ker, ◌▸◌}
 use Rattle.model.proofs.Groups.{tells_accepts}
 use Rattle.model.proofs.Transitions.{in_transitions, arc-node}
 use Rattle.model.proofs.Arcs.{arcs_out_of-ascending, arcs_out_of-in, in_arcs_out_of}
-use Rattle.model.proofs.Paired.{ArcsAgree, ascending-paired, metFrom-paired, renumbered-paired, paired-map}
+use Rattle.model.proofs.Paired.{ArcsAgree, ascending_paired, met_from-paired, renumbered-paired, paired_map}
 
 -- two descriptions of one partition of one tree
 pub record SamePartition (rows rows' nodes nodes' : List Word) (groups groups' : List ℕ) : Type 0 where
@@ -136,7 +136,7 @@ module _
         Paired (ArcsAgree (Corresponds nodes nodes' groups groups'))
         (arcs_out_of g (transitions_of nodes groups)) (arcs_out_of g' (transitions_of nodes' groups'))
     arcs-paired g g' r =
-        ascending-paired 0 (arcs_out_of g (transitions_of nodes groups)) (arcs_out_of g' (transitions_of nodes' groups'))
+        ascending_paired 0 (arcs_out_of g (transitions_of nodes groups)) (arcs_out_of g' (transitions_of nodes' groups'))
         (arcs_out_of-ascending g (transitions_of nodes groups)) (arcs_out_of-ascending g' (transitions_of nodes' groups'))
         (arc-there same g g' r)
         (λ b m.
@@ -157,7 +157,7 @@ module _
         let first = met_from (length nodes) 0 ts start in
         subst (λ (n : ℕ). Paired (Corresponds nodes nodes' groups groups') first (met_from n 0 ts' start'))
         lengths
-        (metFrom-paired one-to-one ts ts' arcs-paired (length nodes) 0 (pair (at-node same [] same.tree.root) none))
+        (met_from-paired one-to-one ts ts' arcs-paired (length nodes) 0 (pair (at-node same [] same.tree.root) none))
 
     -- and become the same state
     state-same :
@@ -176,5 +176,5 @@ pub numbering_law :
     states_of rows nodes groups ≡ states_of rows' nodes' groups'
 unfolding states_of
 numbering_law rows rows' nodes nodes' groups groups' same =
-    paired-map (state_of rows nodes groups (met_groups nodes groups)) (state_of rows' nodes' groups' (met_groups nodes' groups'))
+    paired_map (state_of rows nodes groups (met_groups nodes groups)) (state_of rows' nodes' groups' (met_groups nodes' groups'))
     (state-same same) (met-paired same)

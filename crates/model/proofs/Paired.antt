@@ -28,75 +28,75 @@ pub record ArcsAgree (R : ℕ → ℕ → Type 0) (a b : Arc) : Type 0 where
 
 module _ {A B : Type 0} {R : A → B → Type 0} where
   -- pairs in lists of one length, appended, chosen, by place and mapped
-  pub paired-length : {xs : List A} {ys : List B} → Paired R xs ys → length xs ≡ length ys
-  paired-length none = refl
-  paired-length (pair {l₁ = xs} {l₂ = ys} r rest) = ap suc (paired-length {xs = xs} {ys = ys} rest)
+  pub paired_length : {xs : List A} {ys : List B} → Paired R xs ys → length xs ≡ length ys
+  paired_length none = refl
+  paired_length (pair {l₁ = xs} {l₂ = ys} r rest) = ap suc (paired_length {xs = xs} {ys = ys} rest)
 
-  pub paired-append : {xs us : List A} {ys vs : List B} → Paired R xs ys → Paired R us vs → Paired R (xs ++ us) (ys ++ vs)
-  paired-append none q = q
-  paired-append (pair r rest) q = pair r (paired-append rest q)
+  pub paired_append : {xs us : List A} {ys vs : List B} → Paired R xs ys → Paired R us vs → Paired R (xs ++ us) (ys ++ vs)
+  paired_append none q = q
+  paired_append (pair r rest) q = pair r (paired_append rest q)
 
-  pub paired-cond :
+  pub paired_cond :
       {xs us : List A} {ys vs : List B} (b c : Bool) → b ≡ c → (b ≡ true → Paired R xs ys) → Paired R us vs →
       Paired R (cond b xs us) (cond c ys vs)
-  paired-cond true true e p q = p refl
-  paired-cond true false e p q = absurd (true≢false e)
-  paired-cond false true e p q = absurd (false≢true e)
-  paired-cond false false e p q = q
+  paired_cond true true e p q = p refl
+  paired_cond true false e p q = absurd (true≢false e)
+  paired_cond false true e p q = absurd (false≢true e)
+  paired_cond false false e p q = q
 
-  pub paired-nth :
+  pub paired_nth :
       {xs : List A} {ys : List B} → Paired R xs ys → (i : ℕ) (d : A) (e : B) → i < length xs → R (get_or xs i d) (get_or ys i e)
-  paired-nth none i d e h = let z : ⊥ = omega arith in absurd z
-  paired-nth (pair r rest) zero d e h = r
-  paired-nth (pair {l₁ = xs} {l₂ = ys} r rest) (suc i) d e h =
+  paired_nth none i d e h = let z : ⊥ = omega arith in absurd z
+  paired_nth (pair r rest) zero d e h = r
+  paired_nth (pair {l₁ = xs} {l₂ = ys} r rest) (suc i) d e h =
       let low : i < length xs = omega arith in
-      paired-nth {xs = xs} {ys = ys} rest i d e low
+      paired_nth {xs = xs} {ys = ys} rest i d e low
 
-  pub paired-map :
+  pub paired_map :
       {C : Type 0} (f : A → C) (g : B → C) → ((x : A) (y : B) → R x y → f x ≡ g y) → {xs : List A} {ys : List B} →
       Paired R xs ys → map f xs ≡ map g ys
-  paired-map f g h none = refl
-  paired-map {C} f g h (pair {a = x} {b = y} r rest) = ap₂ (λ (c : C) (cs : List C). c ∷ cs) (h x y r) (paired-map f g h rest)
+  paired_map f g h none = refl
+  paired_map {C} f g h (pair {a = x} {b = y} r rest) = ap₂ (λ (c : C) (cs : List C). c ∷ cs) (h x y r) (paired_map f g h rest)
 
 -- a relation of groups that is one to one, by its tests
 module _ {R : ℕ → ℕ → Type 0} (one-to-one : (g g' h h' : ℕ) → R g g' → R h h' → eqb g h ≡ eqb g' h') where
   -- what is in the one list is in the other, at the same place
-  isIn-paired : (x y : ℕ) {xs ys : List ℕ} → R x y → Paired R xs ys → is_in x xs ≡ is_in y ys
+  is_in-paired : (x y : ℕ) {xs ys : List ℕ} → R x y → Paired R xs ys → is_in x xs ≡ is_in y ys
   unfolding is_in any
-  isIn-paired x y r none = refl
-  isIn-paired x y r (pair {a = u} {b = v} {l₁ = us} {l₂ = vs} s rest) =
-      ap₂ (λ (b c : Bool). b || c) (one-to-one x y u v r s) (isIn-paired x y {xs = us} {ys = vs} r rest)
+  is_in-paired x y r none = refl
+  is_in-paired x y r (pair {a = u} {b = v} {l₁ = us} {l₂ = vs} s rest) =
+      ap₂ (λ (b c : Bool). b || c) (one-to-one x y u v r s) (is_in-paired x y {xs = us} {ys = vs} r rest)
 
-  indexIn-paired : (x y : ℕ) {xs ys : List ℕ} → R x y → Paired R xs ys → index_in x xs ≡ index_in y ys
+  index_in-paired : (x y : ℕ) {xs ys : List ℕ} → R x y → Paired R xs ys → index_in x xs ≡ index_in y ys
   unfolding index_in
-  indexIn-paired x y r none = refl
-  indexIn-paired x y r (pair {a = u} {b = v} {l₁ = us} {l₂ = vs} s rest) =
+  index_in-paired x y r none = refl
+  index_in-paired x y r (pair {a = u} {b = v} {l₁ = us} {l₂ = vs} s rest) =
       ap₂ (λ (b : Bool) (n : ℕ). elim b as (λ c. ℕ) [ true ↦ 0 | false ↦ suc n ])
-      (one-to-one x y u v r s) (indexIn-paired x y {xs = us} {ys = vs} r rest)
+      (one-to-one x y u v r s) (index_in-paired x y {xs = us} {ys = vs} r rest)
 
   -- the groups met by agreeing arcs are paired
-  metWith-paired :
+  met_with-paired :
       {met met' : List ℕ} {arcs arcs' : List Arc} → Paired R met met' → Paired (ArcsAgree R) arcs arcs' →
       Paired R (met_with met arcs) (met_with met' arcs')
   unfolding met_with
-  metWith-paired m none = m
-  metWith-paired {met} {met'} m (pair {a = a} {b = b} s rest) =
-      metWith-paired
-      (paired-cond (is_in a.to met) (is_in b.to met') (isIn-paired a.to b.to s.targets m) (λ e. m)
-      (paired-append m (pair s.targets none)))
+  met_with-paired m none = m
+  met_with-paired {met} {met'} m (pair {a = a} {b = b} s rest) =
+      met_with-paired
+      (paired_cond (is_in a.to met) (is_in b.to met') (is_in-paired a.to b.to s.targets m) (λ e. m)
+      (paired_append m (pair s.targets none)))
       rest
 
   -- and so are all groups met, where arcs out of related groups agree
-  pub metFrom-paired :
+  pub met_from-paired :
       (ts ts' : List Transition) →
       ((g g' : ℕ) → R g g' → Paired (ArcsAgree R) (arcs_out_of g ts) (arcs_out_of g' ts')) →
       (n i : ℕ) {met met' : List ℕ} → Paired R met met' → Paired R (met_from n i ts met) (met_from n i ts' met')
   unfolding met_from
-  metFrom-paired ts ts' outs zero i m = m
-  metFrom-paired ts ts' outs (suc n) i {met} {met'} m =
-      metFrom-paired ts ts' outs n (suc i)
-      (paired-cond (ltb i (length met)) (ltb i (length met')) (ap (λ (k : ℕ). ltb i k) (paired-length m))
-      (λ e. metWith-paired m (outs (get_or met i 0) (get_or met' i 0) (paired-nth m i 0 0 (ltb-true i (length met) e)))) m)
+  met_from-paired ts ts' outs zero i m = m
+  met_from-paired ts ts' outs (suc n) i {met} {met'} m =
+      met_from-paired ts ts' outs n (suc i)
+      (paired_cond (ltb i (length met)) (ltb i (length met')) (ap (λ (k : ℕ). ltb i k) (paired_length m))
+      (λ e. met_with-paired m (outs (get_or met i 0) (get_or met' i 0) (paired_nth m i 0 0 (ltb-true i (length met) e)))) m)
 
   -- and the renumbered arcs are the same
   pub renumbered-paired :
@@ -104,8 +104,8 @@ module _ {R : ℕ → ℕ → Type 0} (one-to-one : (g g' h h' : ℕ) → R g g'
       renumbered met arcs ≡ renumbered met' arcs'
   unfolding renumbered
   renumbered-paired {met} {met'} m p =
-      paired-map (λ (a : Arc). arc a.name (index_in a.to met)) (λ (b : Arc). arc b.name (index_in b.to met'))
-      (λ a b s. ap₂ arc s.names (indexIn-paired a.to b.to s.targets m)) p
+      paired_map (λ (a : Arc). arc a.name (index_in a.to met)) (λ (b : Arc). arc b.name (index_in b.to met'))
+      (λ a b s. ap₂ arc s.names (index_in-paired a.to b.to s.targets m)) p
 
 -- ascending arcs, each with an agreeing one on the other side, agree one by one
 module _ {R : ℕ → ℕ → Type 0} where
@@ -125,19 +125,19 @@ module _ {R : ℕ → ℕ → Type 0} where
           let z : ⊥ = omega arith in
           absurd z
 
-  pub ascending-paired :
+  pub ascending_paired :
       (next : ℕ) (xs ys : List Arc) → Ascending next xs → Ascending next ys →
       ((a : Arc) → In a xs → (b : Arc) × In b ys × ArcsAgree R a b) →
       ((b : Arc) → In b ys → (a : Arc) × In a xs × ArcsAgree R a b) → Paired (ArcsAgree R) xs ys
-  ascending-paired next [] [] p q f g = none
-  ascending-paired next [] (y ∷ ys) p q f g = absurd (Memᴰ.not-nil (g y (here refl)).1)
-  ascending-paired next (x ∷ xs) [] p q f g = absurd (Memᴰ.not-nil (f x (here refl)).1)
-  ascending-paired next (x ∷ xs) (y ∷ ys) p q f g =
+  ascending_paired next [] [] p q f g = none
+  ascending_paired next [] (y ∷ ys) p q f g = absurd (Memᴰ.not-nil (g y (here refl)).1)
+  ascending_paired next (x ∷ xs) [] p q f g = absurd (Memᴰ.not-nil (f x (here refl)).1)
+  ascending_paired next (x ∷ xs) (y ∷ ys) p q f g =
       let agree : ArcsAgree R x y = head-agrees next x y xs ys p q (f x (here refl)) (g y (here refl)) in
       let same : x.name ≡ y.name = agree.names in
       let from : Ascending (suc x.name) ys = subst (λ (n : ℕ). Ascending (suc n) ys) (sym same) q.1 in
       pair agree
-      (ascending-paired (suc x.name) xs ys p.1 from
+      (ascending_paired (suc x.name) xs ys p.1 from
       (λ a m.
       let found = f a (there m) in
       let above = ascending_low (suc x.name) xs a p.1 m in

@@ -21,7 +21,7 @@ use Rattle.base.proofs.Tests.{decided, tells_ltb}
 use Rattle.model.proofs.Notions.{◌▸◌}
 use Rattle.model.proofs.Arcs.{ascending_low}
 use Rattle.model.proofs.Admits.{target_in-here, target_in-there}
-use Rattle.model.proofs.TableWalks.{reaches-append, steps-reaches}
+use Rattle.model.proofs.TableWalks.{reaches_append, steps_reaches}
 
 -- among arcs with ascending names the target by a name is that of the arc with the name
 pub target_of_lem : (next : ℕ) (arcs : List Arc) (z : Arc) → Ascending next arcs → In z arcs → target_in z.name arcs ≡ suc z.to
@@ -53,19 +53,19 @@ module _ (states : List State) (ascending : (q : ℕ) → Ascending 0 (get_or st
       go (inr high) =
           let is : a.to ≡ q = omega (arith, high) in (
             here-by.0 ▸ a.name,
-            reaches-append states 0 i q here-by.0 (a.name ∷ []) here-by.1
-                (steps-reaches states i q (a.name ∷ [])
+            reaches_append states 0 i q here-by.0 (a.name ∷ []) here-by.1
+                (steps_reaches states i q (a.name ∷ [])
                 (a.to, target_of_lem 0 (get_or states i empty_state).arcs a (ascending i) among, is)),
           )
 
   -- what the arcs of a state that is reached meet
-  arcs-reached :
+  arcs_reached :
       (i : ℕ) → (w : Word) × Reaches states 0 w i → (arcs : List Arc) →
       ((a : Arc) → In a arcs → In a (get_or states i empty_state).arcs) → (m : ℕ) → MetReached m → MetReached (met_by_arcs m arcs)
   unfolding met_by_arcs
-  arcs-reached i here-by [] among m met = met
-  arcs-reached i here-by (a ∷ arcs) among m met =
-      go (ltb a.to m) (eqb a.to m) refl (arcs-reached i here-by arcs (λ b n. among b (there n)))
+  arcs_reached i here-by [] among m met = met
+  arcs_reached i here-by (a ∷ arcs) among m met =
+      go (ltb a.to m) (eqb a.to m) refl (arcs_reached i here-by arcs (λ b n. among b (there n)))
     where
       go :
           (b d : Bool) → eqb a.to m ≡ d → ((n : ℕ) → MetReached n → MetReached (met_by_arcs n arcs)) →
@@ -99,7 +99,7 @@ module _ (states : List State) (ascending : (q : ℕ) → Ascending 0 (get_or st
           MetReached (elim b [ true ↦ met_by_states (suc i) (met_by_arcs m s.arcs) rest | false ↦ 0 ])
       go true low again =
           again (met_by_arcs m s.arcs) (tail-eq_of_cons-eq first)
-          (arcs-reached i (met i (ltb-true i m low)) s.arcs
+          (arcs_reached i (met i (ltb-true i m low)) s.arcs
           (λ a n. subst (λ (x : State). In a x.arcs) (sym (head-eq_of_cons-eq first)) n) m met)
       go false low again = λ q h. let z : ⊥ = omega arith in absurd z
 
@@ -110,4 +110,4 @@ module _ (states : List State) (ascending : (q : ℕ) → Ascending 0 (get_or st
       subst MetReached (eqb-true (met_by_states 0 1 states) (length states) numbered)
       (states-reached states 0 1 refl (λ q h.
       let is : 0 ≡ q = omega arith in
-      ([], steps-reaches states 0 q [] is)))
+      ([], steps_reaches states 0 q [] is)))

@@ -28,16 +28,16 @@ first_in (r ∷ rows) h = (r, here refl)
 
 module _ (settings : Settings) (allowed : Allowed settings) where
   -- an accepted book has a row
-  pub accepted-has-row : (s : List ℕ) → Accepted settings s → (r : List ℕ) × In r (book_of settings s).items
-  accepted-has-row s ok =
+  pub accepted_has_row : (s : List ℕ) → Accepted settings s → (r : List ℕ) × In r (book_of settings s).items
+  accepted_has_row s ok =
       let r = accepted_book settings allowed s ok in
       first_in (book_of settings s).items (r.1.some_row (omega (arith, r.0)))
 
   -- its rows are within their limit, and their entries are numbers of its names
-  pub accepted-row :
+  pub accepted_row :
       (s : List ℕ) → Accepted settings s → (r : List ℕ) → In r (book_of settings s).items →
       (length r ≤ row_limit) × ((a : ℕ) → In a r → a < length (book_of settings s).names)
-  accepted-row s ok r m = (tells_row_ok (length (book_of settings s).names) r).fact ((accepted_book settings allowed s ok).1.rows_ok r m)
+  accepted_row s ok r m = (tells_row_ok (length (book_of settings s).names) r).fact ((accepted_book settings allowed s ok).1.rows_ok r m)
 
   -- a table with the book's names and class, and states that can be written, is read back
   pub reads-written :

@@ -96,12 +96,12 @@ module _ (s : List ℕ) (f : File) (a b : ℕ) (body rest : List ℕ) (size : le
   unfolding with_field name_fields flat_map
   with_name low h =
       let no_items = h.no_items (omega arith) in
-      let no-class : leb 2 f.stage ≡ false = lt-leb 2 f.stage (omega arith) in
+      let no_class : leb 2 f.stage ≡ false = lt-leb 2 f.stage (omega arith) in
       record {
         same =
             (λ i. written (f.names ++ (body ∷ [])) false f.class_is (no_items i) rest)
             ∙ fields_more 1 f.names body rest
-            ∙ sym (λ i. written f.names (no-class i) f.class_is (no_items i) (front 1 h i))
+            ∙ sym (λ i. written f.names (no_class i) f.class_is (no_items i) (front 1 h i))
             ∙ h.same;
         no_items = λ p. no_items;
         bytes = (bytes_parts body rest h.bytes.1.1.1).1;
@@ -114,22 +114,22 @@ module _ (s : List ℕ) (f : File) (a b : ℕ) (body rest : List ℕ) (size : le
   unfolding with_field flat_map
   with_class at ok h =
       let no_items = h.no_items (omega arith) in
-      let no-class : leb 2 f.stage ≡ false = lt-leb 2 f.stage (omega arith) in
+      let no_class : leb 2 f.stage ≡ false = lt-leb 2 f.stage (omega arith) in
       record {
         same =
             (λ i. name_fields f.names ++ (class_again body ok i ++ (flat_map (field_bytes 4) (no_items i) ++ rest)))
-            ∙ sym (λ i. written f.names (no-class i) f.class_is (no_items i) (front 2 h i))
+            ∙ sym (λ i. written f.names (no_class i) f.class_is (no_items i) (front 2 h i))
             ∙ h.same;
         no_items = λ p. no_items;
         bytes = (bytes_parts body rest h.bytes.1.1.1).1;
         bodies = h.bodies;
       }
 
-  with-state :
+  with_state_lem :
       2 ≤ f.stage → StateFits (length f.names) f.items body → Rewrites s f (4 ∷ (a ∷ (b ∷ (body ++ rest)))) →
       Rewrites s (with_field f 4 body) rest
   unfolding with_field
-  with-state high fits h =
+  with_state_lem high fits h =
       let parts = bytes_parts body rest h.bytes.1.1.1 in
       let again = body_rewritten (length f.names) body parts.0 fits.state_ok_fact in
       let class-read : leb 2 f.stage ≡ true = le-leb 2 f.stage high in
@@ -153,7 +153,7 @@ module _ (s : List ℕ) (f : File) (a b : ℕ) (body rest : List ℕ) (size : le
   table_step mark (a_name e low fits) h = at_mark (Rewrites s) f a b body rest mark 1 e (with_name low) h
   table_step mark (a_class k e at fits) h = at_mark (Rewrites s) f a b body rest mark 2 e (with_class at fits) h
   table_step mark (a_row k e high fits) h = absurd (false≢true k)
-  table_step mark (a_state k e high fits) h = at_mark (Rewrites s) f a b body rest mark 4 e (with-state high fits) h
+  table_step mark (a_state k e high fits) h = at_mark (Rewrites s) f a b body rest mark 4 e (with_state_lem high fits) h
 
 -- before the first field
 nothing_read : (s : List ℕ) → Bytes s → Rewrites s (unread standard.default_class) s

@@ -12,8 +12,8 @@ use lib.ListN.{length, get_or, take, drop}
 use Rattle.model.specs.Classes.{Word}
 use Rattle.base.specs.Lists.{numbers_from}
 use Rattle.model.specs.Joinings.{Transition, transition, Route, route, routes_from, after_same_arc}
-use Rattle.base.proofs.Tests.{Tells, tells_eqb, tells_and, tells-any, tells_by}
-use Rattle.base.proofs.Lists.{map-in, in-flatMap, flatMap-in}
+use Rattle.base.proofs.Tests.{Tells, tells_eqb, tells_and, tells_any, tells_by}
+use Rattle.base.proofs.Lists.{map-in, in_flat_map, flat_map-in}
 use Rattle.base.proofs.Places.{in_numbers_from, numbers_from-in}
 use Rattle.model.proofs.Notions.{Walks}
 
@@ -25,7 +25,7 @@ pub tells_after_same_arc :
 unfolding after_same_arc
 tells_after_same_arc k h x y r s =
     tells_by
-    (tells-any (λ i. tells_and (tells_eqb (get_or r.groups i 0) x) (tells_eqb (get_or s.groups i 0) y))
+    (tells_any (λ i. tells_and (tells_eqb (get_or r.groups i 0) x) (tells_eqb (get_or s.groups i 0) y))
     (numbers_from (suc k - h) h))
     (λ f. let b = numbers_from-in (suc k - h) h f.0 f.1 in (f.0, b.0, omega (arith, b.0, b.1), f.2.0, f.2.1))
     (λ f. (f.0, in_numbers_from (suc k - h) h f.0 f.1 (omega (arith, f.1, f.2)), (f.3, f.4)))
@@ -42,7 +42,7 @@ module _ (ts : List Transition) where
   route-steps : (n g : ℕ) (r : Route) → In r (routes_from ts (suc n) g) → Steps n g r
   unfolding routes_from
   route-steps n g r m =
-      let f = flatMap-in _ ts m in
+      let f = flat_map-in _ ts m in
       go f.0 f.1 (eqb f.0.from g) refl f.2
     where
       go :
@@ -99,7 +99,7 @@ module _ (ts : List Transition) where
   route-with : (n g a z : ℕ) (s : Route) → In (transition g a z) ts → In s (routes_from ts n z) →
       In (route (a ∷ s.names) (g ∷ s.groups)) (routes_from ts (suc n) g)
   unfolding routes_from
-  route-with n g a z s m k = in-flatMap _ ts m (go (eqb g g) ((tells_eqb g g).test refl))
+  route-with n g a z s m k = in_flat_map _ ts m (go (eqb g g) ((tells_eqb g g).test refl))
     where
       go : (b : Bool) → b ≡ true →
           In (route (a ∷ s.names) (g ∷ s.groups)) (elim b as (λ x. List Route) [

@@ -40,23 +40,23 @@ module _ (kind : FileKind) (c d : Class) (rest : List ℕ) (r : Read) where
       ReadsTo kind (file 1 (names_after l stage names d s) c []) rest r → ReadsTo kind (file stage names c []) (s ++ rest) r
 
   -- at the list's end
-  on-end :
+  on_end :
       (stage : ℕ) (names : List (List ℕ)) (t : Bool) → eqb stage names_met ≡ t →
       (cond t (accepted_file (file stage names d [])) (refused unfinished)).number ≡ 0 →
       ReadsTo kind (file 1 (cond t (accepted_file (file stage names d [])) (refused unfinished)).file_is.names c []) rest r →
       ReadsTo kind (file stage names c []) rest r
-  on-end stage names true e ok again =
+  on_end stage names true e ok again =
       subst (λ (k : ℕ). ReadsTo kind (file k names c []) rest r) (sym (eqb-true stage names_met e)) again
-  on-end stage names false e ok again = let z : ⊥ = omega arith in absurd z
+  on_end stage names false e ok again = let z : ⊥ = omega arith in absurd z
 
   -- at a name
-  on-name :
+  on_name :
       (stage : ℕ) (names : List (List ℕ)) (a b : ℕ) (body more : List ℕ) → length body ≡ 256 * a + b → stage ≤ 1 →
       NameFits names body → ReadsTo kind (file 1 (names ++ (body ∷ [])) c []) (more ++ rest) r →
       ReadsTo kind (file stage names c []) ((1 ∷ (a ∷ (b ∷ (body ++ more)))) ++ rest) r
   unfolding with_field
-  on-name stage names a b body more size low fits again zero h = let z : ⊥ = omega arith in absurd z
-  on-name stage names a b body more size low fits again (suc l) h =
+  on_name stage names a b body more size low fits again zero h = let z : ⊥ = omega arith in absurd z
+  on_name stage names a b body more size low fits again (suc l) h =
       let f = file stage names c [] in
       ap (λ (z : List ℕ). read_from (suc l) kind f (1 ∷ (a ∷ (b ∷ z)))) (append_assoc body more rest)
       ∙ one_field l kind f 1 a b body (more ++ rest) size (name-passes kind stage names [] c body low fits)
@@ -79,7 +79,7 @@ module _ (kind : FileKind) (c d : Class) (rest : List ℕ) (r : Read) where
       go : Turn l name_list f s → ReadsOn l → Result s
       go (ended e q) on =
           subst Result (sym e)
-          (on-end stage names (eqb stage names_met) refl (subst (λ (x : Read). x.number ≡ 0) q ok) (subst Onward q again))
+          (on_end stage names (eqb stage names_met) refl (subst (λ (x : Read). x.number ≡ 0) q ok) (subst Onward q again))
       go (failed n q) on = let z : ⊥ = omega arith in absurd z
       go (went mark a b body more e size fit q) on =
           let name = only_name f mark body (fitting name_list f mark body fit) in
@@ -87,7 +87,7 @@ module _ (kind : FileKind) (c d : Class) (rest : List ℕ) (r : Read) where
           let step : read_from (suc l) name_list f s ≡ read_from l name_list grown more =
           subst (λ (m : ℕ). read_from (suc l) name_list f s ≡ read_from l name_list (with_field f m body) more) name.0 q in
           subst Result (sym (subst (λ (m : ℕ). s ≡ m ∷ (a ∷ (b ∷ (body ++ more)))) name.0 e))
-          (on-name stage names a b body more size name.1 name.2
+          (on_name stage names a b body more size name.1 name.2
           (on 1 (names ++ (body ∷ [])) more (subst (λ (x : Read). x.number ≡ 0) step ok) (subst Onward step again)))
 
 module _ (settings : Settings) where

@@ -13,9 +13,9 @@ use Rattle.model.specs.Fields.{Class}
 use Rattle.model.specs.Classes.{Word}
 use Rattle.model.specs.Joinings.{Transition, transition, transitions_of, groups_in, forks, into_one, by_context, f_of_group}
 use Rattle.model.specs.Joinings.{by_f, by_rule, group_accepts, step, is_open, steps_between, open_steps, is_full}
-use Rattle.base.proofs.Tests.{Tells, tells_eqb, tells_same, tells_and, tells_or, tells_not, tells_by, tells-anyTwo}
+use Rattle.base.proofs.Tests.{Tells, tells_eqb, tells_same, tells_and, tells_or, tells_not, tells_by, tells_any_two}
 use Rattle.base.proofs.Tests.{tells_is_in, tells_itself, eq_dec}
-use Rattle.base.proofs.Lists.{in-flatMap, in-filterBy}
+use Rattle.base.proofs.Lists.{in_flat_map, in_filter_by}
 use Rattle.model.proofs.Groups.{in_groups_in, groups_in-in}
 use Rattle.model.proofs.Contexts.{paths_from}
 pub use Rattle.model.proofs.Contexts.{TwoPaths, tells_context}
@@ -49,7 +49,7 @@ tells_forks :
 unfolding forks
 tells_forks ts x y =
     tells_by
-    (tells-anyTwo
+    (tells_any_two
     (λ s t.
     tells_and (tells_and (tells_eqb s.from t.from) (tells_eqb s.name t.name))
     (tells_and (tells_eqb s.to x) (tells_eqb t.to y)))
@@ -73,7 +73,7 @@ tells_into_one :
 unfolding into_one
 tells_into_one ts x y =
     tells_by
-    (tells-anyTwo
+    (tells_any_two
     (λ s t.
     tells_and (tells_and (tells_eqb s.name t.name) (tells_eqb s.to t.to))
     (tells_and (tells_eqb s.from x) (tells_eqb t.from y)))
@@ -99,9 +99,9 @@ module _ (c : Class) (rows nodes : List Word) (groups : List ℕ) (x y : ℕ) wh
       × (((group_accepts rows nodes groups x ≡ true) × (group_accepts rows nodes groups y ≡ true))
       ⊎ ((a g : ℕ) × In (transition x a g) (transitions_of nodes groups) × In (transition y a g) (transitions_of nodes groups)))
 
-  tells-byF : Tells (by_f c rows nodes groups x y) ByF
+  tells_by_f : Tells (by_f c rows nodes groups x y) ByF
   unfolding by_f
-  tells-byF =
+  tells_by_f =
       tells_and (tells_same (f_of_group c nodes groups x) (f_of_group c nodes groups y))
       (tells_or (tells_and (tells_itself (group_accepts rows nodes groups x)) (tells_itself (group_accepts rows nodes groups y)))
       (tells_into_one (transitions_of nodes groups) x y))
@@ -113,9 +113,9 @@ module _ (c : Class) (rows nodes : List Word) (groups : List ℕ) (x y : ℕ) wh
       ⊎ ((eqb c.kind 0 ≡ false) × ByF)
 
   -- a rule of the class joins the two exactly then
-  tells-byRule : Tells (by_rule c rows nodes groups x y) ByRule
+  tells_by_rule : Tells (by_rule c rows nodes groups x y) ByRule
   unfolding by_rule
-  tells-byRule = go (eqb c.kind 0) refl
+  tells_by_rule = go (eqb c.kind 0) refl
     where
       -- paths do not see how the groups are listed
       listed :
@@ -135,28 +135,28 @@ module _ (c : Class) (rows nodes : List Word) (groups : List ℕ) (x y : ℕ) wh
           (λ f. inl (e, listed (groups_in groups) groups (groups_in-in groups) f))
           (λ f. ⊎_elim (λ r. listed groups (groups_in groups) (in_groups_in groups) r.1)
           (λ r. absurd (true≢false (sym e ∙ r.0))) f)
-      go false e = tells_by tells-byF (λ f. inr (e, f)) (λ f. ⊎_elim (λ r. absurd (false≢true (sym e ∙ r.0))) (λ r. r.1) f)
+      go false e = tells_by tells_by_f (λ f. inr (e, f)) (λ f. ⊎_elim (λ r. absurd (false≢true (sym e ∙ r.0))) (λ r. r.1) f)
 
   -- the rule of every class: one group has arcs of one name to both
   abbrev Forked : Type 0
   Forked = (g a : ℕ) × In (transition g a x) (transitions_of nodes groups) × In (transition g a y) (transitions_of nodes groups)
 
   -- the two make up the reasons to join
-  to-ruled : Forked ⊎ ByRule → Ruled c rows nodes groups x y
-  to-ruled (inl f) = forked f.0 f.1 f.2 f.3
-  to-ruled (inr (inl f)) = by_context_fact f.0 f.1
-  to-ruled (inr (inr f)) =
+  to_ruled : Forked ⊎ ByRule → Ruled c rows nodes groups x y
+  to_ruled (inl f) = forked f.0 f.1 f.2 f.3
+  to_ruled (inr (inl f)) = by_context_fact f.0 f.1
+  to_ruled (inr (inr f)) =
       ⊎_elim (λ r. by_ends f.0 f.1.0 r.0 r.1) (λ r. by_back f.0 f.1.0 r.0 r.1 r.2 r.3) f.1.1
 
-  of-ruled : Ruled c rows nodes groups x y → Forked ⊎ ByRule
-  of-ruled (forked g a m n) = inl (g, a, m, n)
-  of-ruled (by_context_fact k f) = inr (inl (k, f))
-  of-ruled (by_ends k e f g) = inr (inr (k, (e, inl (f, g))))
-  of-ruled (by_back k e a g m n) = inr (inr (k, (e, inr (a, g, m, n))))
+  of_ruled : Ruled c rows nodes groups x y → Forked ⊎ ByRule
+  of_ruled (forked g a m n) = inl (g, a, m, n)
+  of_ruled (by_context_fact k f) = inr (inl (k, f))
+  of_ruled (by_ends k e f g) = inr (inr (k, (e, inl (f, g))))
+  of_ruled (by_back k e a g m n) = inr (inr (k, (e, inr (a, g, m, n))))
 
   -- a rule joins two groups exactly when there is a reason
-  tells-ruled : Tells (forks (transitions_of nodes groups) x y || by_rule c rows nodes groups x y) (Ruled c rows nodes groups x y)
-  tells-ruled = tells_by (tells_or (tells_forks (transitions_of nodes groups) x y) tells-byRule) to-ruled of-ruled
+  tells_ruled : Tells (forks (transitions_of nodes groups) x y || by_rule c rows nodes groups x y) (Ruled c rows nodes groups x y)
+  tells_ruled = tells_by (tells_or (tells_forks (transitions_of nodes groups) x y) tells_by_rule) to_ruled of_ruled
 
 -- and a step is open exactly when it is `Open`
 pub tells_open :
@@ -166,14 +166,14 @@ unfolding is_open
 tells_open c rows nodes groups x y =
     tells_by
     (tells_and (tells_and (tells_is_in x groups) (tells_is_in y groups))
-    (tells_and (tells_not (tells_eqb x y)) (tells-ruled c rows nodes groups x y)))
+    (tells_and (tells_not (tells_eqb x y)) (tells_ruled c rows nodes groups x y)))
     (λ f. record { left_in = f.0.0; right_in = f.0.1; different = f.1.0; ruled = f.1.1 })
     (λ o. ((o.left_in, o.right_in), (o.different, o.ruled)))
 
 -- every step between two of the groups is tried
 in_steps_between : (xs ys : List ℕ) (x y : ℕ) → In x xs → In y ys → In (step x y) (steps_between xs ys)
 unfolding steps_between
-in_steps_between xs ys x y m n = in-flatMap (λ (z : ℕ). map (step z) ys) xs m (Memᴰ.map (step x) n)
+in_steps_between xs ys x y m n = in_flat_map (λ (z : ℕ). map (step z) ys) xs m (Memᴰ.map (step x) n)
 
 -- the open steps are those that are open, and no other
 pub in_open_steps :
@@ -181,7 +181,7 @@ pub in_open_steps :
     In (step x y) (open_steps c rows nodes groups)
 unfolding open_steps
 in_open_steps c rows nodes groups x y o =
-    in-filterBy (is_open c rows nodes groups) (steps_between (groups_in groups) (groups_in groups))
+    in_filter_by (is_open c rows nodes groups) (steps_between (groups_in groups) (groups_in groups))
     (in_steps_between (groups_in groups) (groups_in groups) x y
     (in_groups_in groups x o.left_in) (in_groups_in groups y o.right_in))
     ((tells_open c rows nodes groups x y).test o)

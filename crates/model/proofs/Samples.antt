@@ -16,7 +16,7 @@ use Rattle.base.specs.Lists.{filter_by, numbers_from, same}
 use Rattle.model.specs.Classes.{Word, TailsEqual, Contextual}
 use Rattle.model.specs.Sources.{ContextualAfter}
 use Rattle.base.proofs.Tests.{tells_same, tells_not, tells_leb, decided}
-use Rattle.base.proofs.Lists.{in-flatMap, filterBy-in}
+use Rattle.base.proofs.Lists.{in_flat_map, filter_by-in}
 use Rattle.base.proofs.Places.{in_numbers_from, numbers_from-in, length-numbers_from}
 
 -- ---- three numbers with one word
@@ -39,7 +39,7 @@ up-filter_by test [] up = tt
 up-filter_by test (x ∷ xs) up = go (test x) (up-filter_by test xs up.1)
   where
     go : (b : Bool) → Up (filter_by test xs) → Up (cond b (x ∷ filter_by test xs) (filter_by test xs))
-    go true again = (λ y m. up.0 y (filterBy-in test xs m).0, again)
+    go true again = (λ y m. up.0 y (filter_by-in test xs m).0, again)
     go false again = again
 
 -- each number passes the test or does not
@@ -86,7 +86,7 @@ module _ (f : ℕ → Word) (n : ℕ) where
       let all : length (filter_by at_c ps) + length (filter_by (λ (p : ℕ). not (at_c p)) ps) ≡ length ps =
       filter_by-count at_c ps in
       thrice words (filter_by (λ (p : ℕ). not (at_c p)) ps) (up-filter_by (λ (p : ℕ). not (at_c p)) ps up)
-      (λ p m. ((among p (filterBy-in (λ (z : ℕ). not (at_c z)) ps m).0).0, other p m)) (omega (arith, few)))
+      (λ p m. ((among p (filter_by-in (λ (z : ℕ). not (at_c z)) ps m).0).0, other p m)) (omega (arith, few)))
       (λ found. found)
       (pick (filter_by at_c ps) (up-filter_by at_c ps up) (λ p m. of_c p m))
     where
@@ -94,11 +94,11 @@ module _ (f : ℕ → Word) (n : ℕ) where
       at_c p = same (f p) c
 
       of_c : (p : ℕ) → In p (filter_by at_c ps) → (p < n) × (f p ≡ c)
-      of_c p m = let r = filterBy-in at_c ps m in ((among p r.0).0, (tells_same (f p) c).fact r.1)
+      of_c p m = let r = filter_by-in at_c ps m in ((among p r.0).0, (tells_same (f p) c).fact r.1)
 
       other : (p : ℕ) → In p (filter_by (λ (z : ℕ). not (at_c z)) ps) → In (f p) words
       other p m =
-          let r = filterBy-in (λ (z : ℕ). not (at_c z)) ps m in
+          let r = filter_by-in (λ (z : ℕ). not (at_c z)) ps m in
           ⊎_elim (λ e. absurd ((tells_not (tells_same (f p) c)).fact r.1 e)) (λ k. k)
           (Memᴰ.cases_cons (among p r.0).1)
 
@@ -134,14 +134,14 @@ in_words_over : (m : ℕ) (w : Word) → ((x : ℕ) → In x w → x < m) → In
 unfolding words_over
 in_words_over m [] below = here refl
 in_words_over m (x ∷ w) below =
-    in-flatMap (λ (y : ℕ). map (λ (v : Word). y ∷ v) (words_over m (length w))) (numbers_from m 0)
+    in_flat_map (λ (y : ℕ). map (λ (v : Word). y ∷ v) (words_over m (length w))) (numbers_from m 0)
     (in_numbers_from m 0 x (omega arith) (omega (arith, below x (here refl))))
     (Memᴰ.map (λ (v : Word). x ∷ v) (in_words_over m w (λ y k. below y (there k))))
 
 pub in_short_words : (m n : ℕ) (w : Word) → ((x : ℕ) → In x w → x < m) → length w ≤ n → In w (short_words m n)
 unfolding short_words
 in_short_words m n w below few =
-    in-flatMap (words_over m) (numbers_from (suc n) 0) (in_numbers_from (suc n) 0 (length w) (omega arith) (omega arith))
+    in_flat_map (words_over m) (numbers_from (suc n) 0) (in_numbers_from (suc n) 0 (length w) (omega arith) (omega arith))
     (in_words_over m w below)
 
 -- how many names it takes: more than these hold the same k names at three places
@@ -167,10 +167,10 @@ cut_at k p r = ap (λ (z : Word). take p r ++ z) (take-append-drop k (drop p r))
 module _ (k : ℕ) (l l' : Word → Type 0) (in-l : ContextualAfter k l) (in-l' : ContextualAfter k l') where
   -- r holds the k names a after x, after y and after z, which are longer one by one. The shorter words x a v and y a w, with what
   -- follows at the next place, are in l, so in l'; there they make the tails after x a and y a equal
-  three-places :
+  three_places :
       (r a x y z u v w : Word) → length a ≡ k → x ++ (a ++ u) ≡ r → y ++ (a ++ v) ≡ r → z ++ (a ++ w) ≡ r →
       length x < length y → length y < length z → l r → ((s : Word) → length s < length r → l s → l' s) → l' r
-  three-places r a x y z u v w size at_x at_y at-z xy yz in-r shorter =
+  three_places r a x y z u v w size at_x at_y at-z xy yz in-r shorter =
       let here-x : l (x ++ (a ++ u)) = subst l (sym at_x) in-r in
       let here-y : l (y ++ (a ++ v)) = subst l (sym at_y) in-r in
       let here-z : l (z ++ (a ++ w)) = subst l (sym at-z) in-r in
@@ -234,7 +234,7 @@ module _ (k : ℕ) (l l' : Word → Type 0) (in-l : ContextualAfter k l) (in-l' 
         go t =
             let q-low : t.q < places = omega arith in
             let p-low : t.p < places = omega arith in
-            three-places r (key t.p) (take t.p r) (take t.q r) (take t.s r)
+            three_places r (key t.p) (take t.p r) (take t.q r) (take t.s r)
             (drop k (drop t.p r)) (drop k (drop t.q r)) (drop k (drop t.s r))
             (key-size t.p p-low)
             (cut_at k t.p r)

@@ -78,10 +78,10 @@ module _ (c : Class) (rows nodes : List Word) (groups : List ℕ) (R : Word → 
       (u.0 ▸ a, w.0 ▸ a, u.2, w.2, u.4, w.4, closed.fork u.0 w.0 a from u.2 w.2)
 
   -- joined by paths of one context
-  context-related :
+  context_related :
       eqb c.kind 0 ≡ true → In x groups → In y groups →
       TwoPaths c.first c.second (transitions_of nodes groups) groups x y → Related nodes groups R x y
-  context-related kind m n two =
+  context_related kind m n two =
       let u = group_member nodes groups tree fits x m in
       let w = group_member nodes groups tree fits y n in
       let from_u = group_member nodes groups tree fits two.from_x two.from_x_in in
@@ -167,7 +167,7 @@ pub ruled_related :
 ruled_related c rows nodes groups R tree fits closed inside x y m n (forked g a s t) =
     forked-related c rows nodes groups R tree fits closed inside x y g a s t
 ruled_related c rows nodes groups R tree fits closed inside x y m n (by_context_fact kind two) =
-    context-related c rows nodes groups R tree fits closed inside x y kind m n two
+    context_related c rows nodes groups R tree fits closed inside x y kind m n two
 ruled_related c rows nodes groups R tree fits closed inside x y m n (by_ends kind same_f s t) =
     ends-related c rows nodes groups R tree fits closed inside x y kind m n same_f s t
 ruled_related c rows nodes groups R tree fits closed inside x y m n (by_back kind same_f a g s t) =

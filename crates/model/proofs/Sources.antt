@@ -16,7 +16,7 @@ use Rattle.model.specs.Sources.{Contextual59, figure_5_5, ContextualStates, Pass
 use Rattle.model.specs.Sources.{ContextualAfter, Document000, Document002}
 use Rattle.model.proofs.Functions.{f_append}
 use Rattle.model.proofs.TableBodies.{accepted_reached}
-use Rattle.model.proofs.ContextualTables.{tails-contextual, states-contextual, contextual-tails, tails-states}
+use Rattle.model.proofs.ContextualTables.{tails_contextual, states_contextual, contextual_tails, tails_states}
 use Rattle.model.proofs.ContextualTables.{book_contextual}
 use Rattle.model.proofs.Samples.{after-all}
 use Rattle.model.proofs.Identified.{book_of_fields, among_itself, identified}
@@ -131,7 +131,7 @@ of_table :
     ((r : Word) → admits states r ≡ test r) → Contextual k h (Passing test)
 of_table k h test states met same-words =
     subst (λ (t : Word → Bool). Contextual k h (Passing t)) (λ i r. same-words r i)
-    (states-contextual k h states met)
+    (states_contextual k h states met)
 
 pub document_002 : Document002
 document_002 =
@@ -141,13 +141,13 @@ document_002 =
         has_table k h m test low below,
         λ found. of_table k h test found.0 found.1 found.2,
       );
-      lemma_5_10_if = states-contextual;
+      lemma_5_10_if = states_contextual;
       lemma_5_10_built = book_contextual;
       lemma_5_10_canonical = λ k h states canonical. (
-        λ l. tails-states k h states canonical (contextual-tails k h states canonical.reached l),
-        states-contextual k h states,
+        λ l. tails_states k h states canonical (contextual_tails k h states canonical.reached l),
+        states_contextual k h states,
       );
-      lemma_5_10_tails = λ k h states reached. (contextual-tails k h states reached, tails-contextual k h states);
+      lemma_5_10_tails = λ k h states reached. (contextual_tails k h states reached, tails_contextual k h states);
       accepted_reached = accepted_reached;
       identified = identified;
       theorem_5_18_1 = alike;

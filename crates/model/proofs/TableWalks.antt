@@ -20,14 +20,14 @@ Steps states p (a ∷ w) q = (r : ℕ) × (target_in a (get_or states p empty_st
 
 module _ (states : List State) where
   -- then the walk takes them, whatever it has taken before
-  steps-walk : (w : Word) (p q n : ℕ) → Steps states p w q → walk_from states p n w ≡ walk_at q (n + length w)
+  steps_walk : (w : Word) (p q n : ℕ) → Steps states p w q → walk_from states p n w ≡ walk_at q (n + length w)
   unfolding walk_from
-  steps-walk [] p q n e =
+  steps_walk [] p q n e =
       let none : n ≡ n + 0 = omega arith in
       ap (λ (z : ℕ). walk_at z n) e ∙ ap (walk_at q) none
-  steps-walk (a ∷ w) p q n s =
+  steps_walk (a ∷ w) p q n s =
       let size : suc n + length w ≡ n + suc (length w) = omega arith in
-      walk-goes states p n a w s.0 s.1 ∙ steps-walk w s.0 q (suc n) s.2 ∙ ap (walk_at q) size
+      walk-goes states p n a w s.0 s.1 ∙ steps_walk w s.0 q (suc n) s.2 ∙ ap (walk_at q) size
 
   -- and a walk that takes all names goes by the arcs
   walk_steps : (w : Word) (p q n : ℕ) → walk_from states p n w ≡ walk_at q (n + length w) → Steps states p w q
@@ -48,35 +48,35 @@ module _ (states : List State) where
           (r, t, again r (sym (walk-goes states p n a w r t) ∙ e ∙ ap (walk_at q) size))
 
   -- a state is reached exactly so
-  pub reaches-steps : (p q : ℕ) (w : Word) → Reaches states p w q → Steps states p w q
-  reaches-steps p q w h =
+  pub reaches_steps : (p q : ℕ) (w : Word) → Reaches states p w q → Steps states p w q
+  reaches_steps p q w h =
       let all : length w ≡ 0 + length w = omega arith in
       walk_steps w p q 0 (h.walked ∙ ap (walk_at q) all)
 
-  pub steps-reaches : (p q : ℕ) (w : Word) → Steps states p w q → Reaches states p w q
-  steps-reaches p q w s =
+  pub steps_reaches : (p q : ℕ) (w : Word) → Steps states p w q → Reaches states p w q
+  steps_reaches p q w s =
       let all : 0 + length w ≡ length w = omega arith in
-      record { walked = steps-walk w p q 0 s ∙ ap (walk_at q) all }
+      record { walked = steps_walk w p q 0 s ∙ ap (walk_at q) all }
 
   -- by one word a state reaches one state
-  pub reaches-one : (p q r : ℕ) (w : Word) → Reaches states p w q → Reaches states p w r → q ≡ r
-  reaches-one p q r w f g = ap (λ (x : Walk). x.at_state) (sym f.walked ∙ g.walked)
+  pub reaches_one : (p q r : ℕ) (w : Word) → Reaches states p w q → Reaches states p w r → q ≡ r
+  reaches_one p q r w f g = ap (λ (x : Walk). x.at_state) (sym f.walked ∙ g.walked)
 
   -- walks in succession, and a walk taken apart
-  pub reaches-append :
+  pub reaches_append :
       (p z q : ℕ) (u v : Word) → Reaches states p u z → Reaches states z v q → Reaches states p (u ++ v) q
-  reaches-append p z q u v f g =
-      steps-reaches p q (u ++ v) (joined u p (reaches-steps p z u f) (reaches-steps z q v g))
+  reaches_append p z q u v f g =
+      steps_reaches p q (u ++ v) (joined u p (reaches_steps p z u f) (reaches_steps z q v g))
     where
       joined : (u : Word) (p : ℕ) → Steps states p u z → Steps states z v q → Steps states p (u ++ v) q
       joined [] p s t = subst (λ (k : ℕ). Steps states k v q) (sym s) t
       joined (a ∷ u) p s t = (s.0, s.1, joined u s.0 s.2 t)
 
-  pub reaches-split :
+  pub reaches_split :
       (p q : ℕ) (u v : Word) → Reaches states p (u ++ v) q → (z : ℕ) × Reaches states p u z × Reaches states z v q
-  reaches-split p q u v f =
-      let r = apart u p (reaches-steps p q (u ++ v) f) in
-      (r.0, steps-reaches p r.0 u r.1, steps-reaches r.0 q v r.2)
+  reaches_split p q u v f =
+      let r = apart u p (reaches_steps p q (u ++ v) f) in
+      (r.0, steps_reaches p r.0 u r.1, steps_reaches r.0 q v r.2)
     where
       apart : (u : Word) (p : ℕ) → Steps states p (u ++ v) q → (z : ℕ) × Steps states p u z × Steps states z v q
       apart [] p s = (p, refl, s)
@@ -88,7 +88,7 @@ module _ (states : List State) where
   pub admitted-cut :
       (p : ℕ) (u v : Word) → AdmittedFrom states p (u ++ v) → (z : ℕ) × Reaches states p u z × AdmittedFrom states z v
   admitted-cut p u v h =
-      let r = reaches-split p h.end u v h.way in
+      let r = reaches_split p h.end u v h.way in
       (r.0, r.1, record { end = h.end; way = r.2; accepting = h.accepting })
 
   -- what is admitted after a word is what is admitted from the state that it reaches
@@ -97,8 +97,8 @@ module _ (states : List State) where
   admitted-after p z u v f = (
     λ h.
         let r = admitted-cut p u v h in
-        subst (λ (k : ℕ). AdmittedFrom states k v) (reaches-one p r.0 z u r.1 f) r.2,
-    λ h. record { end = h.end; way = reaches-append p z h.end u v f h.way; accepting = h.accepting },
+        subst (λ (k : ℕ). AdmittedFrom states k v) (reaches_one p r.0 z u r.1 f) r.2,
+    λ h. record { end = h.end; way = reaches_append p z h.end u v f h.way; accepting = h.accepting },
   )
 
   -- a state from which a word is admitted is one of the table's: past its end nothing accepts and there are no arcs
@@ -118,12 +118,12 @@ module _ (states : List State) where
 
       go : (p < length states) ⊎ (p < length states → ⊥) → p < length states
       go (inl low) = low
-      go (inr high) = absurd (nothing w (omega (arith, high)) (reaches-steps p h.end w h.way))
+      go (inr high) = absurd (nothing w (omega (arith, high)) (reaches_steps p h.end w h.way))
 
   -- a table admits what is admitted from its start
-  pub tells-admitted : (r : Word) → Tells (admits states r) (AdmittedFrom states 0 r)
+  pub tells_admitted : (r : Word) → Tells (admits states r) (AdmittedFrom states 0 r)
   unfolding admits reached_state walk
-  tells-admitted r =
+  tells_admitted r =
       let w : Walk = walk_from states 0 0 r in
       let both = tells_and (tells_eqb w.taken (length r)) (tells_itself (get_or states w.at_state empty_state).accepts) in
       record {
@@ -141,11 +141,11 @@ module _ (states : List State) where
       }
 
   -- the tails of a word are those of the state that it reaches
-  pub word-tails :
+  pub word_tails :
       (u v : Word) (p : ℕ) → Reaches states 0 u p → AdmittedBy states (u ++ v) ↔ AdmittedFrom states p v
-  word-tails u v p f = (
-    λ e. (admitted-after 0 p u v f).0 ((tells-admitted (u ++ v)).fact e),
-    λ h. (tells-admitted (u ++ v)).test ((admitted-after 0 p u v f).1 h),
+  word_tails u v p f = (
+    λ e. (admitted-after 0 p u v f).0 ((tells_admitted (u ++ v)).fact e),
+    λ h. (tells_admitted (u ++ v)).test ((admitted-after 0 p u v f).1 h),
   )
 
   -- so words have equal tails exactly where the states that they reach have
@@ -155,14 +155,14 @@ module _ (states : List State) where
   equal_tails u w p q f g = (
     λ t. record {
       tails = λ v. (
-        λ h. (word-tails w v q g).0 ((t.tails v).0 ((word-tails u v p f).1 h)),
-        λ h. (word-tails u v p f).0 ((t.tails v).1 ((word-tails w v q g).1 h)),
+        λ h. (word_tails w v q g).0 ((t.tails v).0 ((word_tails u v p f).1 h)),
+        λ h. (word_tails u v p f).0 ((t.tails v).1 ((word_tails w v q g).1 h)),
       );
     },
     λ t. record {
       tails = λ v. (
-        λ e. (word-tails w v q g).1 ((t.tails v).0 ((word-tails u v p f).0 e)),
-        λ e. (word-tails u v p f).1 ((t.tails v).1 ((word-tails w v q g).0 e)),
+        λ e. (word_tails w v q g).1 ((t.tails v).0 ((word_tails u v p f).0 e)),
+        λ e. (word_tails u v p f).1 ((t.tails v).1 ((word_tails w v q g).0 e)),
       );
     },
   )

@@ -10,7 +10,7 @@ use mathlib.Core.List.{head-eq_of_cons-eq}
 use mathlib.Core.List.{tail-eq_of_cons-eq, cons≢nil}
 use Prim.Native.Nat.{ℕ}
 use Rattle.model.specs.Classes.{Word}
-use Rattle.base.proofs.Lists.{lastOr-snoc}
+use Rattle.base.proofs.Lists.{last_or-snoc}
 use Rattle.base.specs.Lists.{last_or}
 use Rattle.model.specs.Joinings.{Transition, transition, transitions_into, transitions_of, group_at, Deterministic}
 use Rattle.model.proofs.Notions.{Tree, Fits, Walks, ◌▸◌}
@@ -58,7 +58,7 @@ in_transitions nodes groups [] a m = in_transitions_into nodes groups nodes a []
 in_transitions nodes groups (x ∷ w) a m =
     Memᴰ.cast
     (ap₂ (λ (v : Word) (b : ℕ). transition (group_at nodes groups v) b (group_at nodes groups (x ∷ (w ▸ a))))
-    (sym (drop_last_snoc (x ∷ w) a)) (sym (lastOr-snoc x w a)))
+    (sym (drop_last_snoc (x ∷ w) a)) (sym (last_or-snoc x w a)))
     (in_transitions_into nodes groups nodes x (w ▸ a) m)
 
 -- every arc is that of a word

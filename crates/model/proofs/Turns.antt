@@ -16,19 +16,19 @@ use Rattle.base.proofs.Tests.{or_false, false_or}
 
 module _ (l : ℕ) (kind : FileKind) (f : File) (s : List ℕ) where
   -- the four cases of a turn: the end, a field cut off, a fault, a field
-  at-stop : eqb (length s) 0 ≡ true → read_from (suc l) kind f s ≡ at_end kind f
+  at_stop : eqb (length s) 0 ≡ true → read_from (suc l) kind f s ≡ at_end kind f
   unfolding read_from
-  at-stop e = rw (e, read_from)
+  at_stop e = rw (e, read_from)
 
   at_cut : eqb (length s) 0 ≡ false → runs_past s ≡ true → read_from (suc l) kind f s ≡ refused cut_off
   unfolding read_from
   at_cut e p = rw (e, p, read_from)
 
-  at-fault :
+  at_fault :
       eqb (length s) 0 ≡ false → runs_past s ≡ false → eqb (field_fault kind f (get_or s 0 0) (body_of s)) 0 ≡ false →
       read_from (suc l) kind f s ≡ refused (field_fault kind f (get_or s 0 0) (body_of s))
   unfolding read_from
-  at-fault e p q = rw (e, p, q, read_from)
+  at_fault e p q = rw (e, p, q, read_from)
 
   at_field :
       eqb (length s) 0 ≡ false → runs_past s ≡ false → eqb (field_fault kind f (get_or s 0 0) (body_of s)) 0 ≡ true →
@@ -93,7 +93,7 @@ turn_whole l kind f (x ∷ (a ∷ (b ∷ t))) e p short fits =
         (ap (λ (y : List ℕ). read_from (suc l) kind f (x ∷ (a ∷ (b ∷ y)))) whole ∙ one_field l kind f x a b body (drop n t) size q)
     go (suc k) q =
         let fault : eqb (field_fault kind f x body) 0 ≡ false = ne_eqb (field_fault kind f x body) 0 (λ z. omega arith) in
-        failed k (ap (λ (r : Read). r.number) (at-fault l kind f (x ∷ (a ∷ (b ∷ t))) e p fault) ∙ q)
+        failed k (ap (λ (r : Read). r.number) (at_fault l kind f (x ∷ (a ∷ (b ∷ t))) e p fault) ∙ q)
 
 nil_of_length : (s : List ℕ) → length s ≡ 0 → s ≡ []
 nil_of_length [] e = refl
@@ -104,7 +104,7 @@ pub turn : (l : ℕ) (kind : FileKind) (f : File) (s : List ℕ) → Turn l kind
 turn l kind f s = go (eqb (length s) 0) refl (runs_past s) refl
   where
     go : (t : Bool) → eqb (length s) 0 ≡ t → (u : Bool) → runs_past s ≡ u → Turn l kind f s
-    go true e u p = ended (nil_of_length s (eqb-true (length s) 0 e)) (at-stop l kind f s e)
+    go true e u p = ended (nil_of_length s (eqb-true (length s) 0 e)) (at_stop l kind f s e)
     go false e true p = failed 1 (ap (λ (r : Read). r.number) (at_cut l kind f s e p))
     go false e false p =
         let q = false_or (ltb (length s) 3) (ltb (length s) (3 + stated_length s)) p in

@@ -19,7 +19,7 @@ use Rattle.model.specs.Classes.{Word}
 use Rattle.model.specs.Claims.{all_among}
 use Rattle.base.proofs.Tests.{decided, same_tests, tells_itself, tells_eqb, tells_ltb, tells_and, tells_all}
 use Rattle.base.proofs.Tests.{tells_has_row}
-use Rattle.base.proofs.Lists.{in-flatMap, in-filterBy}
+use Rattle.base.proofs.Lists.{in_flat_map, in_filter_by}
 use Rattle.base.proofs.Places.{in_numbers_from}
 use Rattle.model.proofs.Admits.{walk-stops, walk-goes}
 
@@ -72,7 +72,7 @@ module _ (states : List State) where
           let goes : (walk_from states q k (x ∷ w)).taken ≡ (walk_from states t (suc k) w).taken =
           ap (λ (v : Walk). v.taken) (walk-goes states q k x w t h) in
           let rest : (walk_from states t (suc k) w).taken ≡ suc k + length w = omega (arith, e, goes) in
-          in-flatMap (λ (a : Arc). map (λ (v : Word). a.name ∷ v) (walkable states n a.to))
+          in_flat_map (λ (a : Arc). map (λ (v : Word). a.name ∷ v) (walkable states n a.to))
           (get_or states q empty_state).arcs (target_arc x t (get_or states q empty_state).arcs h)
           (Memᴰ.map (λ (v : Word). x ∷ v) (again t rest))
 
@@ -93,29 +93,29 @@ module _ (states : List State) where
       (decided (tells_ltb n (length r)))
 
   -- the words of at most n names that can be walked
-  unfoldable pub walkableTo : ℕ → List Word
-  walkableTo n = flat_map (λ (k : ℕ). walkable states k 0) (numbers_from (suc n) 0)
+  unfoldable pub walkable_to : ℕ → List Word
+  walkable_to n = flat_map (λ (k : ℕ). walkable states k 0) (numbers_from (suc n) 0)
 
   -- no word of n + 1 names can be walked, those of at most n names that are admitted are among the rows, and all rows are admitted
-  unfoldable pub onlyThese : ℕ → List Word → Bool
-  onlyThese n rows =
+  unfoldable pub only_these : ℕ → List Word → Bool
+  only_these n rows =
       eqb (length (walkable states (suc n) 0)) 0
-      && (all_among (filter_by (admits states) (walkableTo n)) rows && all (admits states) rows)
+      && (all_among (filter_by (admits states) (walkable_to n)) rows && all (admits states) rows)
 
   -- then of all words, of any length, exactly the rows are admitted
-  pub admits-only : (n : ℕ) (rows : List Word) → onlyThese n rows ≡ true → (r : Word) → admits states r ≡ has_row r rows
-  unfolding onlyThese walkableTo all_among
+  pub admits-only : (n : ℕ) (rows : List Word) → only_these n rows ≡ true → (r : Word) → admits states r ≡ has_row r rows
+  unfolding only_these walkable_to all_among
   admits-only n rows passed r =
       let told =
       (tells_and (tells_eqb (length (walkable states (suc n) 0)) 0)
-      (tells_and (tells_all (λ w. tells_has_row w rows) (filter_by (admits states) (walkableTo n)))
+      (tells_and (tells_all (λ w. tells_has_row w rows) (filter_by (admits states) (walkable_to n)))
       (tells_all (λ w. tells_itself (admits states w)) rows))).fact passed in
       same_tests (tells_itself (admits states r)) (tells_has_row r rows)
-      (λ e. told.1.0 r (in-filterBy (admits states) (walkableTo n) (listed (no_longer n r told.0 e) e) e))
+      (λ e. told.1.0 r (in_filter_by (admits states) (walkable_to n) (listed (no_longer n r told.0 e) e) e))
       (λ m. told.1.1 r m)
     where
-      listed : length r ≤ n → admits states r ≡ true → In r (walkableTo n)
+      listed : length r ≤ n → admits states r ≡ true → In r (walkable_to n)
       listed short e =
-          in-flatMap (λ (k : ℕ). walkable states k 0) (numbers_from (suc n) 0)
+          in_flat_map (λ (k : ℕ). walkable states k 0) (numbers_from (suc n) 0)
           (in_numbers_from (suc n) 0 (length r) (omega arith) (omega arith))
           (Memᴰ.cast (sym (take-length r)) (admitted-begins (length r) r (omega arith) e))

@@ -33,15 +33,15 @@ use Rattle.model.specs.WorkedDays.{same_rows, rows_of_length, short_rows, accept
 use Rattle.model.specs.WorkedDays.{example_holds, days_hold, Day, p2, q3, finite_days, TellsDefault, DaysClaimed}
 use Rattle.base.proofs.Tests.{Tells, decided, tells_itself, tells_eqb, tells_leb, tells_and, tells_or, tells_not}
 use Rattle.base.proofs.Tests.{tells_same, tells_all}
-use Rattle.base.proofs.Lists.{in-flatMap, in-filterBy}
+use Rattle.base.proofs.Lists.{in_flat_map, in_filter_by}
 use Rattle.base.proofs.Places.{in_numbers_from}
-use Rattle.model.proofs.Walkable.{walkable, walkableTo, onlyThese, admits-only}
+use Rattle.model.proofs.Walkable.{walkable, walkable_to, only_these, admits-only}
 
 -- ---- what computes
 
 -- no row of five names can be walked over the day's states, and those of at most four that they admit are the ones written down
 is_exact : Day → Bool
-is_exact day = onlyThese (book_states (book_of standard day.book_bytes)) 4 day.admitted_rows
+is_exact day = only_these (book_states (book_of standard day.book_bytes)) 4 day.admitted_rows
 
 -- the states of Q3's book where this class is the default
 states_by : Class → List State
@@ -74,7 +74,7 @@ record Computed : Type 0 where
   long_contexts : (m h : ℕ) → length (states_by (class_of 0 (suc (suc (suc (suc m)))) h)) ≡ 6
 
 computed : Computed
-unfolding flat_map walkable walkableTo onlyThese all_among is_exact states_by candidates gives_states
+unfolding flat_map walkable walkable_to only_these all_among is_exact states_by candidates gives_states
     any any_two all filter_by numbers_from is_in index_in same has_row before last_or
     name_ok all_below above name_fault class_fault row_fault state_fault state_ok arcs_ok field_fault with_field read_from read_with
     field_bytes name_fields class_field arc_bytes state_body state_fields bytes_of_table arcs_in state_in states_in met_by_arcs
@@ -102,10 +102,10 @@ in_candidates c ok = go c.kind c.first c.second ok
   where
     among : (kind x y : ℕ) → kind ≤ 2 → x ≤ setting_limit → y ≤ x → In (class_of kind x y) candidates
     among kind x y low short within =
-        in-flatMap (λ (n : ℕ).
+        in_flat_map (λ (n : ℕ).
         flat_map (λ (i : ℕ). map (class_of n i) (numbers_from (suc i) 0)) (numbers_from (suc setting_limit) 0)) (numbers_from 3 0)
         (in_numbers_from 3 0 kind (omega arith) (omega arith))
-        (in-flatMap (λ (i : ℕ). map (class_of kind i) (numbers_from (suc i) 0)) (numbers_from (suc setting_limit) 0)
+        (in_flat_map (λ (i : ℕ). map (class_of kind i) (numbers_from (suc i) 0)) (numbers_from (suc setting_limit) 0)
         (in_numbers_from (suc setting_limit) 0 x (omega arith) (omega arith))
         (Memᴰ.map (class_of kind x) (in_numbers_from (suc x) 0 y (omega arith) (omega arith))))
 
@@ -143,7 +143,7 @@ class_told c ok e =
     (λ short.
     Memᴰ.eq_of_singleton
     (subst (λ (cs : List Class). In c cs) computed.classes
-    (in-filterBy gives_states candidates (in_candidates c ok)
+    (in_filter_by gives_states candidates (in_candidates c ok)
     ((tells_and
     (tells_and (tells_itself (settings_ok c.kind c.first c.second)) (tells_not long-context))
     (tells_same (state_fields (states_by c)) (state_fields (states_by standard.default_class)))).test

@@ -18,8 +18,8 @@ use Rattle.base.proofs.Places.{nth_of_index}
 use Rattle.model.proofs.Notions.{Tree, Fits, ◌▸◌}
 use Rattle.model.proofs.Transitions.{arc-node}
 use Rattle.model.proofs.Arcs.{arcs_out_of-ascending, arcs_out_of-in}
-use Rattle.model.proofs.FirstMet.{met-distinct, root-met, met-few, met-closed, states-length}
-use Rattle.model.proofs.MetOrder.{metByStates-follows}
+use Rattle.model.proofs.FirstMet.{met-distinct, root_met, met-few, met-closed, states-length}
+use Rattle.model.proofs.MetOrder.{met_by_states-follows}
 use Rattle.model.proofs.ArcCount.{arcs_few}
 use Rattle.model.proofs.Writable.{Writable}
 
@@ -85,7 +85,7 @@ states_first_met rows nodes groups tree fits =
     let states = map (state_of rows nodes groups met) met in
     let few : length met ≤ length nodes = met-few nodes groups tree fits in
     let counted : met_by_states 0 1 states ≡ length met =
-    metByStates-follows rows nodes groups met (length nodes) 0 (group_at nodes groups [] ∷ []) refl (omega arith) in
+    met_by_states-follows rows nodes groups met (length nodes) 0 (group_at nodes groups [] ∷ []) refl (omega arith) in
     eq-eqb (met_by_states 0 1 states) (length states) (counted ∙ sym (length-map met (state_of rows nodes groups met)))
 
 -- all states have at most as many arcs as the tree has nodes
@@ -123,7 +123,7 @@ states_writable rows nodes groups n tree fits det few below =
 
     some : 1 ≤ length (states_of rows nodes groups)
     some =
-        let root = (nth_of_index (met_groups nodes groups) (group_at nodes groups []) (root-met nodes groups tree fits)).0 in
+        let root = (nth_of_index (met_groups nodes groups) (group_at nodes groups []) (root_met nodes groups tree fits)).0 in
         omega (arith, size)
 
     names : (s : State) (a : Arc) → In s (states_of rows nodes groups) → In a s.arcs → a.name < n

@@ -9,7 +9,7 @@ use lib.ListN.{length, get_or}
 use Rattle.base.specs.Lists.{before}
 use Rattle.base.proofs.Places.{place_of}
 use Rattle.model.specs.Fields.{Ascends, name_number}
-use Rattle.model.proofs.NameNumbers.{number_of-unknown, number-at-place, places-below, places-above}
+use Rattle.model.proofs.NameNumbers.{number_of-unknown, number-at_place, places_below, places_above}
 use Rattle.judging.specs.Offsets.{body_at, next_at, offset_at, fields_at}
 use Rattle.judging.proofs.OffsetLaws.{field_within, field_at_lem}
 use Rattle.name_search.specs.Search.{Ordered, Indexed}
@@ -21,15 +21,15 @@ module _
   noted : get_or index at 0 ≡ offset_at list 0 i
   noted = ap (λ (v : ℕ). get_or index v 0) is ∙ indexed.begins i low
 
-  pub noted-within : next_at list (get_or index at 0) ≤ length list
-  noted-within =
+  pub noted_within : next_at list (get_or index at 0) ≤ length list
+  noted_within =
       subst (λ (a : ℕ). next_at list a ≤ length list) (sym noted)
       (omega (arith, indexed.within, field_within list 0 count i low))
 
-  pub noted-ordered :
+  pub noted_ordered :
       (name found : List ℕ) (answer r : Order) → found ≡ body_at list (get_or index at 0) → Ordered name found answer → answer ≡ r →
       Ordered name (get_or (fields_at list 0 count) i []) r
-  noted-ordered name found answer r e o told =
+  noted_ordered name found answer r e o told =
       let field = e ∙ ap (body_at list) noted ∙ sym (field_at_lem list 0 count i low) in
       subst (λ (r : Order). Ordered name (get_or (fields_at list 0 count) i []) r) told
       (subst (λ (n : List ℕ). Ordered name n answer) field o)
@@ -56,17 +56,17 @@ module _ (names : List (List ℕ)) (name : List ℕ) where
     pub lower-half :
         before name (get_or names middle []) ≡ true → PlacesLeft names name low high → PlacesLeft names name low middle
     lower-half o between =
-        record { left = λ i h e. ((between.left i h e).0, places-below names ascending name middle o i h e) }
+        record { left = λ i h e. ((between.left i h e).0, places_below names ascending name middle o i h e) }
 
     pub upper-half :
         {next : ℕ} → middle < length names → next ≤ middle + 1 → before (get_or names middle []) name ≡ true →
         PlacesLeft names name low high → PlacesLeft names name next high
     upper-half inside up o between =
         record {
-          left = λ i h e. (omega (arith, places-above names ascending name middle inside o i e), (between.left i h e).1);
+          left = λ i h e. (omega (arith, places_above names ascending name middle inside o i e), (between.left i h e).1);
         }
 
   pub found_at :
       Ascends names → (middle : ℕ) → middle < length names → name ≡ get_or names middle [] → name_number names name ≡ middle
   found_at ascending middle inside e =
-      subst (λ (z : List ℕ). name_number names z ≡ middle) (sym e) (number-at-place names ascending middle inside)
+      subst (λ (z : List ℕ). name_number names z ≡ middle) (sym e) (number-at_place names ascending middle inside)

@@ -50,22 +50,22 @@ module _ (n : ℕ) (above : List ℕ) (forest : Forest n above) where
       ⊎_elim (λ own. up-own above (suc i) v own ∙ sym (up-own above (suc j) v own))
       (λ other. up-enough i j (get_or above v 0) (omega arith) (omega arith) (omega arith)) (eq_dec (get_or above v 0) v)
 
-  pub root-up : (v : ℕ) → v < n → root_of above v ≡ root_of above (get_or above v 0)
+  pub root_up : (v : ℕ) → v < n → root_of above v ≡ root_of above (get_or above v 0)
   unfolding root_of up
-  root-up v h =
+  root_up v h =
       let low : get_or above v 0 ≤ v = forest.low v h in
       up-enough v (suc v) v (omega arith) (omega arith) h
       ∙ up-enough v (get_or above v 0) (get_or above v 0) (omega arith) (omega arith) (omega arith)
 
   -- what is so of roots, and of a state where it is so of the state above it, is so of all: up to k by induction
-  by-ways :
+  by_ways :
       (P : ℕ → Type 0) → ((v : ℕ) → v < n → get_or above v 0 ≡ v → P v) →
       ((v : ℕ) → v < n → get_or above v 0 < v → P (get_or above v 0) → P v) → (k v : ℕ) → v < k → v < n → P v
-  by-ways P own step zero v hk h = absurd (omega arith)
-  by-ways P own step (suc k) v hk h =
+  by_ways P own step zero v hk h = absurd (omega arith)
+  by_ways P own step (suc k) v hk h =
       let low : get_or above v 0 ≤ v = forest.low v h in
       ⊎_elim (own v h)
-      (λ other. step v h (omega arith) (by-ways P own step k (get_or above v 0) (omega arith) (omega arith)))
+      (λ other. step v h (omega arith) (by_ways P own step k (get_or above v 0) (omega arith) (omega arith)))
       (eq_dec (get_or above v 0) v)
 
   -- a function that is the same on a state and on the one above it, and a root's own number on a root, gives the roots
@@ -73,48 +73,48 @@ module _ (n : ℕ) (above : List ℕ) (forest : Forest n above) where
       (f : ℕ → ℕ) → ((v : ℕ) → v < n → get_or above v 0 ≡ v → f v ≡ v) → ((v : ℕ) → v < n → f (get_or above v 0) ≡ f v) →
       (v : ℕ) → v < n → root_of above v ≡ f v
   root_is f own same v h =
-      by-ways (λ (w : ℕ). root_of above w ≡ f w) (λ w hw e. root_own above w e ∙ sym (own w hw e))
-      (λ w hw lower rest. root-up w hw ∙ rest ∙ same w hw) (suc v) v (omega arith) h
+      by_ways (λ (w : ℕ). root_of above w ≡ f w) (λ w hw e. root_own above w e ∙ sym (own w hw e))
+      (λ w hw lower rest. root_up w hw ∙ rest ∙ same w hw) (suc v) v (omega arith) h
 
   -- a root is above itself
-  pub root-root : (v : ℕ) → v < n → get_or above (root_of above v) 0 ≡ root_of above v
-  root-root v h =
-      by-ways (λ (w : ℕ). get_or above (root_of above w) 0 ≡ root_of above w)
+  pub root_root : (v : ℕ) → v < n → get_or above (root_of above v) 0 ≡ root_of above v
+  root_root v h =
+      by_ways (λ (w : ℕ). get_or above (root_of above w) 0 ≡ root_of above w)
       (λ w hw e. ap (λ (r : ℕ). get_or above r 0) (root_own above w e) ∙ e ∙ sym (root_own above w e))
-      (λ w hw lower rest. subst (λ (r : ℕ). get_or above r 0 ≡ r) (sym (root-up w hw)) rest) (suc v) v (omega arith) h
+      (λ w hw lower rest. subst (λ (r : ℕ). get_or above r 0 ≡ r) (sym (root_up w hw)) rest) (suc v) v (omega arith) h
 
-  pub roots-at : (v : ℕ) → v < n → get_or (roots_of above) v 0 ≡ root_of above v
+  pub roots_at : (v : ℕ) → v < n → get_or (roots_of above) v 0 ≡ root_of above v
   unfolding roots_of root_of up
-  roots-at v h =
+  roots_at v h =
       let inside : v < length above = omega (arith, forest.size) in
       get_or-map (root_of above) (numbers_from (length above) 0) v 0 ∙ ap (root_of above) (number_at (length above) v inside)
 
   -- a root is no higher than its states
-  root-low : (v : ℕ) → v < n → root_of above v ≤ v
-  root-low v h =
-      by-ways (λ (w : ℕ). root_of above w ≤ w) (λ w hw e. omega (arith, root_own above w e))
-      (λ w hw lower rest. omega (arith, root-up w hw)) (suc v) v (omega arith) h
+  root_low : (v : ℕ) → v < n → root_of above v ≤ v
+  root_low v h =
+      by_ways (λ (w : ℕ). root_of above w ≤ w) (λ w hw e. omega (arith, root_own above w e))
+      (λ w hw lower rest. omega (arith, root_up w hw)) (suc v) v (omega arith) h
 
   -- the roots are labels
-  pub roots-labelled : Labelled n (roots_of above)
-  roots-labelled =
+  pub roots_labelled : Labelled n (roots_of above)
+  roots_labelled =
       record {
         size = roots_length above ∙ forest.size;
-        low = λ v h. omega (arith, roots-at v h, root-low v h);
+        low = λ v h. omega (arith, roots_at v h, root_low v h);
         own = λ v h.
-            let inside : root_of above v < n = omega (arith, root-low v h) in
-            ap (λ (r : ℕ). get_or (roots_of above) r 0) (roots-at v h) ∙ roots-at (root_of above v) inside
-            ∙ root_own above (root_of above v) (root-root v h) ∙ sym (roots-at v h);
+            let inside : root_of above v < n = omega (arith, root_low v h) in
+            ap (λ (r : ℕ). get_or (roots_of above) r 0) (roots_at v h) ∙ roots_at (root_of above v) inside
+            ∙ root_own above (root_of above v) (root_root v h) ∙ sym (roots_at v h);
       }
 
   -- the roots as a list, by the root of each state
-  pub roots-are :
+  pub roots_are :
       (list : List ℕ) → length list ≡ n → ((v : ℕ) → v < n → root_of above v ≡ get_or list v 0) → roots_of above ≡ list
-  roots-are list size each =
+  roots_are list size each =
       let same : length (roots_of above) ≡ n = roots_length above ∙ forest.size in
       ext_get_or 0 (roots_of above) list (same ∙ sym size)
       (λ v h. let inside : v < n = omega arith in
-      roots-at v inside ∙ each v inside)
+      roots_at v inside ∙ each v inside)
 
 -- another forest in which each state stands below a state of the same root, and no state is a root that was none
 pub same-roots :
@@ -122,16 +122,16 @@ pub same-roots :
     ((v : ℕ) → v < n → root_of above (get_or above' v 0) ≡ root_of above v) →
     ((v : ℕ) → v < n → get_or above' v 0 ≡ v → get_or above v 0 ≡ v) → roots_of above' ≡ roots_of above
 same-roots n above above' forest forest' same root =
-    roots-are n above' forest' (roots_of above) (roots_length above ∙ forest.size)
+    roots_are n above' forest' (roots_of above) (roots_length above ∙ forest.size)
     (λ v h. root_is n above' forest' (root_of above) (λ w hw e. root_own above w (root w hw e)) same v h
-    ∙ sym (roots-at n above forest v h))
+    ∙ sym (roots_at n above forest v h))
 
 -- forests with the same list of roots have the same root of each state
 pub root_kept :
     (n : ℕ) (above above' : List ℕ) → Forest n above → Forest n above' → roots_of above' ≡ roots_of above →
     (v : ℕ) → v < n → root_of above' v ≡ root_of above v
 root_kept n above above' forest forest' same v h =
-    sym (roots-at n above' forest' v h) ∙ ap (λ (l : List ℕ). get_or l v 0) same ∙ roots-at n above forest v h
+    sym (roots_at n above' forest' v h) ∙ ap (λ (l : List ℕ). get_or l v 0) same ∙ roots_at n above forest v h
 
 -- a forest, by its own length
 pub forest_again : (n : ℕ) (above : List ℕ) → Forest n above → Forest (length above) above
@@ -143,7 +143,7 @@ flat_forest n groups labelled = record { size = labelled.size; low = labelled.lo
 
 pub flat_roots : (n : ℕ) (groups : List ℕ) → Labelled n groups → roots_of groups ≡ groups
 flat_roots n groups labelled =
-    roots-are n groups (flat_forest n groups labelled) groups labelled.size
+    roots_are n groups (flat_forest n groups labelled) groups labelled.size
     (root_is n groups (flat_forest n groups labelled) (λ (v : ℕ). get_or groups v 0) (λ v h e. e) labelled.own)
 
 -- one state put below another
@@ -167,11 +167,11 @@ module _ (n : ℕ) (above : List ℕ) (forest : Forest n above) (at value : ℕ)
       }
 
   -- below a lower one of the same root: the roots stay
-  shorter-roots : value < at → root_of above value ≡ root_of above at → roots_of (set above at value) ≡ roots_of above
-  shorter-roots low same =
+  shorter_roots : value < at → root_of above value ≡ root_of above at → roots_of (set above at value) ≡ roots_of above
+  shorter_roots low same =
       same-roots n above (set above at value) forest (set-forest (omega arith))
       (set_cases (λ (v a : ℕ). v < n → root_of above a ≡ root_of above v) (λ h. same)
-      (λ v apart h. sym (root-up n above forest v h)))
+      (λ v apart h. sym (root_up n above forest v h)))
       (set_cases (λ (v a : ℕ). v < n → a ≡ v → get_or above v 0 ≡ v) (λ h e. absurd (omega arith)) (λ v apart h e. e))
 
 -- the way up from v has come to `at`, and `up` is above that; states on the way have been put higher, and every root is as it was
@@ -205,8 +205,8 @@ module _ (n : ℕ) (above₀ above : List ℕ) (v at up : ℕ) (finding : Findin
 
     next-root : root_of above next ≡ root_of above at
     next-root =
-        ap (root_of above) next-is ∙ sym (root-up n above finding.forest up up-inside) ∙ ap (root_of above) finding.up_is
-        ∙ sym (root-up n above finding.forest at finding.inside)
+        ap (root_of above) next-is ∙ sym (root_up n above finding.forest up up-inside) ∙ ap (root_of above) finding.up_is
+        ∙ sym (root_up n above finding.forest at finding.inside)
 
     -- the state is put below the second above it, and the way goes on from that one
     pub finding-next :
@@ -215,7 +215,7 @@ module _ (n : ℕ) (above₀ above : List ℕ) (v at up : ℕ) (finding : Findin
     finding-next at' up' forest₀ at_is up_is =
         record {
           forest = set-forest n above finding.forest at next finding.inside (omega (arith, next_lower));
-          kept = shorter-roots n above finding.forest at next finding.inside next_lower next-root ∙ finding.kept;
+          kept = shorter_roots n above finding.forest at next finding.inside next_lower next-root ∙ finding.kept;
           inside = omega (arith, next-inside);
           up_is = up_is;
           same_root = ap (root_of above₀) at_is ∙ same;
@@ -228,8 +228,8 @@ module _ (n : ℕ) (above₀ above : List ℕ) (v at up : ℕ) (finding : Findin
         same = sym (was forest₀ next next-inside) ∙ next-root ∙ was forest₀ at finding.inside ∙ finding.same_root
 
   -- the way goes on from the state above, with nothing put higher
-  pub finding-up : (up' : ℕ) → Forest n above₀ → up' ≡ get_or above up 0 → Finding n above₀ above v up up'
-  finding-up up' forest₀ up_is =
+  pub finding_up : (up' : ℕ) → Forest n above₀ → up' ≡ get_or above up 0 → Finding n above₀ above v up up'
+  finding_up up' forest₀ up_is =
       record {
         forest = finding.forest;
         kept = finding.kept;
@@ -237,12 +237,12 @@ module _ (n : ℕ) (above₀ above : List ℕ) (v at up : ℕ) (finding : Findin
         up_is = up_is;
         same_root =
             sym (was forest₀ up up-inside) ∙ ap (root_of above) finding.up_is
-            ∙ sym (root-up n above finding.forest at finding.inside) ∙ was forest₀ at finding.inside ∙ finding.same_root;
+            ∙ sym (root_up n above finding.forest at finding.inside) ∙ was forest₀ at finding.inside ∙ finding.same_root;
       }
 
   -- a state above itself is the root
-  pub finding-end : Forest n above₀ → v < n → up ≡ at → FoundRoot n above₀ above v at
-  finding-end forest₀ inside here =
+  pub finding_end : Forest n above₀ → v < n → up ≡ at → FoundRoot n above₀ above v at
+  finding_end forest₀ inside here =
       record { forest = finding.forest; kept = finding.kept; is_root = is_root; own = own; inside = finding.inside }
     where
       own : get_or above at 0 ≡ at
@@ -251,7 +251,7 @@ module _ (n : ℕ) (above₀ above : List ℕ) (v at up : ℕ) (finding : Findin
       is_root : at ≡ get_or (roots_of above₀) v 0
       is_root =
           sym (root_own above at own) ∙ was forest₀ at finding.inside ∙ finding.same_root
-          ∙ sym (roots-at n above₀ forest₀ v inside)
+          ∙ sym (roots_at n above₀ forest₀ v inside)
 
 -- root y put below root x
 pub put_below :
@@ -279,7 +279,7 @@ put_below n above x y new forest inside lower own_x own-y is =
     same : (v : ℕ) → v < n → new-root (get_or (set above y x) v 0) ≡ new-root v
     same =
         set_cases n above forest y x inside (λ (v a : ℕ). v < n → new-root a ≡ new-root v) (λ h. x-root ∙ sym y-root)
-        (λ v apart h. ap (λ (g : ℕ). cond (eqb g y) x g) (sym (root-up n above forest v h)))
+        (λ v apart h. ap (λ (g : ℕ). cond (eqb g y) x g) (sym (root_up n above forest v h)))
 
     own : (v : ℕ) → v < n → get_or (set above y x) v 0 ≡ v → new-root v ≡ v
     own =
@@ -290,9 +290,9 @@ put_below n above x y new forest inside lower own_x own-y is =
     joined : roots_of (set above y x) ≡ relabelled x y (roots_of above)
     joined =
         let size : length (roots_of above) ≡ n = roots_length above ∙ forest.size in
-        roots-are n (set above y x) forest' (relabelled x y (roots_of above)) (relabelled-length x y (roots_of above) ∙ size)
+        roots_are n (set above y x) forest' (relabelled x y (roots_of above)) (relabelled-length x y (roots_of above) ∙ size)
         (λ v h. root_is n (set above y x) forest' new-root own same v h
-        ∙ ap (λ (g : ℕ). cond (eqb g y) x g) (sym (roots-at n above forest v h))
+        ∙ ap (λ (g : ℕ). cond (eqb g y) x g) (sym (roots_at n above forest v h))
         ∙ sym (relabelled-at x y v (roots_of above) (omega arith)))
 
 -- a state's root
@@ -321,7 +321,7 @@ module _
         ⊎_elim
         (λ e. ap (λ (k : ℕ). get_or above k 0) e ∙ sym up_is ∙ e ∙ sym (root_own above₀ v (sym was ∙ e)))
         (λ apart. so_far.filled.done up (omega (arith, flattening-inside)) ∙ ap (root_of above₀) was
-        ∙ sym (root-up (length above₀) above₀ forest v inside))
+        ∙ sym (root_up (length above₀) above₀ forest v inside))
         (eq_dec up v)
 
     pub flattening-more : (new : ℕ) → new ≡ get_or above up 0 → Flattening (v + 1) above₀ (set above v new)
@@ -331,8 +331,8 @@ module _
           rest = rest_kept above₀ above v new so_far.rest;
         }
 
-  pub flattening-all : length above₀ ≤ v → above ≡ roots_of above₀
-  flattening-all all =
+  pub flattening_all : length above₀ ≤ v → above ≡ roots_of above₀
+  flattening_all all =
       sym
-      (roots-are (length above₀) above₀ forest above so_far.filled.size
+      (roots_are (length above₀) above₀ forest above so_far.filled.size
       (λ k h. sym (so_far.filled.done k (omega arith))))

@@ -12,7 +12,7 @@ use Rattle.indexed.specs.Partitions.{Labelled}
 use Rattle.indexed.specs.Passes.{relabelled}
 use Rattle.partition.specs.Joins.{JoinedTwo}
 use Rattle.partition.specs.Forests.{Forest, roots_of, FoundRoot, United, JoinedRoots}
-use Rattle.partition.proofs.ForestLaws.{root-root, roots-at, roots-labelled}
+use Rattle.partition.proofs.ForestLaws.{root_root, roots_at, roots_labelled}
 use Rattle.partition.proofs.JoinLaws.{joined_none, joined_first, joined_flip}
 
 -- the roots x and y of two states found, in a forest with the same roots
@@ -36,13 +36,13 @@ both_found n above above₁ above₂ v w x y inside one two =
     go again =
         let kept : roots_of above₂ ≡ roots_of above = again.kept ∙ one.kept in
         let at-v : get_or (roots_of above₂) v 0 ≡ x = ap (λ (l : List ℕ). get_or l v 0) kept ∙ sym one.is_root in
-        let root = sym at-v ∙ roots-at n above₂ again.forest v inside in
+        let root = sym at-v ∙ roots_at n above₂ again.forest v inside in
         record {
           forest = again.forest;
           kept = kept;
           x_is = one.is_root;
           y_is = again.is_root ∙ ap (λ (l : List ℕ). get_or l w 0) one.kept;
-          x_own = subst (λ (r : ℕ). get_or above₂ r 0 ≡ r) (sym root) (root-root n above₂ again.forest v inside);
+          x_own = subst (λ (r : ℕ). get_or above₂ r 0 ≡ r) (sym root) (root_root n above₂ again.forest v inside);
           y_own = again.own;
           x_inside = one.inside;
           y_inside = again.inside;
@@ -50,8 +50,8 @@ both_found n above above₁ above₂ v w x y inside one two =
 
 module _ (n : ℕ) (above above₂ above₃ : List ℕ) (v w x y : ℕ) (both : Both n above above₂ v w x y) where
   -- the second root is the higher
-  pub roots-joined : x < y → United (length above₂) x y above₂ above₃ → JoinedRoots n above above₃ v w x y
-  roots-joined lower united =
+  pub roots_joined : x < y → United (length above₂) x y above₂ above₃ → JoinedRoots n above above₃ v w x y
+  roots_joined lower united =
       record {
         forest = subst (λ (m : ℕ). Forest m above₃) both.forest.size united.forest;
         inside = both.y_inside;
@@ -62,8 +62,8 @@ module _ (n : ℕ) (above above₂ above₃ : List ℕ) (v w x y : ℕ) (both : 
       }
 
   -- the first root is the higher
-  pub roots-joined-back : y < x → United (length above₂) y x above₂ above₃ → JoinedRoots n above above₃ v w y x
-  roots-joined-back lower united =
+  pub roots_joined_back : y < x → United (length above₂) y x above₂ above₃ → JoinedRoots n above above₃ v w y x
+  roots_joined_back lower united =
       record {
         forest = subst (λ (m : ℕ). Forest m above₃) both.forest.size united.forest;
         inside = both.x_inside;
@@ -101,7 +101,7 @@ roots_two n above above' v w to from forest hv hw roots =
     (eq_dec to from)
   where
     labelled : Labelled n (roots_of above)
-    labelled = roots-labelled n above forest
+    labelled = roots_labelled n above forest
 
     one : to ≡ from → get_or (roots_of above) v 0 ≡ get_or (roots_of above) w 0
     one same = ⊎_elim (λ e. sym e.0 ∙ same ∙ e.1) (λ e. sym e.1 ∙ sym same ∙ e.0) roots.ends

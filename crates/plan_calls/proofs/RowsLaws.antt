@@ -12,7 +12,7 @@ use Rattle.model.specs.Fields.{standard, name_list, read_names}
 use Rattle.model.specs.Tables.{row_fields}
 use Rattle.model.specs.Calls.{Call, Gives, Refuses, too_short, unless, fault_with, names_of}
 use Rattle.model.proofs.CallLaws.{refuses_first, refuses_then, refuses_none, refuses_when, call-refused, gives_as}
-use Rattle.model.proofs.CallLaws.{call-one-short, call-one-wrote, sizes_bad, sizes-refuse, sizes-pass, sizes-fit}
+use Rattle.model.proofs.CallLaws.{call-one_short, call-one_wrote, sizes_bad, sizes_refuse, sizes_pass, sizes_fit}
 use Rattle.model.proofs.LowNumbers.{when-low, first_low, fields_low}
 use Rattle.model.proofs.NameLists.{names_ascend}
 use Rattle.judging.specs.Offsets.{fields_at}
@@ -60,14 +60,14 @@ module _ (rows : List (List ℕ)) (out : List ℕ) where
     pub rows_short :
         length out < bytes → Gives (writing_rows rows) (out ∷ []) (out ∷ []) (plan_rows_of output_too_short 0 0 0)
     rows_short short =
-        call-one-short (writing_rows rows) (row_fields rows) out refl measured.no_fault (omega (arith, measured.bytes_are))
+        call-one_short (writing_rows rows) (row_fields rows) out refl measured.no_fault (omega (arith, measured.bytes_are))
 
     -- the rows at the front of the output
     pub rows_written :
         (out' : List ℕ) (after : ℕ) → bytes ≤ length out → Put out out' 0 (row_fields rows) after →
         Gives (writing_rows rows) (out ∷ []) (out' ∷ []) (plan_rows_of 0 bytes count 0)
     rows_written out' after room put =
-        call-one-wrote (writing_rows rows) (row_fields rows) out refl out' _ measured.no_fault (omega (arith, measured.bytes_are))
+        call-one_wrote (writing_rows rows) (row_fields rows) out refl out' _ measured.no_fault (omega (arith, measured.bytes_are))
         (written-from_zero put.written)
         (ap (λ (n : ℕ). plan_rows_of 0 n count 0) measured.bytes_are
         ∙ ap (λ (n : ℕ). plan_rows_of 0 (length (row_fields rows)) n 0) measured.rows_are)
@@ -142,18 +142,18 @@ module _ (names : List (List ℕ)) (name s : List ℕ) {k p : ℕ} (refused : Re
 
 module _ (plan list : List ℕ) (chosen : ℕ) (work out : List ℕ) where
   -- by any of these
-  asked-refused :
+  asked_refused :
       (k : ℕ) → Refuses (asked_fault plan list chosen work) k → k < bad_plan →
       Gives (reading_rows plan list chosen work) (out ∷ []) (out ∷ []) (plan_rows_of k 0 0 0)
   unfolding reading_rows plan_fault
-  asked-refused k refuses low =
+  asked_refused k refuses low =
       refused-low (reading_rows plan list chosen work) (plan_reading plan list chosen).place k out refl (refuses_first _ refuses) low
 
   -- 1 for the plan
-  pub plan-sizes-refused :
+  pub plan-sizes_refused :
       sizes_bad plan work ≡ true → Gives (reading_rows plan list chosen work) (out ∷ []) (out ∷ []) (plan_rows_of bad_sizes 0 0 0)
   unfolding asked_fault
-  plan-sizes-refused bad = asked-refused bad_sizes (refuses_first _ (sizes-refuse plan work bad)) (omega arith)
+  plan-sizes_refused bad = asked_refused bad_sizes (refuses_first _ (sizes_refuse plan work bad)) (omega arith)
 
   module _ (plan-fits : sizes_bad plan work ≡ false) where
     -- 1 for the list
@@ -161,7 +161,7 @@ module _ (plan list : List ℕ) (chosen : ℕ) (work out : List ℕ) where
         sizes_bad list work ≡ true → Gives (reading_rows plan list chosen work) (out ∷ []) (out ∷ []) (plan_rows_of bad_sizes 0 0 0)
     unfolding asked_fault
     list-sizes-refused bad =
-        asked-refused bad_sizes (refuses_then (sizes-pass plan work plan-fits) (refuses_first _ (sizes-refuse list work bad)))
+        asked_refused bad_sizes (refuses_then (sizes_pass plan work plan-fits) (refuses_first _ (sizes_refuse list work bad)))
         (omega arith)
 
     module _ (list-fits : sizes_bad list work ≡ false) where
@@ -171,9 +171,9 @@ module _ (plan list : List ℕ) (chosen : ℕ) (work out : List ℕ) where
           Gives (reading_rows plan list chosen work) (out ∷ []) (out ∷ []) (plan_rows_of k 0 0 0)
       unfolding asked_fault
       list-refused k is some =
-          asked-refused k
-          (refuses_then (sizes-pass plan work plan-fits)
-          (refuses_then (sizes-pass list work list-fits) (refuses_first _ (record { is = is; some = some }))))
+          asked_refused k
+          (refuses_then (sizes_pass plan work plan-fits)
+          (refuses_then (sizes_pass list work list-fits) (refuses_first _ (record { is = is; some = some }))))
           (omega (arith, is, fields_low standard name_list list))
 
       module _ {p : reader.Place} (at : ListAt list p) where
@@ -186,9 +186,9 @@ module _ (plan list : List ℕ) (chosen : ℕ) (work out : List ℕ) where
             p.names ≤ chosen → Gives (reading_rows plan list chosen work) (out ∷ []) (out ∷ []) (plan_rows_of bad_row 0 0 0)
         unfolding asked_fault
         chosen-refused high =
-            asked-refused bad_row
-            (refuses_then (sizes-pass plan work plan-fits)
-            (refuses_then (sizes-pass list work list-fits)
+            asked_refused bad_row
+            (refuses_then (sizes_pass plan work plan-fits)
+            (refuses_then (sizes_pass list work list-fits)
             (refuses_then at.accepted
             (refuses_when (le-leb (length (names_of list)) chosen (omega (arith, names_count))) (omega arith)))))
             (omega arith)
@@ -197,8 +197,8 @@ module _ (plan list : List ℕ) (chosen : ℕ) (work out : List ℕ) where
         none-asked : chosen < p.names → asked_fault plan list chosen work ≡ 0
         unfolding asked_fault
         none-asked some =
-            refuses_none (sizes-pass plan work plan-fits)
-            (refuses_none (sizes-pass list work list-fits)
+            refuses_none (sizes_pass plan work plan-fits)
+            (refuses_none (sizes_pass list work list-fits)
             (refuses_none at.accepted
             (ap (λ (b : Bool). when b bad_row) (lt-leb (length (names_of list)) chosen (omega (arith, names_count))))))
 
@@ -224,7 +224,7 @@ module _ (plan list : List ℕ) (chosen : ℕ) (work out : List ℕ) where
 -- a plan and an area whose sizes are not refused
 pub plan-room : (plan work : List ℕ) → sizes_bad plan work ≡ false → Room plan work
 plan-room plan work fits =
-    let fit = sizes-fit plan work (sizes-pass plan work fits) in
+    let fit = sizes_fit plan work (sizes_pass plan work fits) in
     record { short = fit.input_fits; long = fit.work_fits }
 
 -- the names of an accepted list, and the number of one of them

@@ -24,7 +24,7 @@ use Rattle.plan_reading.specs.declared.pieces.Piece.TheVariants as piece
 use Rattle.plan_reading.specs.declared.pieces.Close.TheVariants as close
 use Rattle.plan_reading.proofs.ScanLaws.{part_none}
 use Rattle.plan_reading.proofs.StepLaws.{reads_end, reads-stop, reads_go}
-use Rattle.plan_reading.proofs.RunLaws.{skipped-reads, name-read, part-cons, agrees-reads}
+use Rattle.plan_reading.proofs.RunLaws.{skipped_reads, name-read, part-cons, agrees_reads}
 
 -- ---- one byte
 
@@ -47,14 +47,14 @@ no_follow around n b e =
 
 module _ (s : List ℕ) (at next : ℕ) (white : Skipped is_white s at next) where
   -- past white space
-  past-white : (around : List (List ℕ)) (n : List ℕ) → ReadsOn s (named around n) at (named around n) next
+  past_white : (around : List (List ℕ)) (n : List ℕ) → ReadsOn s (named around n) at (named around n) next
   unfolding step met after_name
-  past-white around n = skipped-reads is_white s (named around n) (λ b e. rw (e)) (λ b rest. refl) at next white
+  past_white around n = skipped_reads is_white s (named around n) (λ b e. rw (e)) (λ b rest. refl) at next white
 
   -- nothing follows
   pub end-missing : length s ≤ next → CloseFrom s at (close.Bad next)
   unfolding ended
-  end-missing h around n judge = past-white around n judge ∙ reads_end judge s (named around n) next h
+  end-missing h around n judge = past_white around n judge ∙ reads_end judge s (named around n) next h
 
   module _ (h : next < length s) where
     -- `>` follows
@@ -63,7 +63,7 @@ module _ (s : List ℕ) (at next : ℕ) (white : Skipped is_white s at next) whe
     end-full e =
         let onward : at ≤ next = white.onward in (
           λ around n judge.
-              past-white around n judge ∙ read_byte s (named around n) (inside n around) next h (rw (e)) (λ b rest. refl) judge,
+              past_white around n judge ∙ read_byte s (named around n) (inside n around) next h (rw (e)) (λ b rest. refl) judge,
           omega arith,
           omega arith,
         )
@@ -73,7 +73,7 @@ module _ (s : List ℕ) (at next : ℕ) (white : Skipped is_white s at next) whe
     unfolding step after_name
     end-other g l around n judge =
         let other : is_white (get_or s next 0) ≡ false = white.stopped h in
-        past-white around n judge
+        past_white around n judge
         ∙ reads-stop judge s (named around n) next h (rw (other, ne_eqb (get_or s next 0) greater g, ne_eqb (get_or s next 0) slash l))
 
     module _ (e : get_or s next 0 ≡ slash) where
@@ -81,7 +81,7 @@ module _ (s : List ℕ) (at next : ℕ) (white : Skipped is_white s at next) whe
       past_slash : (around : List (List ℕ)) (n : List ℕ) → ReadsOn s (named around n) at (emptied around) (next + 1)
       unfolding step met after_name
       past_slash around n judge =
-          past-white around n judge ∙ read_byte s (named around n) (emptied around) next h (rw (e)) (λ b rest. refl) judge
+          past_white around n judge ∙ read_byte s (named around n) (emptied around) next h (rw (e)) (λ b rest. refl) judge
 
       -- nothing follows
       pub empty-missing : length s ≤ next + 1 → CloseFrom s at (close.Bad (next + 1))
@@ -247,7 +247,7 @@ module _ (s stack : List ℕ) (r : Reached) (sound : Stacked s stack r) (deep : 
   module _ (last : ℕ) (run : Agrees s from end r.at last) where
     -- past what agrees
     past-agreeing : ReadsOn s (closing_of s stack r) r.at (closing (part s (from + (last - r.at)) end) around) last
-    past-agreeing = agrees-reads s from end r.at last around end-within run
+    past-agreeing = agrees_reads s from end r.at last around end-within run
 
     -- less than the whole name
     pub end-unlike : last - r.at < end - from → Stops s (closing_of s stack r) r.at last
@@ -275,7 +275,7 @@ module _ (s stack : List ℕ) (r : Reached) (sound : Stacked s stack r) (deep : 
           let none : part s (from + (last - r.at)) end ≡ [] = ap (λ (i : ℕ). part s i end) all ∙ part_none s end in
           past-agreeing judge
           ∙ ap (λ (n : List ℕ). reads judge s (closing n around) last) none
-          ∙ skipped-reads is_white s (closing [] around) (λ b e. rw (e)) (λ b rest. refl) last at white judge
+          ∙ skipped_reads is_white s (closing [] around) (λ b e. rw (e)) (λ b rest. refl) last at white judge
 
       -- nothing follows
       pub end-cut : length s ≤ at → Stops s (closing_of s stack r) r.at at
@@ -341,31 +341,31 @@ slash-begins s stack (suc d) h =
 
 module _ (s stack : List ℕ) (r : Reached) where
   -- after the `<`
-  abbrev tag-place : Place
-  tag-place = opened (open_names s stack r.depth)
+  abbrev tag_place : Place
+  tag_place = opened (open_names s stack r.depth)
 
   -- nothing more
-  pub tag-cut : length s ≤ r.at → Stops s tag-place r.at r.at
+  pub tag-cut : length s ≤ r.at → Stops s tag_place r.at r.at
   unfolding ended
-  tag-cut h judge = reads_end judge s tag-place r.at h
+  tag-cut h judge = reads_end judge s tag_place r.at h
 
   -- the `/` of an end tag
   pub tag-slash : r.at < length s → get_or s r.at 0 ≡ slash → 0 < r.depth
-      → ReadsOn s tag-place r.at (closing_of s stack r) (r.at + 1)
+      → ReadsOn s tag_place r.at (closing_of s stack r) (r.at + 1)
   unfolding met
   tag-slash h e deep =
-      read_byte s tag-place (closing_of s stack r) r.at h
-      (ap (step tag-place) e ∙ slash-begins s stack r.depth deep) (λ b rest. refl)
+      read_byte s tag_place (closing_of s stack r) r.at h
+      (ap (step tag_place) e ∙ slash-begins s stack r.depth deep) (λ b rest. refl)
 
   -- a name, or neither
   pub tag-named : (eqb (get_or s r.at 0) slash && ltb 0 r.depth) ≡ false → (p : Piece) → NameFrom s r.at p
-      → PieceFrom s stack tag-place r.at r p
+      → PieceFrom s stack tag_place r.at r p
   tag-named other (piece.Past t) none = absurd none
   tag-named other (piece.Name from end) found =
       let there : r.at ≡ from = sym found.0 in
-      let at_from : Met s stack tag-place r.at r r.at end =
+      let at_from : Met s stack tag_place r.at r r.at end =
       record { reads_on = found.2 (open_names s stack r.depth); here = found.1; further = omega arith } in
-      subst (λ (i : ℕ). Met s stack tag-place r.at r i end) there at_from
+      subst (λ (i : ℕ). Met s stack tag_place r.at r i end) there at_from
   tag-named other (piece.Bad p) stops = stops (open_names s stack r.depth) (no_end s stack r.depth (get_or s r.at 0) other)
 
 -- ---- what stands next
@@ -386,44 +386,44 @@ before_text s r e h run =
 
 module _ (s stack : List ℕ) (tags b : ℕ) where
   -- reading stays in its place
-  next-stays : (depth : ℕ) → may_stand depth b ≡ true
+  next_stays : (depth : ℕ) → may_stand depth b ≡ true
       → step (between (open_names s stack depth) tags) b ≡ go (between (open_names s stack depth) tags)
   unfolding step open_names
-  next-stays zero e = outside (eqb tags 0)
+  next_stays zero e = outside (eqb tags 0)
     where
       outside : (first : Bool) → step (cond first before after) b ≡ go (cond first before after)
       outside true = rw (e)
       outside false = rw (e)
-  next-stays (suc d) e =
+  next_stays (suc d) e =
       let text : is_text b ≡ true = subst (λ z. cond z (is_white b) (is_text b) ≡ true) (eqb-suc-zero d) e in
       let apart : eqb b less ≡ false = (false_or (eqb b less) (eqb b ampersand) (not-true (eqb b less || eqb b ampersand) text)).0 in
       rw (text, apart)
 
   -- or it cannot go on, but for a tag
-  next-stops : (depth : ℕ) → may_stand depth b ≡ false → eqb b less ≡ false
+  next_stops : (depth : ℕ) → may_stand depth b ≡ false → eqb b less ≡ false
       → step (between (open_names s stack depth) tags) b ≡ stop
   unfolding step open_names
-  next-stops zero e apart = outside (eqb tags 0)
+  next_stops zero e apart = outside (eqb tags 0)
     where
       outside : (first : Bool) → step (cond first before after) b ≡ stop
       outside true = rw (e, apart)
       outside false = rw (e)
-  next-stops (suc d) e apart =
+  next_stops (suc d) e apart =
       let text : is_text b ≡ false = subst (λ z. cond z (is_white b) (is_text b) ≡ false) (eqb-suc-zero d) e in
       rw (text, apart)
 
   -- `<` cannot begin a second outermost element
-  next-second : (depth : ℕ) → may_stand depth b ≡ false → (eqb depth 0 && ltb 0 tags) ≡ true
+  next_second : (depth : ℕ) → may_stand depth b ≡ false → (eqb depth 0 && ltb 0 tags) ≡ true
       → step (between (open_names s stack depth) tags) b ≡ stop
   unfolding step open_names
-  next-second zero e begun =
+  next_second zero e begun =
       let some : 0 < tags = ltb-true 0 tags begun in
       outside (eqb tags 0) (ne_eqb tags 0 (λ z. let w : ⊥ = omega arith in w))
     where
       outside : (first : Bool) → first ≡ false → step (cond first before after) b ≡ stop
       outside true g = absurd (true≢false g)
       outside false g = rw (e)
-  next-second (suc d) e begun = absurd (false≢true (subst (λ z. (z && ltb 0 tags) ≡ true) (eqb-suc-zero d) begun))
+  next_second (suc d) e begun = absurd (false≢true (subst (λ z. (z && ltb 0 tags) ≡ true) (eqb-suc-zero d) begun))
 
 -- else it begins a tag
 next_opens : (s stack : List ℕ) (tags depth : ℕ) → (eqb depth 0 && ltb 0 tags) ≡ false
@@ -449,18 +449,18 @@ none_between (n ∷ names) tags b rest = refl
 
 module _ (s stack : List ℕ) (r : Reached) (at : ℕ) (run : BeforeTag s r at) where
   -- past what may stand before a tag
-  past-before : ReadsOn s (place_of s stack r) r.at (place_of s stack r) at
-  past-before =
-      skipped-reads (may_stand r.depth) s (place_of s stack r) (λ b e. next-stays s stack r.tags b r.depth e)
+  past_before : ReadsOn s (place_of s stack r) r.at (place_of s stack r) at
+  past_before =
+      skipped_reads (may_stand r.depth) s (place_of s stack r) (λ b e. next_stays s stack r.tags b r.depth e)
       (none_between (open_names s stack r.depth) r.tags) r.at at run
 
   -- nothing else
-  pub only-before : Stacked s stack r → r.at < length s → length s ≤ at
+  pub only_before : Stacked s stack r → r.at < length s → length s ≤ at
       → Passed s stack (place_of s stack r) r.at r (moved r at)
-  only-before sound h g =
+  only_before sound h g =
       let within : at ≤ length s = run.within in
       record {
-        reads_on = past-before;
+        reads_on = past_before;
         sound = stacked_on s stack r at sound (omega arith) within;
         further = omega arith;
         same_tags = refl;
@@ -471,22 +471,22 @@ module _ (s stack : List ℕ) (r : Reached) (at : ℕ) (run : BeforeTag s r at) 
     -- a byte that begins no tag
     pub no-tag : (get_or s at 0 ≡ less → ⊥) → Stops s (place_of s stack r) r.at at
     no-tag g judge =
-        past-before judge
+        past_before judge
         ∙ reads-stop judge s (place_of s stack r) at h
-        (next-stops s stack r.tags (get_or s at 0) r.depth (run.stopped h) (ne_eqb (get_or s at 0) less g))
+        (next_stops s stack r.tags (get_or s at 0) r.depth (run.stopped h) (ne_eqb (get_or s at 0) less g))
 
     -- after the outermost element
     pub second-element : (eqb r.depth 0 && ltb 0 r.tags) ≡ true → Stops s (place_of s stack r) r.at at
     second-element begun judge =
-        past-before judge
+        past_before judge
         ∙ reads-stop judge s (place_of s stack r) at h
-        (next-second s stack r.tags (get_or s at 0) r.depth (run.stopped h) begun)
+        (next_second s stack r.tags (get_or s at 0) r.depth (run.stopped h) begun)
 
     -- the `<` of a tag
     pub tag-next : get_or s at 0 ≡ less → (eqb r.depth 0 && ltb 0 r.tags) ≡ false
         → ReadsOn s (place_of s stack r) r.at (opened (open_names s stack r.depth)) (at + 1)
     tag-next e inner judge =
-        past-before judge
+        past_before judge
         ∙ read_byte s (place_of s stack r) (opened (open_names s stack r.depth)) at h
         (ap (step (place_of s stack r)) e ∙ next_opens s stack r.tags r.depth inner)
         (none_between (open_names s stack r.depth) r.tags) judge

@@ -36,8 +36,8 @@ module _ (test : ℕ → Bool) (s : List ℕ) (q : Place) (stays : (b : ℕ) →
       ∙ stays-from judge e k (suc i) (omega arith) within (λ (j : ℕ) (a : suc i ≤ j) (b : j < e). passed j (omega arith) b)
 
   -- past all of them
-  pub skipped-reads : (at e : ℕ) → Skipped test s at e → ReadsOn s q at q e
-  skipped-reads at e run judge =
+  pub skipped_reads : (at e : ℕ) → Skipped test s at e → ReadsOn s q at q e
+  skipped_reads at e run judge =
       let before : at ≤ e = run.onward in
       stays-from judge e (e - at) at (omega arith) run.within run.passed
 
@@ -86,9 +86,9 @@ module _ (s : List ℕ) (from end at stop : ℕ) (around : List (List ℕ)) (wit
   due i = closing (part s (from + i) end) around
 
   -- one byte more
-  agrees-byte : (i : ℕ) → i < stop - at → ReadsOn s (due i) (at + i) (due (suc i)) (suc (at + i))
+  agrees_byte : (i : ℕ) → i < stop - at → ReadsOn s (due i) (at + i) (due (suc i)) (suc (at + i))
   unfolding step met
-  agrees-byte i h judge =
+  agrees_byte i h judge =
       let onward : at ≤ stop = run.onward in
       let inside : stop ≤ length s = run.within in
       let limit : from + (stop - at) ≤ end = run.not_beyond in
@@ -109,11 +109,11 @@ module _ (s : List ℕ) (from end at stop : ℕ) (around : List (List ℕ)) (wit
       ap (λ (j : ℕ). reads judge s (due j) (at + i)) same ∙ ap (reads judge s (due (stop - at))) last
   agrees_from judge (suc k) i there =
       let next : suc (at + i) ≡ at + suc i = omega arith in
-      agrees-byte i (omega arith) judge ∙ ap (reads judge s (due (suc i))) next ∙ agrees_from judge k (suc i) (omega arith)
+      agrees_byte i (omega arith) judge ∙ ap (reads judge s (due (suc i))) next ∙ agrees_from judge k (suc i) (omega arith)
 
   -- past all of them
-  pub agrees-reads : ReadsOn s (closing (part s from end) around) at (due (stop - at)) stop
-  agrees-reads judge =
+  pub agrees_reads : ReadsOn s (closing (part s from end) around) at (due (stop - at)) stop
+  agrees_reads judge =
       let start : from ≡ from + 0 = omega arith in
       let first : at ≡ at + 0 = omega arith in
       ap (λ (n : ℕ). reads judge s (closing (part s n end) around) at) start

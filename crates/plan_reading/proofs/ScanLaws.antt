@@ -77,8 +77,8 @@ pub record Naming (s : List ℕ) (at i : ℕ) : Type 0 where
 
 module _ (s : List ℕ) (at : ℕ) where
   -- the first byte starts a name
-  pub naming-start : at < length s → starts_name (get_or s at 0) ≡ true → Naming s at (at + 1)
-  naming-start h e =
+  pub naming_start : at < length s → starts_name (get_or s at 0) ≡ true → Naming s at (at + 1)
+  naming_start h e =
       let first : part s at (at + 1) ≡ get_or s at 0 ∷ [] =
       part-more s at at (omega arith) h ∙ ap (λ (n : List ℕ). n ++ (get_or s at 0 ∷ [])) (part_none s at) in
       let name : name_ok (part s at (at + 1)) ≡ true =
@@ -93,9 +93,9 @@ module _ (s : List ℕ) (at : ℕ) where
       }
 
   -- one byte more goes on with it
-  pub naming-more :
+  pub naming_more :
       (i : ℕ) → Naming s at i → i < length s → i - at < name_bytes → continues_name (get_or s i 0) ≡ true → Naming s at (i + 1)
-  naming-more i run h short e =
+  naming_more i run h short e =
       let before : at < i = run.some in
       let few : length (part s at i) < name_bytes = omega (arith, length_part s at i run.within) in
       let name : name_ok (part s at (i + 1)) ≡ true =
@@ -112,9 +112,9 @@ module _ (s : List ℕ) (at : ℕ) where
       }
 
   -- no name begins with these bytes and the one at `i`, if there is one
-  naming-end :
+  naming_end :
       (i : ℕ) → Naming s at i → (i < length s → begins_name (part s at i ++ (get_or s i 0 ∷ [])) ≡ false) → NameEnds s at i
-  naming-end i run stops =
+  naming_end i run stops =
       let before : at < i = run.some in
       record {
         onward = omega arith;
@@ -125,22 +125,22 @@ module _ (s : List ℕ) (at : ℕ) where
       }
 
   -- no byte follows
-  pub naming-all : (i : ℕ) → Naming s at i → length s ≤ i → NameEnds s at i
-  naming-all i run h = naming-end i run (λ (g : i < length s). let z : ⊥ = omega arith in absurd z)
+  pub naming_all : (i : ℕ) → Naming s at i → length s ≤ i → NameEnds s at i
+  naming_all i run h = naming_end i run (λ (g : i < length s). let z : ⊥ = omega arith in absurd z)
 
   -- the name has the greatest length
-  pub naming-full : (i : ℕ) → Naming s at i → name_bytes ≤ i - at → NameEnds s at i
-  naming-full i run full =
+  pub naming_full : (i : ℕ) → Naming s at i → name_bytes ≤ i - at → NameEnds s at i
+  naming_full i run full =
       let many : name_bytes ≤ length (part s at i) = omega (arith, length_part s at i run.within) in
-      naming-end i run (λ (g : i < length s). name_full (part s at i) (get_or s i 0) many)
+      naming_end i run (λ (g : i < length s). name_full (part s at i) (get_or s i 0) many)
 
   -- the byte that follows stands in no name
-  pub naming-stop : (i : ℕ) → Naming s at i → continues_name (get_or s i 0) ≡ false → NameEnds s at i
-  naming-stop i run e = naming-end i run (λ (g : i < length s). name_not_more (part s at i) (get_or s i 0) e)
+  pub naming_stop : (i : ℕ) → Naming s at i → continues_name (get_or s i 0) ≡ false → NameEnds s at i
+  naming_stop i run e = naming_end i run (λ (g : i < length s). name_not_more (part s at i) (get_or s i 0) e)
 
   -- no name begins here
-  pub naming-none : at ≤ length s → (at < length s → starts_name (get_or s at 0) ≡ false) → NameEnds s at at
-  naming-none h stops =
+  pub naming_none : at ≤ length s → (at < length s → starts_name (get_or s at 0) ≡ false) → NameEnds s at at
+  naming_none h stops =
       record {
         onward = omega arith;
         within = h;
@@ -163,8 +163,8 @@ pub record Agreeing (s : List ℕ) (from end at i j : ℕ) : Type 0 where
 
 module _ (s : List ℕ) (from end at : ℕ) where
   -- no byte is read yet
-  pub agreeing-start : from ≤ end → at ≤ length s → Agreeing s from end at at from
-  agreeing-start h g =
+  pub agreeing_start : from ≤ end → at ≤ length s → Agreeing s from end at at from
+  agreeing_start h g =
       record {
         onward = omega arith;
         within = g;
@@ -174,10 +174,10 @@ module _ (s : List ℕ) (from end at : ℕ) where
       }
 
   -- one byte more agrees
-  pub agreeing-more :
+  pub agreeing_more :
       (i j : ℕ) → Agreeing s from end at i j → j < end → i < length s → get_or s i 0 ≡ get_or s j 0 →
       Agreeing s from end at (i + 1) (j + 1)
-  agreeing-more i j run h g e =
+  agreeing_more i j run h g e =
       let before : at ≤ i = run.onward in
       let beside : from + (i - at) ≡ j = run.beside in
       let here : at + (i - at) ≡ i = omega arith in
@@ -195,9 +195,9 @@ module _ (s : List ℕ) (from end at : ℕ) where
       }
 
   -- all bytes agree, or the one at `i`, if there is one, does not
-  pub agreeing-end :
+  pub agreeing_end :
       (i j : ℕ) → Agreeing s from end at i j → (j < end → i < length s → get_or s i 0 ≡ get_or s j 0 → ⊥) → Agrees s from end at i
-  agreeing-end i j run stops =
+  agreeing_end i j run stops =
       let beside : from + (i - at) ≡ j = run.beside in
       let low : j ≤ end = run.not_beyond in
       record {

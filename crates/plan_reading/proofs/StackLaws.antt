@@ -140,8 +140,8 @@ fine_shallow names chosen s stack depth name onward e =
 
 module _ (stack : List ℕ) (depth number : ℕ) (sought : Sought) where
   -- a tag inside fewer elements does not stand too deep
-  not-too-deep : (s : List ℕ) → (plan_depth ≤ depth → ⊥) → leb plan_depth (length (open_names s stack depth)) ≡ false
-  not-too-deep s shallow = ap (leb plan_depth) (open_count s stack depth) ∙ told-false (tells_leb plan_depth depth) shallow
+  not_too_deep : (s : List ℕ) → (plan_depth ≤ depth → ⊥) → leb plan_depth (length (open_names s stack depth)) ≡ false
+  not_too_deep s shallow = ap (leb plan_depth) (open_count s stack depth) ∙ told-false (tells_leb plan_depth depth) shallow
 
   -- a name is known by its number
   known_by : (list name : List ℕ) → number ≡ name_number (sought_names list sought) name
@@ -166,7 +166,7 @@ module _ (stack : List ℕ) (depth number : ℕ) (sought : Sought) where
         is = λ list s name onward named numbered e.
             let shallow : plan_depth ≤ depth → ⊥ = λ h. let z : ⊥ = omega arith in z in
             fault_is (sought_names list sought) (sought_name list sought) (open_names s stack depth) name onward
-            (not-too-deep s shallow)
+            (not_too_deep s shallow)
             (ap (λ (d : ℕ). is_child (sought_name list sought) (open_names s stack d)) none) refl;
       }
 
@@ -176,7 +176,7 @@ module _ (stack : List ℕ) (depth number : ℕ) (sought : Sought) where
       record {
         is = λ list s name onward named numbered e.
             let child = is_child (sought_name list sought) (open_names s stack depth) in
-            fault_is (sought_names list sought) (sought_name list sought) (open_names s stack depth) name onward (not-too-deep s shallow) refl
+            fault_is (sought_names list sought) (sought_name list sought) (open_names s stack depth) name onward (not_too_deep s shallow) refl
             (known_by list name e ∙ (tells_ltb number sought.names).test low)
             ∙ known_passes child;
       }
@@ -187,7 +187,7 @@ module _ (stack : List ℕ) (depth number : ℕ) (sought : Sought) where
     judged-unknown child =
         record {
           is = λ list s name onward named numbered e.
-              fault_is (sought_names list sought) (sought_name list sought) (open_names s stack depth) name onward (not-too-deep s shallow)
+              fault_is (sought_names list sought) (sought_name list sought) (open_names s stack depth) name onward (not_too_deep s shallow)
               (child_test list sought s stack depth named numbered inner
               ∙ (tells_eqb (get_or stack (3 * depth - 1) 0) sought.chosen).test child)
               (known_by list name e ∙ told-false (tells_ltb number sought.names) high);
@@ -198,7 +198,7 @@ module _ (stack : List ℕ) (depth number : ℕ) (sought : Sought) where
     judged-other other =
         record {
           is = λ list s name onward named numbered e.
-              fault_is (sought_names list sought) (sought_name list sought) (open_names s stack depth) name onward (not-too-deep s shallow)
+              fault_is (sought_names list sought) (sought_name list sought) (open_names s stack depth) name onward (not_too_deep s shallow)
               (child_test list sought s stack depth named numbered inner
               ∙ told-false (tells_eqb (get_or stack (3 * depth - 1) 0) sought.chosen) other)
               refl;

@@ -42,9 +42,9 @@ module _ (names : List (List ℕ)) (s stack : List ℕ) (r : Reached) (from end 
   afterTheName = named (open_names s stack r.depth) (part s from end)
 
   -- an empty-element tag: the elements that are open are the same
-  pub element-empty : ReadsOn s afterTheName end (leave (open_names s stack r.depth)) at
+  pub element_empty : ReadsOn s afterTheName end (leave (open_names s stack r.depth)) at
       → Begun names s stack stack afterTheName end r (record { at = at; depth = r.depth; tags = r.tags + 1 })
-  element-empty on =
+  element_empty on =
       let was = stands.stacked in
       record {
         reads_on = λ judge.
@@ -89,8 +89,8 @@ module _ (names : List (List ℕ)) (s stack : List ℕ) (r : Reached) (from end 
     kept = pushed-below stack r.depth from end number
 
     -- the element's name
-    new-name : open_name s after_push r.depth ≡ part s from end
-    new-name = ap₂ (part s) from_is end_is
+    new_name : open_name s after_push r.depth ≡ part s from end
+    new_name = ap₂ (part s) from_is end_is
 
     -- the names of all that are open
     new-names : open_names s after_push (r.depth + 1) ≡ part s from end ∷ open_names s stack r.depth
@@ -98,7 +98,7 @@ module _ (names : List (List ℕ)) (s stack : List ℕ) (r : Reached) (from end 
     new-names =
         let one_more : r.depth + 1 ≡ suc r.depth = omega arith in
         ap (open_names s after_push) one_more
-        ∙ ap₂ (λ (n : List ℕ) (ns : List (List ℕ)). n ∷ ns) new-name (names_kept s stack after_push r.depth kept)
+        ∙ ap₂ (λ (n : List ℕ) (ns : List (List ℕ)). n ∷ ns) new_name (names_kept s stack after_push r.depth kept)
 
     -- the number of each stands beside it
     new-numbers : Numbered names s after_push (r.depth + 1)
@@ -108,7 +108,7 @@ module _ (names : List (List ℕ)) (s stack : List ℕ) (r : Reached) (from end 
         kept (3 * d + 2) (omega arith)
         ∙ stands.numbered d h
         ∙ sym (ap (name_number names) (name_kept s stack after_push d (λ j k. kept j (omega arith)))))
-        (pushed-number stack r.depth from end number has_room ∙ is_number ∙ ap (name_number names) (sym new-name))
+        (pushed-number stack r.depth from end number has_room ∙ is_number ∙ ap (name_number names) (sym new_name))
 
     -- a start tag: the element is open
     pub element-opened : ReadsOn s afterTheName end (inside (part s from end) (open_names s stack r.depth)) at
@@ -155,9 +155,9 @@ turn_stops judge s q i p stops = refused_as (reads judge s q i) [] bad_plan p (s
 
 module _ (names : List (List ℕ)) (judge : Tag → ℕ) (s stack log : List ℕ) (r : Reached) (stands : Standing names s stack r) where
   -- an end tag, or what stands before a tag
-  pub turn-past : (t : Reached) → Passed s stack (place_of s stack r) r.at r t
+  pub turn_past : (t : Reached) → Passed s stack (place_of s stack r) r.at r t
       → ReadFurther names judge s stack stack log log r t
-  turn-past t passed =
+  turn_past t passed =
       record {
         met_tags = [];
         reads_on = passed.reads_on judge;

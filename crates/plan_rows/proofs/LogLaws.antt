@@ -26,9 +26,9 @@ module _ (log : List ℕ) (count i : ℕ) where
       ap (entries_at log i) one_more ∙ ap (λ (j : ℕ). entry_at log i ∷ entries_at log j (count - (i + 1))) (rw add-one)
 
   -- none past the last
-  entries-end : count ≤ i → entries_from log count i ≡ []
+  entries_end : count ≤ i → entries_from log count i ≡ []
   unfolding entries_from entries_at
-  entries-end h =
+  entries_end h =
       let none_left : count - i ≡ 0 = omega arith in
       ap (entries_at log i) none_left
 
@@ -48,13 +48,13 @@ module _ (log : List ℕ) (count i : ℕ) where
 
   pub rows_end : (chosen : ℕ) → count ≤ i → rows_in chosen (entries_from log count i) ≡ []
   unfolding rows_in
-  rows_end chosen h = ap (rows_in chosen) (entries-end h)
+  rows_end chosen h = ap (rows_in chosen) (entries_end h)
 
   -- ---- the row of an element at this depth
 
-  pub row-stops : (depth : ℕ) → i < count → (entry_at log i).depth ≤ depth → row_after depth (entries_from log count i) ≡ []
+  pub row_stops : (depth : ℕ) → i < count → (entry_at log i).depth ≤ depth → row_after depth (entries_from log count i) ≡ []
   unfolding row_after
-  row-stops depth h g = rw (entries_next h, row_after, le-leb (entry_at log i).depth depth g)
+  row_stops depth h g = rw (entries_next h, row_after, le-leb (entry_at log i).depth depth g)
 
   pub row_takes :
       (depth : ℕ) → i < count → (entry_at log i).depth ≡ depth + 1 →
@@ -76,4 +76,4 @@ module _ (log : List ℕ) (count i : ℕ) where
 
   pub row_ends : (depth : ℕ) → count ≤ i → row_after depth (entries_from log count i) ≡ []
   unfolding row_after
-  row_ends depth h = ap (row_after depth) (entries-end h)
+  row_ends depth h = ap (row_after depth) (entries_end h)

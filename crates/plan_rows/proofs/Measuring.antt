@@ -23,10 +23,10 @@ passed_none rows = record { short = refl; sized = omega arith }
 
 module _ {rows : List (List ℕ)} {bytes : ℕ} where
   -- one row more, of n entries
-  pub passed-more :
+  pub passed_more :
       {row : List ℕ} {left : List (List ℕ)} (n : ℕ) → n ≡ length row → n ≤ row_limit → MeasuredTo rows (row ∷ left) bytes →
       MeasuredTo rows left (bytes + (3 + n))
-  passed-more {row} {left} n e h p =
+  passed_more {row} {left} n e h p =
       let within : length row ≤ row_limit = omega arith in
       record {
         short = sym (short_next row left within) ∙ p.short;
@@ -34,17 +34,17 @@ module _ {rows : List (List ℕ)} {bytes : ℕ} where
       }
 
   -- a row too long
-  pub passed-long :
+  pub passed_long :
       {row : List ℕ} {left : List (List ℕ)} (n : ℕ) → n ≡ length row → row_limit < n → MeasuredTo rows (row ∷ left) bytes →
       length rows ≤ book_rows → Refuses (rows_fault rows) bad_row
-  passed-long {row} {left} n e h p few =
+  passed_long {row} {left} n e h p few =
       let beyond : row_limit < length row = omega arith in
       row_too_long rows few (sym p.short ∙ short_not row left beyond)
 
   -- all rows
-  pub passed-all : (count : ℕ) → count ≡ length rows → count ≤ book_rows → MeasuredTo rows [] bytes → MeasuredAs rows count bytes
+  pub passed_all : (count : ℕ) → count ≡ length rows → count ≤ book_rows → MeasuredTo rows [] bytes → MeasuredAs rows count bytes
   unfolding rows_short all
-  passed-all count e h p =
+  passed_all count e h p =
       let few : length rows ≤ book_rows = omega arith in
       record {
         no_fault = rows_pass rows few (sym p.short);

@@ -13,7 +13,7 @@ use Rattle.model.specs.Fields.{Settings, Allowed}
 use Rattle.model.specs.Calls.{Says, too_short, fault_with, over, sizes_fault, book_of, book_fault, build_fault}
 use Rattle.model.specs.Listing.{book_listing, refusal_text, listing_fault, listing_of}
 use Rattle.model.proofs.FieldLaws.{first_of_lem}
-use Rattle.model.proofs.CallLaws.{call_answered, refusal_is, answered, untouched, fault_roomy, short-is, one-wrote, front_of_lem}
+use Rattle.model.proofs.CallLaws.{call_answered, refusal_is, answered, untouched, fault_roomy, short_is, one_wrote, front_of_lem}
 use Rattle.writing.proofs.WritingLaws.{written-from_zero}
 use Rattle.writing.specs.Writing.{Put}
 use Rattle.results.specs.declared.Written.{Written}
@@ -33,7 +33,7 @@ module _
   fault_is =
       let room : build_fault settings book work ≡ 0 → too_short (listing_book settings book work).writes (text ∷ []) ≡ false =
       λ (none : build_fault settings book work ≡ 0).
-      short-is (listing_book settings book work) (book_listing (book_of settings book)) text refl
+      short_is (listing_book settings book work) (book_listing (book_of settings book)) text refl
       ∙ le-ltb (length text) (length (book_listing (book_of settings book)))
       (omega (
         arith,
@@ -42,9 +42,9 @@ module _
       )) in
       fault_roomy (listing_book settings book work) (text ∷ []) room ∙ ap (λ (n : ℕ). first_of n (book_fault settings book)) sizes-are
 
-  refusal-printed : (number : ℕ) → listing_fault settings book ≡ number → 0 < number → listing_of settings book ≡ refusal_text number
+  refusal_printed : (number : ℕ) → listing_fault settings book ≡ number → 0 < number → listing_of settings book ≡ refusal_text number
   unfolding listing_of
-  refusal-printed number e some =
+  refusal_printed number e some =
       let fault = listing_fault settings book in
       let refuses : eqb fault 0 ≡ false = ne_eqb fault 0 (λ (z : fault ≡ 0). omega arith) in
       let printed : listing_of settings book ≡ refusal_text (listing_fault settings book) = rw (refuses, listing_of) in
@@ -77,7 +77,7 @@ module _
         let same : text₁ ≡ text =
         ap (λ (l : List (List ℕ)). get_or l 0 [])
         (untouched says.gives (record { is = fault_is ∙ sym fault-told; some = some })) in
-        let printed : bytes ≡ listing_of settings book = sym (refusal-printed r.refusal (sym fault-told) some) in
+        let printed : bytes ≡ listing_of settings book = sym (refusal_printed r.refusal (sym fault-told) some) in
         record {
           says = told (omega (arith, puts.ends, ap length printed));
           text_is =
@@ -92,7 +92,7 @@ module _
         record {
           says = told (ap (λ (w : Written). w.length) (answered says.gives none) ∙ ap length printed);
           text_is =
-              one-wrote (listing_book settings book work) (book_listing (book_of settings book)) text refl text₁ r says.gives none
+              one_wrote (listing_book settings book work) (book_listing (book_of settings book)) text refl text₁ r says.gives none
               ∙ ap (λ (l : List ℕ). over l text) printed;
         }
 

@@ -44,22 +44,22 @@ module _ {nodes rows : List Word} {count : ℕ} {s : Store} (g : Grown nodes row
   child-above-root zero n = let z : ⊥ = omega (arith, g.root_name, n) in absurd z
   child-above-root (suc c) n = omega arith
 
-  pub child-word : (c : ℕ) → IsChild count state name s.parents s.names c → get_or nodes c [] ≡ longer nodes state name
-  child-word c is =
+  pub child_word : (c : ℕ) → IsChild count state name s.parents s.names c → get_or nodes c [] ≡ longer nodes state name
+  child_word c is =
       let parent : get_or s.parents c 0 ≡ state = is.parent in
       let named : get_or s.names c 0 ≡ name = is.named in
       let word = g.word c (child-above-root c named) is.below in
       rw (parent, named) at word
 
-  pub child-met : (c : ℕ) → IsChild count state name s.parents s.names c → In (longer nodes state name) nodes
-  child-met c is =
+  pub child_met : (c : ℕ) → IsChild count state name s.parents s.names c → In (longer nodes state name) nodes
+  child_met c is =
       let size : length nodes ≡ count = g.size in
       let below : c < count = is.below in
-      Memᴰ.cast (sym (child-word c is)) (nth_in [] nodes c (omega arith))
+      Memᴰ.cast (sym (child_word c is)) (nth_in [] nodes c (omega arith))
 
   -- where the cell does not hold the child, the longer word is none of the nodes
-  pub child-new : NoChild count state name s.parents s.names s.work → In (longer nodes state name) nodes → ⊥
-  child-new no_one m =
+  pub child_new : NoChild count state name s.parents s.names s.work → In (longer nodes state name) nodes → ⊥
+  child_new no_one m =
       let r = place_of [] nodes (longer nodes state name) m in
       let size : length nodes ≡ count = g.size in
       let low-r : r.0 < length nodes = r.1 in
@@ -88,26 +88,26 @@ module _ {nodes rows : List Word} {count : ℕ} {s : Store} (g : Grown nodes row
   old-parent : (v : ℕ) → v < count → get_or (set s.parents count state) v 0 ≡ get_or s.parents v 0
   old-parent v h = get_or-set_other s.parents count v state 0 (λ e. omega arith)
 
-  old-name : (v : ℕ) → v < count → get_or (set s.names count name) v 0 ≡ get_or s.names v 0
-  old-name v h = get_or-set_other s.names count v name 0 (λ e. omega arith)
+  old_name : (v : ℕ) → v < count → get_or (set s.names count name) v 0 ≡ get_or s.names v 0
+  old_name v h = get_or-set_other s.names count v name 0 (λ e. omega arith)
 
-  old-ends : (v : ℕ) → v < count → get_or (set s.ends count 0) v 0 ≡ get_or s.ends v 0
-  old-ends v h = get_or-set_other s.ends count v 0 0 (λ e. omega arith)
+  old_ends : (v : ℕ) → v < count → get_or (set s.ends count 0) v 0 ≡ get_or s.ends v 0
+  old_ends v h = get_or-set_other s.ends count v 0 0 (λ e. omega arith)
 
-  new-parent : get_or (set s.parents count state) count 0 ≡ state
-  new-parent = get_or-set_same s.parents count state 0 (omega (arith, sizes.parents_size))
+  new_parent : get_or (set s.parents count state) count 0 ≡ state
+  new_parent = get_or-set_same s.parents count state 0 (omega (arith, sizes.parents_size))
 
-  new-name : get_or (set s.names count name) count 0 ≡ name
-  new-name = get_or-set_same s.names count name 0 (omega (arith, sizes.names_size))
+  new_name : get_or (set s.names count name) count 0 ≡ name
+  new_name = get_or-set_same s.names count name 0 (omega (arith, sizes.names_size))
 
-  new-ends : get_or (set s.ends count 0) count 0 ≡ 0
-  new-ends = get_or-set_same s.ends count 0 0 (omega (arith, sizes.ends_size))
+  new_ends : get_or (set s.ends count 0) count 0 ≡ 0
+  new_ends = get_or-set_same s.ends count 0 0 (omega (arith, sizes.ends_size))
 
-  old-word : (v : ℕ) → v < count → get_or (nodes ++ (longer nodes state name ∷ [])) v [] ≡ get_or nodes v []
-  old-word v h = snoc_old nodes (longer nodes state name) v count g.size h
+  old_word : (v : ℕ) → v < count → get_or (nodes ++ (longer nodes state name ∷ [])) v [] ≡ get_or nodes v []
+  old_word v h = snoc_old nodes (longer nodes state name) v count g.size h
 
-  new-word-at : get_or (nodes ++ (longer nodes state name ∷ [])) count [] ≡ longer nodes state name
-  new-word-at = snoc_new nodes (longer nodes state name) count g.size
+  new_word_at : get_or (nodes ++ (longer nodes state name ∷ [])) count [] ≡ longer nodes state name
+  new_word_at = snoc_new nodes (longer nodes state name) count g.size
 
   -- no state so far is the child that is appended
   not_yet : (v : ℕ) → v < count → get_or nodes v [] ≡ longer nodes state name → ⊥
@@ -116,13 +116,13 @@ module _ {nodes rows : List Word} {count : ℕ} {s : Store} (g : Grown nodes row
   appended-before : (v : ℕ) → 0 < v → v < count + 1 → get_or (set s.parents count state) v 0 < v
   appended-before v pos h =
       ⊎_elim (λ (l : v < count). rw (old-parent v l) (g.parent_before v pos l))
-      (λ (e : v ≡ count). rw (e, new-parent) low)
+      (λ (e : v ≡ count). rw (e, new_parent) low)
       (below_or_last v count h)
 
   appended-below : (v : ℕ) → 0 < v → v < count + 1 → get_or (set s.names count name) v 0 < name_limit
   appended-below v pos h =
-      ⊎_elim (λ (l : v < count). rw (old-name v l) (g.name_below v pos l))
-      (λ (e : v ≡ count). rw (e, new-name) small)
+      ⊎_elim (λ (l : v < count). rw (old_name v l) (g.name_below v pos l))
+      (λ (e : v ≡ count). rw (e, new_name) small)
       (below_or_last v count h)
 
   appended-word : (v : ℕ) → 0 < v → v < count + 1
@@ -133,8 +133,8 @@ module _ {nodes rows : List Word} {count : ℕ} {s : Store} (g : Grown nodes row
       ⊎_elim
       (λ (l : v < count).
       let before : get_or s.parents v 0 < v = g.parent_before v pos l in
-      rw (old-parent v l, old-name v l, old-word v l, old-word (get_or s.parents v 0) (omega arith)) (g.word v pos l))
-      (λ (e : v ≡ count). rw (e, new-parent, new-name, new-word-at, old-word state low))
+      rw (old-parent v l, old_name v l, old_word v l, old_word (get_or s.parents v 0) (omega arith)) (g.word v pos l))
+      (λ (e : v ≡ count). rw (e, new_parent, new_name, new_word_at, old_word state low))
       (below_or_last v count h)
 
   appended-cell : (v : ℕ) → 0 < v → v < count + 1
@@ -143,11 +143,11 @@ module _ {nodes rows : List Word} {count : ℕ} {s : Store} (g : Grown nodes row
   appended-cell v pos h =
       ⊎_elim
       (λ (l : v < count).
-      rw (old-parent v l, old-name v l)
+      rw (old-parent v l, old_name v l)
       (cell_other s.work state name count (get_or s.parents v 0) (get_or s.names v 0) small (g.name_below v pos l)
       (λ p n. not_yet v l (g.word v pos l ∙ rw (p, n)))
       ∙ g.cell v pos l))
-      (λ (e : v ≡ count). rw (e, new-parent, new-name) (cell_same s.work state name count (omega arith) small sizes.work_size))
+      (λ (e : v ≡ count). rw (e, new_parent, new_name) (cell_same s.work state name count (omega arith) small sizes.work_size))
       (below_or_last v count h)
 
   appended-single : (v w : ℕ) → v < count + 1 → w < count + 1
@@ -156,16 +156,16 @@ module _ {nodes rows : List Word} {count : ℕ} {s : Store} (g : Grown nodes row
   appended-single v w h k e =
       ⊎_elim
       (λ (l : v < count).
-      ⊎_elim (λ (m : w < count). g.single v w l m (sym (old-word v l) ∙ e ∙ old-word w m))
+      ⊎_elim (λ (m : w < count). g.single v w l m (sym (old_word v l) ∙ e ∙ old_word w m))
       (λ (q : w ≡ count).
       absurd (not_yet v l
-      (sym (old-word v l) ∙ e ∙ ap (λ (i : ℕ). get_or (nodes ++ (longer nodes state name ∷ [])) i []) q ∙ new-word-at)))
+      (sym (old_word v l) ∙ e ∙ ap (λ (i : ℕ). get_or (nodes ++ (longer nodes state name ∷ [])) i []) q ∙ new_word_at)))
       (below_or_last w count k))
       (λ (p : v ≡ count).
       ⊎_elim
       (λ (m : w < count).
       absurd (not_yet w m
-      (sym (old-word w m) ∙ sym e ∙ ap (λ (i : ℕ). get_or (nodes ++ (longer nodes state name ∷ [])) i []) p ∙ new-word-at)))
+      (sym (old_word w m) ∙ sym e ∙ ap (λ (i : ℕ). get_or (nodes ++ (longer nodes state name ∷ [])) i []) p ∙ new_word_at)))
       (λ (q : w ≡ count). p ∙ sym q)
       (below_or_last w count k))
       (below_or_last v count h)
@@ -173,9 +173,9 @@ module _ {nodes rows : List Word} {count : ℕ} {s : Store} (g : Grown nodes row
   appended-ends : (v : ℕ) → v < count + 1
       → get_or (set s.ends count 0) v 0 ≡ copies (get_or (nodes ++ (longer nodes state name ∷ [])) v []) rows
   appended-ends v h =
-      ⊎_elim (λ (l : v < count). rw (old-ends v l, old-word v l) (g.ends_at v l))
+      ⊎_elim (λ (l : v < count). rw (old_ends v l, old_word v l) (g.ends_at v l))
       (λ (e : v ≡ count).
-      rw (e, new-ends, new-word-at)
+      rw (e, new_ends, new_word_at)
       (sym (copies-none (longer nodes state name) rows (λ m. out (g.rows_met (longer nodes state name) m)))))
       (below_or_last v count h)
 
@@ -183,9 +183,9 @@ module _ {nodes rows : List Word} {count : ℕ} {s : Store} (g : Grown nodes row
   appended-grown =
       record {
         size = snoc_length nodes (longer nodes state name) ∙ ap (λ (k : ℕ). k + 1) g.size;
-        root = old-word 0 (omega arith) ∙ g.root;
+        root = old_word 0 (omega arith) ∙ g.root;
         root_parent = old-parent 0 (omega arith) ∙ g.root_parent;
-        root_name = old-name 0 (omega arith) ∙ g.root_name;
+        root_name = old_name 0 (omega arith) ∙ g.root_name;
         parent_before = appended-before;
         name_below = appended-below;
         word = appended-word;
@@ -199,8 +199,8 @@ module _ {nodes rows : List Word} {count : ℕ} {s : Store} (g : Grown nodes row
 
 module _ {nodes rows : List Word} {count : ℕ} {s : Store} (g : Grown nodes rows count s) where
   -- the parent of a state is a state
-  parent-met : (w : Word) (a : ℕ) → In (w ++ (a ∷ [])) nodes → In w nodes
-  parent-met w a m =
+  parent_met : (w : Word) (a : ℕ) → In (w ++ (a ∷ [])) nodes → In w nodes
+  parent_met w a m =
       let r = place_of [] nodes (w ++ (a ∷ [])) m in
       let size : length nodes ≡ count = g.size in
       let low : r.0 < length nodes = r.1 in
@@ -216,8 +216,8 @@ module _ {nodes rows : List Word} {count : ℕ} {s : Store} (g : Grown nodes row
           (nth_in [] nodes (get_or s.parents v 0) (omega (arith, g.size, g.parent_before v pos h)))
 
   -- so its beginnings are there too
-  pub row-met : (row : Word) → In row rows → with_states nodes (beginnings row) ≡ nodes
-  row-met row m = row_there nodes parent-met row (g.rows_met row m)
+  pub row_met : (row : Word) → In row rows → with_states nodes (beginnings row) ≡ nodes
+  row_met row m = row_there nodes parent_met row (g.rows_met row m)
 
 -- ---- a row counted
 

@@ -25,14 +25,14 @@ use Rattle.prefix_tree.specs.declared.Added.{Added}
 use Rattle.prefix_tree.specs.declared.Tree.{Tree}
 use Rattle.prefix_tree.specs.declared.Added.TheVariants as added
 use Rattle.base.proofs.Tests.{not_told, told-false, same_tests, tells_eqb, tells_not, tells_has_row}
-use Rattle.base.proofs.Totals.{many-few}
+use Rattle.base.proofs.Totals.{many_few}
 use Rattle.base.proofs.Places.{nth_in}
 use Rattle.indexed.proofs.Ends.{row_copies}
 use Rattle.model.proofs.DifferentRows.{different_few, different_again, different_new}
 use Rattle.prefix_tree.proofs.WordLaws.{snoc_new, snoc_length}
 use Rattle.prefix_tree.proofs.TreeLaws.{with_state-there, with_state-new, walked, walked_none, walked_more, walked-longer}
 use Rattle.prefix_tree.proofs.TreeLaws.{tree_of-more, tree_of-longer}
-use Rattle.prefix_tree.proofs.GrowthLaws.{child-word, child-met, child-new, appended-grown, row-met, ended-grown, begun-grown}
+use Rattle.prefix_tree.proofs.GrowthLaws.{child_word, child_met, child_new, appended-grown, row_met, ended-grown, begun-grown}
 use Rattle.prefix_tree.proofs.GrowthLaws.{grown_built}
 
 -- arrays that kept their lengths have the room that they had
@@ -61,8 +61,8 @@ module _ (count state name : ℕ) (s : Store) (low : state < count) (small : nam
         few = few;
         grown =
             λ nodes rows g.
-            rw (with_state-there nodes (longer nodes state name) (child-met g state name low small c is))
-            (g, child-word g state name low small c is);
+            rw (with_state-there nodes (longer nodes state name) (child_met g state name low small c is))
+            (g, child_word g state name low small c is);
       }
 
   pub step-appended : (s' : Store) → count < state_limit → Sized s.parents s.names s.ends s.work
@@ -76,7 +76,7 @@ module _ (count state name : ℕ) (s : Store) (low : state < count) (small : nam
         few = omega arith;
         grown =
             λ nodes rows g.
-            let out = child-new g state name low small no_one in
+            let out = child_new g state name low small no_one in
             rw (with_state-new nodes (longer nodes state name) out) (
               appended-grown g state name low small room sizes out,
               snoc_new nodes (longer nodes state name) count g.size,
@@ -88,7 +88,7 @@ module _ (count state name : ℕ) (s : Store) (low : state < count) (small : nam
       record {
         over =
             λ nodes rows g.
-            rw (with_state-new nodes (longer nodes state name) (child-new g state name low small no_one))
+            rw (with_state-new nodes (longer nodes state name) (child_new g state name low small no_one))
             (omega (arith, snoc_length nodes (longer nodes state name), g.size));
       }
 
@@ -127,9 +127,9 @@ module _ {row : Word} {count : ℕ} {s₀ s : Store} {n state i : ℕ}
       → longer (walked nodes row i) state (get_or row i 0) ≡ take i row ++ (get_or row i 0 ∷ [])
   next_word nodes rows g = ap (λ (u : Word). u ++ (get_or row i 0 ∷ [])) (w.grown nodes rows g).1
 
-  next-walked : (nodes rows : List Word) → Grown nodes rows count s₀
+  next_walked : (nodes rows : List Word) → Grown nodes rows count s₀
       → with_state (walked nodes row i) (longer (walked nodes row i) state (get_or row i 0)) ≡ walked nodes row (suc i)
-  next-walked nodes rows g = ap (with_state (walked nodes row i)) (next_word nodes rows g) ∙ sym (walked_more nodes row i more)
+  next_walked nodes rows g = ap (with_state (walked nodes row i)) (next_word nodes rows g) ∙ sym (walked_more nodes row i more)
 
   walking-next : {s' : Store} {v m : ℕ} → Stepped n state (get_or row i 0) s s' v m
       → Sized s'.parents s'.names s'.ends s'.work
@@ -145,8 +145,8 @@ module _ {row : Word} {count : ℕ} {s₀ s : Store} {n state i : ℕ}
         grown =
             λ nodes rows g.
             let next = is.grown (walked nodes row i) rows (w.grown nodes rows g).0 in (
-              subst (λ (l : List Word). Grown l rows m s') (next-walked nodes rows g) next.0,
-              ap (λ (l : List Word). get_or l v []) (sym (next-walked nodes rows g))
+              subst (λ (l : List Word). Grown l rows m s') (next_walked nodes rows g) next.0,
+              ap (λ (l : List Word). get_or l v []) (sym (next_walked nodes rows g))
                   ∙ next.1
                   ∙ next_word nodes rows g
                   ∙ sym (take-suc row i 0 more),
@@ -166,7 +166,7 @@ module _ {row : Word} {count : ℕ} {s₀ s : Store} {n state i : ℕ}
         over =
             λ nodes rows g.
             let over = full.over (walked nodes row i) rows (w.grown nodes rows g).0 in
-            omega (arith, over, ap length (next-walked nodes rows g), walked-longer nodes row (suc i));
+            omega (arith, over, ap length (next_walked nodes rows g), walked-longer nodes row (suc i));
       }
 
 -- a row that was there adds no state, so one for which there is no room was not there
@@ -177,7 +177,7 @@ row_full {row} {count} {s} {s'} few full =
       told =
           λ nodes rows g.
           told-false (tells_has_row row rows)
-          (λ m. omega (arith, few, full.over nodes rows g, ap length (row-met g row m), g.size));
+          (λ m. omega (arith, few, full.over nodes rows g, ap length (row_met g row m), g.size));
       tree = full;
     }
 
@@ -190,7 +190,7 @@ walking-few {row} {count} {s₀} {s} {n} {state} {i} w f =
       arith,
       f.few,
       (w.grown f.nodes f.rows f.grown).0.ends_at state w.low,
-      many-few (same (get_or (walked f.nodes row i) state [])) f.rows,
+      many_few (same (get_or (walked f.nodes row i) state [])) f.rows,
     )
 
 -- the whole row is walked, and its end counted
@@ -226,17 +226,17 @@ module _ {row : Word} {count : ℕ} {s₀ s : Store} {n state i : ℕ} {ends' : 
       (ended-grown walk.0 state row w.low walk.1 (omega (arith, w.low, w.few, w.sizes.ends_size)))
 
   pub walking-new : before ≡ false → RowOf row count s₀ (store s.parents s.names ends' s.work) (added.New n)
-  walking-new not-before =
+  walking-new not_before =
       record {
-        told = λ nodes rows g. walked_told nodes rows g ∙ not-before;
+        told = λ nodes rows g. walked_told nodes rows g ∙ not_before;
         tree = record { some = omega (arith, w.low); few = w.few; grown = walked-ended };
       }
 
   -- where the row was there, there are as many states as before
-  again-size : before ≡ true → (nodes rows : List Word) → Grown nodes rows count s₀ → n ≡ count
-  again-size was nodes rows g =
+  again_size : before ≡ true → (nodes rows : List Word) → Grown nodes rows count s₀ → n ≡ count
+  again_size was nodes rows g =
       sym (whole-walked nodes rows g).0.size
-      ∙ ap length (row-met g row ((tells_has_row row rows).fact (walked_told nodes rows g ∙ was)))
+      ∙ ap length (row_met g row ((tells_has_row row rows).fact (walked_told nodes rows g ∙ was)))
       ∙ g.size
 
   pub walking-again : 0 < count → count ≤ state_limit → before ≡ true
@@ -254,7 +254,7 @@ module _ {row : Word} {count : ℕ} {s₀ s : Store} {n state i : ℕ} {ends' : 
                   (λ (k : ℕ).
                   Grown (with_states nodes (beginnings row)) (rows ++ (row ∷ [])) k
                   (store s.parents s.names ends' s.work))
-                  (again-size was nodes rows g)
+                  (again_size was nodes rows g)
                   (walked-ended nodes rows g);
             };
       }
@@ -303,15 +303,15 @@ module _ {book : List ℕ} {start items : ℕ} {work₀ : List ℕ} {s : Store} 
   adding-fits fits = rw a.at_is (omega (arith, fits, field_within book start items i more))
 
   -- and is one of the rows
-  pub adding-below : RowsBelow (fields_at book start items) → RowBelow (body_at book at)
-  adding-below below =
+  pub adding_below : RowsBelow (fields_at book start items) → RowBelow (body_at book at)
+  adding_below below =
       rw (a.at_is, ← field_at_lem book start items i more)
       (below (get_or (fields_at book start items) i [])
       (nth_in [] (fields_at book start items) i (omega (arith, length_fields book start items))))
 
   -- fewer rows are added than a book may have
-  pub adding-few-rows : items ≤ book_rows → FewRows n s
-  adding-few-rows few =
+  pub adding_few_rows : items ≤ book_rows → FewRows n s
+  adding_few_rows few =
       record {
         nodes = tree_of (fields_at book start i);
         rows = fields_at book start i;
@@ -319,21 +319,21 @@ module _ {book : List ℕ} {start items : ℕ} {work₀ : List ℕ} {s : Store} 
         grown = a.grown;
       }
 
-  tree-next : tree_of (fields_at book start (suc i)) ≡ with_states (tree_of (fields_at book start i)) (beginnings (body_at book at))
-  tree-next =
+  tree_next : tree_of (fields_at book start (suc i)) ≡ with_states (tree_of (fields_at book start i)) (beginnings (body_at book at))
+  tree_next =
       tree_of-more book start i
       ∙ ap (λ (k : ℕ). with_states (tree_of (fields_at book start i)) (beginnings (body_at book k))) (sym a.at_is)
 
   rows_next : fields_at book start (suc i) ≡ fields_at book start i ++ (body_at book at ∷ [])
   rows_next = fields_more book start i ∙ ap (λ (k : ℕ). fields_at book start i ++ (body_at book k ∷ [])) (sym a.at_is)
 
-  adding-next : {s' : Store} {n' distinct' next : ℕ} → RowAdded (body_at book at) n s s' n'
+  adding_next : {s' : Store} {n' distinct' next : ℕ} → RowAdded (body_at book at) n s s' n'
       → distinct' ≡ length (different_rows (fields_at book start i ++ (body_at book at ∷ [])))
       → Sized s'.parents s'.names s'.ends s'.work
       → length s'.work ≡ length s.work
       → next ≡ next_at book at
       → Adding book start items work₀ s' n' distinct' next (i + 1)
-  adding-next {s'} {n'} {distinct'} {next} is different sizes kept e =
+  adding_next {s'} {n'} {distinct'} {next} is different sizes kept e =
       subst (λ (k : ℕ). Adding book start items work₀ s' n' distinct' next k) (sym (add-one i))
       (record {
         within = more;
@@ -342,7 +342,7 @@ module _ {book : List ℕ} {start items : ℕ} {work₀ : List ℕ} {s : Store} 
         few = is.few;
         sizes = sizes;
         work_kept = kept ∙ a.work_kept;
-        grown = rw (tree-next, rows_next) (is.grown (tree_of (fields_at book start i)) (fields_at book start i) a.grown);
+        grown = rw (tree_next, rows_next) (is.grown (tree_of (fields_at book start i)) (fields_at book start i) a.grown);
         different = rw rows_next different;
       })
 
@@ -351,35 +351,35 @@ module _ {book : List ℕ} {start items : ℕ} {work₀ : List ℕ} {s : Store} 
       → has_row (body_at book at) (fields_at book start i) ≡ was_there answer
   row_told is = is.told (tree_of (fields_at book start i)) (fields_at book start i) a.grown
 
-  pub adding-new : {s' : Store} {m n' distinct' next : ℕ} → RowOf (body_at book at) n s s' (added.New m)
+  pub adding_new : {s' : Store} {m n' distinct' next : ℕ} → RowOf (body_at book at) n s s' (added.New m)
       → n' ≡ m
       → distinct' ≡ distinct + 1
       → Sized s'.parents s'.names s'.ends s'.work
       → length s'.work ≡ length s.work
       → next ≡ next_at book at
       → Adding book start items work₀ s' n' distinct' next (i + 1)
-  adding-new is states_are distinct_is sizes kept e =
+  adding_new is states_are distinct_is sizes kept e =
       let out = not_told (tells_has_row (body_at book at) (fields_at book start i)) (row_told is) in
       let one_more = different_new (fields_at book start i) (body_at book at) out in
-      adding-next (rw states_are is.tree) (omega (arith, one_more, distinct_is, a.different)) sizes kept e
+      adding_next (rw states_are is.tree) (omega (arith, one_more, distinct_is, a.different)) sizes kept e
 
-  pub adding-again : {s' : Store} {n' distinct' next : ℕ} → RowOf (body_at book at) n s s' added.Again
+  pub adding_again : {s' : Store} {n' distinct' next : ℕ} → RowOf (body_at book at) n s s' added.Again
       → n' ≡ n
       → distinct' ≡ distinct
       → Sized s'.parents s'.names s'.ends s'.work
       → length s'.work ≡ length s.work
       → next ≡ next_at book at
       → Adding book start items work₀ s' n' distinct' next (i + 1)
-  adding-again is states_are distinct_is sizes kept e =
+  adding_again is states_are distinct_is sizes kept e =
       let met = (tells_has_row (body_at book at) (fields_at book start i)).fact (row_told is) in
       let no_more = different_again (fields_at book start i) (body_at book at) met in
-      adding-next (rw states_are is.tree) (distinct_is ∙ a.different ∙ sym no_more) sizes kept e
+      adding_next (rw states_are is.tree) (distinct_is ∙ a.different ∙ sym no_more) sizes kept e
 
-  pub adding-full : RowTooMany (body_at book at) n s → tree_too_large ≡ tree_fault (fields_at book start items)
-  adding-full full =
+  pub adding_full : RowTooMany (body_at book at) n s → tree_too_large ≡ tree_fault (fields_at book start items)
+  adding_full full =
       let over = full.over (tree_of (fields_at book start i)) (fields_at book start i) a.grown in
       let large : state_limit < length (tree_of (fields_at book start items)) =
-      omega (arith, over, ap length tree-next, tree_of-longer book start (suc i) items more) in
+      omega (arith, over, ap length tree_next, tree_of-longer book start (suc i) items more) in
       sym (ap (λ (b : Bool). when b tree_too_large) (lt-ltb _ (length (tree_of (fields_at book start items))) (omega arith)))
 
 pub adding_ends :

@@ -24,7 +24,7 @@ use Rattle.base.proofs.CellLaws.{length-with_cell, cell_same, cell_other}
 use Rattle.indexed.specs.Partitions.{Joined}
 use Rattle.indexed.specs.ArcCells.{ArcsAt}
 use Rattle.quotient.specs.Gathered.{Gathered}
-use Rattle.indexed.proofs.TreeArcs.{TreeArc, label_low, transition-number, number-transition, one-target, from_low, name_low}
+use Rattle.indexed.proofs.TreeArcs.{TreeArc, label_low, transition-number, number-transition, one_target, from_low, name_low}
 
 -- some tree arc into a state before v leaves group g by name a
 pub record Leaves (v : ℕ) (parents names groups : List ℕ) (g a : ℕ) : Type 0 where
@@ -196,14 +196,14 @@ module _ (rows : List Word) (parents names groups : List ℕ) (joined : Joined r
     gathered-more row column value work' next' e f g h k = rw (h, k, e, f, g) gather-more
 
   -- all arcs are gathered
-  pub gather-end :
+  pub gather_end :
       (v : ℕ) (work next : List ℕ) → length groups ≤ v → GatheredUpTo v parents names groups work next →
       Gathered rows groups work next
-  gather-end v work next end r =
+  gather_end v work next end r =
       record {
         few = joined.few;
         labels = joined.labels;
-        deterministic = one-target rows parents names groups joined;
+        deterministic = one_target rows parents names groups joined;
         work_size = r.work_size;
         next_size = omega (arith, r.next_size, joined.labels.size);
         arcs_at = at;
@@ -241,7 +241,7 @@ module _ (rows : List Word) (parents names groups : List ℕ) (joined : Joined r
                       let s = (r.in_sets g a (omega arith)).0 h in
                       (bit-name_set 0 arcs ascends a).1 (
                         get_or groups s.by 0,
-                        in_arcs_out_of g a (get_or groups s.by 0) ts (one-target rows parents names groups joined)
+                        in_arcs_out_of g a (get_or groups s.by 0) ts (one_target rows parents names groups joined)
                             (there-is g a s),
                       ),
                   λ h.

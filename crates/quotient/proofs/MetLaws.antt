@@ -27,7 +27,7 @@ use Rattle.base.specs.Cells.{cell_at}
 use Rattle.indexed.specs.ArcCells.{ArcsAt}
 use Rattle.quotient.specs.Gathered.{Gathered}
 use Rattle.quotient.specs.Numbered.{MetAs, MeetingOne, Meeting}
-use Rattle.indexed.proofs.ArcSets.{arcs_more, arcs-done}
+use Rattle.indexed.proofs.ArcSets.{arcs_more, arcs_done}
 use Rattle.indexed.proofs.TreeArcs.{labels_fit, label_low, root_group, tree_some}
 
 -- ---- one target
@@ -50,16 +50,16 @@ met-low {n} {met} {numbers} {count} seen r i h =
 
 module _ {n : ℕ} {met numbers : List ℕ} {count target : ℕ} {after : List ℕ} (r : MeetingOne n met numbers count target after) where
   -- a target with a number is met
-  old-is :
+  old_is :
       (b : Bool) → is_in target r.seen ≡ b → (get_or numbers target 0 ≡ state_limit → ⊥) →
       after ≡ cond b r.seen (r.seen ++ (target ∷ [])) → after ≡ r.seen
-  old-is true e d k = k
-  old-is false e d k = absurd (d (r.so_far.unmet target r.target_low (not_told (tells_is_in target r.seen) e)))
+  old_is true e d k = k
+  old_is false e d k = absurd (d (r.so_far.unmet target r.target_low (not_told (tells_is_in target r.seen) e)))
 
-  pub meet-old : (get_or numbers target 0 ≡ state_limit → ⊥) → MetAs n met numbers count after
-  meet-old d =
+  pub meet_old : (get_or numbers target 0 ≡ state_limit → ⊥) → MetAs n met numbers count after
+  meet_old d =
       subst (λ (l : List ℕ). MetAs n met numbers count l)
-      (sym (old-is (is_in target r.seen) refl d r.comes_to)) r.so_far
+      (sym (old_is (is_in target r.seen) refl d r.comes_to)) r.so_far
 
   -- a target without one is new
   new_is :
@@ -80,15 +80,15 @@ module _ {n : ℕ} {met numbers : List ℕ} {count target : ℕ} {after : List �
   after-length h =
       omega (arith, ap length (grown h).0, length-append r.seen (target ∷ []), r.so_far.counted)
 
-  pub meet-room : get_or numbers target 0 ≡ state_limit → count < n
-  meet-room h = omega (arith, after-length h, r.fits)
+  pub meet_room : get_or numbers target 0 ≡ state_limit → count < n
+  meet_room h = omega (arith, after-length h, r.fits)
 
-  pub meet-new :
+  pub meet_new :
       get_or numbers target 0 ≡ state_limit → (t k : ℕ) → t ≡ target → k ≡ count →
       MetAs n (set met count t) (set numbers target k) (count + 1) after
-  meet-new h t k te ke =
+  meet_new h t k te ke =
       let new = grown h in
-      let room : count < n = meet-room h in
+      let room : count < n = meet_room h in
       let met_size : n ≤ length met = r.so_far.met_size in
       let numbers_size : n ≤ length numbers = r.so_far.numbers_size in
       let counted : count ≡ length r.seen = r.so_far.counted in
@@ -167,14 +167,14 @@ met_with-length met arcs =
     omega (arith, ap length grown.begins, length-append met grown.more)
 
 module _ {n : ℕ} {work : List ℕ} {row set : ℕ} {met numbers : List ℕ} {count : ℕ} {after : List ℕ} where
-  pub meeting-name :
+  pub meeting_name :
       (name : ℕ) → Meeting n work row set met numbers count after → 0 < set → name ≡ count_trailing_zeros 64 set → name < name_limit
-  meeting-name name r some e = (arcs_more name r.arcs r.at_row some e).low
+  meeting_name name r some e = (arcs_more name r.arcs r.at_row some e).low
 
-  pub meeting-more :
+  pub meeting_more :
       (name target : ℕ) → Meeting n work row set met numbers count after → 0 < set → name ≡ count_trailing_zeros 64 set →
       target ≡ cell_at work row name → MeetingMore n work row set met numbers count after name target
-  meeting-more name target r some e f =
+  meeting_more name target r some e f =
       let next = arcs_more name r.arcs r.at_row some e in
       let a = next.first in
       let seen = r.seen in
@@ -207,10 +207,10 @@ module _ {n : ℕ} {work : List ℕ} {row set : ℕ} {met numbers : List ℕ} {c
             };
       }
 
-  pub meeting-done : Meeting n work row set met numbers count after → set ≤ 0 → MetAs n met numbers count after
-  meeting-done r h =
+  pub meeting_done : Meeting n work row set met numbers count after → set ≤ 0 → MetAs n met numbers count after
+  meeting_done r h =
       subst (λ (l : List ℕ). MetAs n met numbers count l)
-      (sym (r.comes_to ∙ ap (met_with r.seen) (arcs-done r.arcs r.at_row h) ∙ met_with-none r.seen))
+      (sym (r.comes_to ∙ ap (met_with r.seen) (arcs_done r.arcs r.at_row h) ∙ met_with-none r.seen))
       r.so_far
 
 -- ---- all groups
@@ -235,11 +235,11 @@ root_new g = refl
 
 module _ (rows : List Word) (groups work next : List ℕ) (gathered : Gathered rows groups work next) where
   -- nothing met yet, and the root's group to be met
-  pub root-meeting :
+  pub root_meeting :
       (met numbers₀ numbers : List ℕ) (root : ℕ) → length groups ≤ length met → length groups ≤ length numbers₀ →
       numbers ≡ replicate (length numbers₀) state_limit → root ≡ get_or groups 0 0 →
       MeetingOne (length (tree_of rows)) met numbers 0 root (root ∷ [])
-  root-meeting met numbers₀ numbers root met-fits numbers-fits e root_is =
+  root_meeting met numbers₀ numbers root met-fits numbers-fits e root_is =
       let size : length groups ≡ length (tree_of rows) = gathered.labels.size in
       let some : 0 < length (tree_of rows) = tree_some rows in
       record {
@@ -285,8 +285,8 @@ module _ (rows : List Word) (groups work next : List ℕ) (gathered : Gathered r
         (met' numbers' : List ℕ) (reached : ℕ) → MetAs (length (tree_of rows)) met' numbers' reached after →
         Numbering rows groups met' numbers' (i + 1) reached
 
-  every-few : length (met_groups (tree_of rows) groups) ≤ length (tree_of rows)
-  every-few = met-few (tree_of rows) groups (tree_of-tree rows) (labels_fit rows groups gathered.labels)
+  every_few : length (met_groups (tree_of rows) groups) ≤ length (tree_of rows)
+  every_few = met-few (tree_of rows) groups (tree_of-tree rows) (labels_fit rows groups gathered.labels)
 
   look_at :
       (met numbers : List ℕ) (i count g : ℕ) (r : Numbering rows groups met numbers i count) → i < count → g ≡ get_or met i 0 →
@@ -297,7 +297,7 @@ module _ (rows : List Word) (groups work next : List ℕ) (gathered : Gathered r
       omega (
         arith,
         r.enough,
-        every-few,
+        every_few,
         ap length r.comes_to,
         met_from-adds r.looks i (transitions_of (tree_of rows) groups) r.seen,
       ) in
@@ -320,7 +320,7 @@ module _ (rows : List Word) (groups work next : List ℕ) (gathered : Gathered r
               so_far = r.so_far;
               at_row = gathered.arcs_at g g-low;
               comes_to = refl;
-              fits = omega (arith, every-few, ap length goes_on, met_from-adds looks (suc i) ts (met_with seen (arcs_out_of g ts)));
+              fits = omega (arith, every_few, ap length goes_on, met_from-adds looks (suc i) ts (met_with seen (arcs_out_of g ts)));
             };
         then = λ met' numbers' reached m.
             record {
@@ -333,22 +333,22 @@ module _ (rows : List Word) (groups work next : List ℕ) (gathered : Gathered r
       }
 
   -- no more are met than there are states
-  pub numbering-few :
+  pub numbering_few :
       (met numbers : List ℕ) (i count : ℕ) → Numbering rows groups met numbers i count → count ≤ length (tree_of rows)
-  numbering-few met numbers i count r =
+  numbering_few met numbers i count r =
       omega (
         arith,
-        every-few,
+        every_few,
         ap length r.comes_to,
         met_from-adds r.looks i (transitions_of (tree_of rows) groups) r.seen,
         r.so_far.counted,
       )
 
   -- the i-th group met is the i-th of all
-  pub numbering-nth :
+  pub numbering_nth :
       (met numbers : List ℕ) (i count g : ℕ) → Numbering rows groups met numbers i count → i < count → g ≡ get_or met i 0 →
       (i < length (met_groups (tree_of rows) groups)) × (g ≡ get_or (met_groups (tree_of rows) groups) i 0)
-  numbering-nth met numbers i count g r h e =
+  numbering_nth met numbers i count g r h e =
       let more = met_from-appends r.looks i (transitions_of (tree_of rows) groups) r.seen in
       let every-is : met_groups (tree_of rows) groups ≡ r.seen ++ more.0 = r.comes_to ∙ more.1 in
       let early : i < length r.seen = omega (arith, r.so_far.counted) in (
@@ -357,16 +357,16 @@ module _ (rows : List Word) (groups work next : List ℕ) (gathered : Gathered r
             ∙ ap (λ (l : List ℕ). get_or l i 0) (sym every-is),
       )
 
-  pub numbering-more :
+  pub numbering_more :
       (met numbers : List ℕ) (i count g set : ℕ) → Numbering rows groups met numbers i count → i < count → g ≡ get_or met i 0 →
       set ≡ get_or next g 0 → Look met numbers i count g set
-  numbering-more met numbers i count g set r h e f =
+  numbering_more met numbers i count g set r h e f =
       subst (λ (s : ℕ). Look met numbers i count g s) (sym f) (look_at met numbers i count g r h e r.looks refl)
 
-  pub numbering-end :
+  pub numbering_end :
       (met numbers : List ℕ) (i count : ℕ) → Numbering rows groups met numbers i count → count ≤ i →
       MetAs (length (tree_of rows)) met numbers count (met_groups (tree_of rows) groups)
-  numbering-end met numbers i count r h =
+  numbering_end met numbers i count r h =
       let counted : count ≡ length r.seen = r.so_far.counted in
       subst (λ (l : List ℕ). MetAs (length (tree_of rows)) met numbers count l)
       (sym (r.comes_to ∙ met_from-ends r.looks i (transitions_of (tree_of rows) groups) r.seen (omega arith)))

@@ -26,12 +26,12 @@ use Rattle.model.proofs.Trees.{tree_of-tree}
 use Rattle.base.specs.Cells.{cell_at}
 use Rattle.writing.specs.Writing.{state_head, arc_part}
 use Rattle.writing.proofs.Pieces.{state-bytes, arc-bytes_cons}
-use Rattle.counts.proofs.GroupSums.{group-accepts}
+use Rattle.counts.proofs.GroupSums.{group_accepts_lem}
 use Rattle.indexed.specs.ArcCells.{ArcsAt}
 use Rattle.quotient.specs.Gathered.{Gathered}
 use Rattle.quotient.specs.Numbered.{MetAs}
 use Rattle.quotient.specs.Ready.{Ready, ArcsToWrite, StateToWrite}
-use Rattle.indexed.proofs.ArcSets.{arcs_more, arcs-done, arcs-counted}
+use Rattle.indexed.proofs.ArcSets.{arcs_more, arcs_done, arcs_counted}
 use Rattle.quotient.proofs.MetLaws.{met-nth, met-low}
 use Rattle.indexed.proofs.TreeArcs.{labels_fit}
 
@@ -62,14 +62,14 @@ pub record ArcsToWriteMore
   pub after : (bits : ℕ) → bits ≡ 2 ^ name → ArcsToWrite work row (set - bits) numbers rest
 
 module _ {work : List ℕ} {row set : ℕ} {numbers bytes : List ℕ} where
-  pub arcs-write-name :
+  pub arcs_write_name :
       (name : ℕ) → ArcsToWrite work row set numbers bytes → 0 < set → name ≡ count_trailing_zeros 64 set → name < name_limit
-  arcs-write-name name r some e = (arcs_more name r.arcs r.at_row some e).low
+  arcs_write_name name r some e = (arcs_more name r.arcs r.at_row some e).low
 
-  pub arcs-write-more :
+  pub arcs_write_more :
       (name target : ℕ) → ArcsToWrite work row set numbers bytes → 0 < set → name ≡ count_trailing_zeros 64 set →
       target ≡ cell_at work row name → ArcsToWriteMore work row set numbers bytes name target
-  arcs-write-more name target r some e f =
+  arcs_write_more name target r some e f =
       let next = arcs_more name r.arcs r.at_row some e in
       let a = next.first in
       let to_is : target ≡ a.to = f ∙ next.in_cell in
@@ -101,9 +101,9 @@ module _ {work : List ℕ} {row set : ℕ} {numbers bytes : List ℕ} where
             };
       }
 
-  pub arcs-write-done : ArcsToWrite work row set numbers bytes → set ≤ 0 → bytes ≡ []
-  arcs-write-done r h =
-      r.bytes_are ∙ ap (λ (l : List Arc). arc_bytes (renumbered r.every l)) (arcs-done r.arcs r.at_row h)
+  pub arcs_write_done : ArcsToWrite work row set numbers bytes → set ≤ 0 → bytes ≡ []
+  arcs_write_done r h =
+      r.bytes_are ∙ ap (λ (l : List Arc). arc_bytes (renumbered r.every l)) (arcs_done r.arcs r.at_row h)
       ∙ no_arc_bytes r.every
 
 -- ---- one state
@@ -132,7 +132,7 @@ state-parts {work} {row} {set} {accepts} {numbers} {bytes} r =
             arith,
             arc-bytes_length arcs,
             renumbered-length r.every r.arcs,
-            arcs-counted r.arcs r.at_row,
+            arcs_counted r.arcs r.at_row,
           );
       arcs_left =
           record {
@@ -213,7 +213,7 @@ arcs_count_more rows groups work next gathered i g arcs h e low f =
     let out = arcs_out_of g (transitions_of (tree_of rows) groups) in
     ap arc_count (states_more rows groups i g h e)
     ∙ ap (λ (n : ℕ). n + arc_count (states_from rows groups (i + 1)))
-    (renumbered-length (met_groups (tree_of rows) groups) out ∙ sym (arcs-counted out (gathered.arcs_at g low)) ∙ sym f)
+    (renumbered-length (met_groups (tree_of rows) groups) out ∙ sym (arcs_counted out (gathered.arcs_at g low)) ∙ sym f)
 
 pub arcs_count_none :
     (rows : List Word) (groups : List ℕ) (i : ℕ) → length (met_groups (tree_of rows) groups) ≤ i →
@@ -245,7 +245,7 @@ module _ (rows : List Word) (groups work next sums met numbers : List ℕ) (coun
       let g-met : In g every = subst (λ (x : ℕ). In x every) (sym g-is) (nth_in 0 every i (omega arith)) in
       let arcs = arcs_out_of g (transitions_of (tree_of rows) groups) in
       let accepts : group_accepts rows (tree_of rows) groups g ≡ ltb 0 (get_or sums g 0) =
-      group-accepts rows groups ready.gathered.labels g ∙ ap (ltb 0) (sym (ready.summed.each g g-low)) in
+      group_accepts_lem rows groups ready.gathered.labels g ∙ ap (ltb 0) (sym (ready.summed.each g g-low)) in
       record {
         size = length (tree_of rows);
         every = every;

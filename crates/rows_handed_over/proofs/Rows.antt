@@ -13,14 +13,14 @@ use borrow.Author.Tests.{ltb-true, lt-ltb, le-leb, lt-leb, leb-false}
 use lib.Dec.{ltb, leb}
 use lib.ListN.{length}
 use Rattle.base.specs.Limits.{row_mark, book_rows, row_limit, rows_bytes, bad_sizes, bad_row, output_too_short, bad_plan, when, first_of}
-use Rattle.base.proofs.Lists.{map-in, flatMap-in}
+use Rattle.base.proofs.Lists.{map-in, flat_map-in}
 use Rattle.base.proofs.Tests.{le_or_lt, tells_all, tells_itself}
 use Rattle.model.specs.Fields.{Settings, standard, name_list, read_names, read_book, name_number, all_below, row_ok}
 use Rattle.model.specs.Tables.{field_bytes, class_field, row_fields}
 use Rattle.model.specs.Calls.{names_of, sizes_fault, too_short, fault_with}
 use Rattle.model.specs.Claims.{RowsOk}
 use Rattle.model.proofs.FieldLaws.{first_of_lem, when-none}
-use Rattle.model.proofs.CallLaws.{sizes_bad, refusal_is, answer-by, answered, one-wrote, short-is, FrontOf, front_of_lem}
+use Rattle.model.proofs.CallLaws.{sizes_bad, refusal_is, answer_by, answered, one_wrote, short_is, FrontOf, front_of_lem}
 use Rattle.model.proofs.LowNumbers.{when-low, first_low, fields_low}
 use Rattle.model.proofs.NameLists.{accepted_names}
 use Rattle.model.proofs.NameNumbers.{number-only, number_of-known}
@@ -148,11 +148,11 @@ module _ (c : RowsCall) where
   place_is : c.result.at ≡ when (leb bad_plan c.result.refusal) place
   unfolding reading_rows
   place_is =
-      answer-by c.says.gives (λ (r : PlanRows). r.at ≡ when (leb bad_plan r.refusal) place) (λ k. refl) (λ e. refl)
+      answer_by c.says.gives (λ (r : PlanRows). r.at ≡ when (leb bad_plan r.refusal) place) (λ k. refl) (λ e. refl)
 
-  is-first : bad_plan ≤ c.result.refusal → First names chosen c.plan c.result.refusal c.result.at
+  is_first : bad_plan ≤ c.result.refusal → First names chosen c.plan c.result.refusal c.result.at
   unfolding plan_reading
-  is-first high =
+  is_first high =
       let same_number = plan-refuses high in
       let at_place : c.result.at ≡ place = place_is ∙ ap (λ b. when b place) (le-leb bad_plan c.result.refusal high) in
       subst (λ z. First names chosen c.plan c.result.refusal z) (sym at_place)
@@ -215,7 +215,7 @@ module _ (c : RowsCall) where
     unfolding reading_rows
     front =
         let call = reading_rows c.plan c.list c.chosen c.work in
-        let wrote = one-wrote call (row_fields rows) c.out refl c.out' c.result c.says.gives none in
+        let wrote = one_wrote call (row_fields rows) c.out refl c.out' c.result c.says.gives none in
         front_of_lem (row_fields rows) c.out c.out' c.result.length wrote (ap (λ (r : PlanRows). r.length) answer_is)
 
     short : c.result.length ≤ rows_bytes
@@ -264,9 +264,9 @@ module _ (c : RowsCall) where
       ∙ first_some asked-fault _ some
 
   -- two first faults are one
-  one-first : (n p : ℕ) → First names chosen c.plan n p → (m q : ℕ) → First names chosen c.plan m q
+  one_first : (n p : ℕ) → First names chosen c.plan n p → (m q : ℕ) → First names chosen c.plan m q
       → (n ≡ m) × (p ≡ q)
-  one-first n p f m q g =
+  one_first n p f m q g =
       go (f.first m q g.fault) (g.first n p f.fault)
     where
       go : (p < q) ⊎ ((p ≡ q) × (n ≤ m)) → (q < p) ⊎ ((q ≡ p) × (m ≤ n)) → (n ≡ m) × (p ≡ q)
@@ -282,7 +282,7 @@ module _ (c : RowsCall) where
       let some : 0 < number =
       ⊎_elim (λ (few : number ≤ 0). absurd (told.faultless (omega arith) n p f.fault))
       (λ (h : 0 < number). h) (le_or_lt number 0) in
-      let same = one-first number place (told.first some) n p f in
+      let same = one_first number place (told.first some) n p f in
       let high = (plan-refusal names chosen c.plan some).high in
       let short = too_short (row_fields rows ∷ []) (c.out ∷ []) in
       let is : c.result.refusal ≡ number =
@@ -303,7 +303,7 @@ module _ (c : RowsCall) where
       let short = too_short (row_fields rows ∷ []) (c.out ∷ []) in
       refusal ∙ ap (λ (k : ℕ). first_of (first_of k (first_of number (rows_fault rows))) (when short output_too_short)) fine
       ∙ ap (λ (k : ℕ). first_of (first_of k (rows_fault rows)) (when short output_too_short)) none
-      ∙ ap (λ (b : Bool). first_of (rows_fault rows) (when b output_too_short)) (short-is call (row_fields rows) c.out refl)
+      ∙ ap (λ (b : Bool). first_of (rows_fault rows) (when b output_too_short)) (short_is call (row_fields rows) c.out refl)
       ∙ ap (λ (l : List (List ℕ)). first_of (rows_fault l) (when (ltb (length c.out) (length (row_fields l))) output_too_short))
       (traces-read fine none plan bytes)
 
@@ -316,7 +316,7 @@ module _ (c : RowsCall) where
       (too_short (row_fields rows ∷ []) (c.out ∷ [])) (asked_low c.plan c.list c.chosen c.work)
       (λ some. (plan-refusal names chosen c.plan some).high) (rows_low rows) (sym refusal ∙ e) in
       let short : length c.out < length (row_fields rows) =
-      ltb-true (length c.out) (length (row_fields rows)) (sym (short-is call (row_fields rows) c.out refl) ∙ outputs.1) in
+      ltb-true (length c.out) (length (row_fields rows)) (sym (short_is call (row_fields rows) c.out refl) ∙ outputs.1) in
       omega (arith, rows_length rows outputs.0)
 
 -- ---- several calls
@@ -341,7 +341,7 @@ all-written list (c ∷ calls) read =
 all_fit : (list : List ℕ) (calls : List RowsCall) → ReadWith list calls → (row : List ℕ) → In row (all_rows calls)
     → row_ok (length (names_of list)) row ≡ true
 all_fit list calls read row m =
-    let from = flatMap-in (λ (c : RowsCall). rows c) calls m in
+    let from = flat_map-in (λ (c : RowsCall). rows c) calls m in
     let c = from.0 in
     let told-list = read c from.1 in
     let plan = is_plan c told-list.1 in
@@ -369,7 +369,7 @@ make_book list calls read some few settings =
 pub rows_handed_over : RowsHandedOver
 rows_handed_over =
     record {
-      first = is-first;
+      first = is_first;
       no_place = no_place;
       is_plan = is_plan;
       no_fault = no_fault;

@@ -86,9 +86,9 @@ module _ (n : ℕ) (parents names : List ℕ) (arrays : Arrays n parents names) 
       ap (λ (y : ℕ). y * 128 + (get_or names (suc v) 0 + 1)) (value ∙ ap (code parents names j) is)
 
   -- the name of a top digit
-  digit-name : (u top key : ℕ) → Digit names u top → TopName top key → key ≡ get_or names u 0
-  digit-name zero top key digit named = named.none (digit.root refl) ∙ sym arrays.root_name
-  digit-name (suc u) top key digit named =
+  digit_name : (u top key : ℕ) → Digit names u top → TopName top key → key ≡ get_or names u 0
+  digit_name zero top key digit named = named.none (digit.root refl) ∙ sym arrays.root_name
+  digit_name (suc u) top key digit named =
       let top-is : top ≡ get_or names (suc u) 0 + 1 = digit.name (omega arith) in
       omega (arith, named.some (λ e. omega arith))
 
@@ -140,7 +140,7 @@ above_more n j parents names v values keys parent x key y inside is value top cu
       coded = coded_more n j parents names v values parent y inside is cut so_far.coded;
       size = length-set keys v key ∙ so_far.size;
       done = fill_more (λ (u z : ℕ). z ≡ get_or names (up parents j u) 0) keys v key (omega (arith, so_far.size)) so_far.done
-          (digit-name n parents names arrays (up parents j v) (x / 2 ^ (7 * j)) key digit top);
+          (digit_name n parents names arrays (up parents j v) (x / 2 ^ (7 * j)) key digit top);
     }
 
 -- all states

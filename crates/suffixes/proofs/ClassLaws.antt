@@ -49,10 +49,10 @@ module _ (n i : ℕ) (parents names values classes classes' : List ℕ) (arrays 
       ap (λ (x : ℕ). get_or classes' x 0) same ∙ same_class (get_or classes v 0) first first-enough ∙ one_class ∙ sym same
 
   -- one class is one code
-  class-suffix :
+  class_suffix :
       (v w : ℕ) → v < n → w < n → (get_or classes' v 0 < state_limit) × (get_or classes' v 0 ≡ get_or classes' w 0) →
       SameSuffix parents names i v w
-  class-suffix v w hv hw (has, e) =
+  class_suffix v w hv hw (has, e) =
       let has-w : get_or classes' w 0 < state_limit = omega arith in
       let enough : least i ≤ get_or values v 0 = long v hv has in
       let one : get_or classes v 0 ≡ get_or classes w 0 =
@@ -61,24 +61,24 @@ module _ (n i : ℕ) (parents names values classes classes' : List ℕ) (arrays 
       (code_alike n parents names arrays i v w hv hw).0
       (omega (arith, coded.each v hv), sym (coded.each v hv) ∙ value ∙ coded.each w hw)
 
-  suffix-class :
+  suffix_class :
       (v w : ℕ) → v < n → w < n → SameSuffix parents names i v w →
       (get_or classes' v 0 < state_limit) × (get_or classes' v 0 ≡ get_or classes' w 0)
-  suffix-class v w hv hw s =
+  suffix_class v w hv hw s =
       let codes = (code_alike n parents names arrays i v w hv hw).1 s in
       let value : get_or values v 0 ≡ get_or values w 0 = coded.each v hv ∙ codes.1 ∙ sym (coded.each w hw) in
       let enough : least i ≤ get_or values v 0 = omega (arith, coded.each v hv, codes.0) in
       let enough-w : least i ≤ get_or values w 0 = omega arith in
       (below v hv enough, same_class v hv enough ∙ (by.alike v w hv hw).1 value ∙ sym (same_class w hw enough-w))
 
-  pub dropped-classes : SuffixClasses n i parents names classes'
-  dropped-classes =
+  pub dropped_classes : SuffixClasses n i parents names classes'
+  dropped_classes =
       record {
         size = dropped.size ∙ by.labelled.size;
         few = few;
         low = λ v h has. omega (arith, same_class v h (long v h has), by.labelled.low v h);
         own = own;
-        alike = λ v w hv hw. (class-suffix v w hv hw, suffix-class v w hv hw);
+        alike = λ v w hv hw. (class_suffix v w hv hw, suffix_class v w hv hw);
       }
 
 -- the classes of equal codes are the partition: a state with fewer names has a code of its own

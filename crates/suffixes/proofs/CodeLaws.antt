@@ -158,13 +158,13 @@ module _ (n : ℕ) (parents names : List ℕ) (arrays : Arrays n parents names) 
             (parent_below n parents names arrays (suc w) hw) (enough, above),
       )
 
-  suffix-code : (i v w : ℕ) → v < n → w < n → SameSuffix parents names i v w → Alike i v w
+  suffix_code : (i v w : ℕ) → v < n → w < n → SameSuffix parents names i v w → Alike i v w
   unfolding code Alike least
-  suffix-code zero v w hv hw s = (omega arith, refl)
-  suffix-code (suc i) zero w hv hw s = absurd (omega (arith, s.0))
-  suffix-code (suc i) (suc v) zero hv hw s = absurd (omega (arith, s.1))
-  suffix-code (suc i) (suc v) (suc w) hv hw s =
-      let above = suffix-code i (get_or parents (suc v) 0) (get_or parents (suc w) 0)
+  suffix_code zero v w hv hw s = (omega arith, refl)
+  suffix_code (suc i) zero w hv hw s = absurd (omega (arith, s.0))
+  suffix_code (suc i) (suc v) zero hv hw s = absurd (omega (arith, s.1))
+  suffix_code (suc i) (suc v) (suc w) hv hw s =
+      let above = suffix_code i (get_or parents (suc v) 0) (get_or parents (suc w) 0)
       (parent_below n parents names arrays (suc v) hv) (parent_below n parents names arrays (suc w) hw) s.3 in
       let pos : 0 < get_or names (suc v) 0 + 1 = omega arith in (
         (least_more i (code parents names i (get_or parents (suc v) 0)) (get_or names (suc v) 0 + 1) pos (name-small v hv)).0
@@ -176,7 +176,7 @@ module _ (n : ℕ) (parents names : List ℕ) (arrays : Arrays n parents names) 
       (i v w : ℕ) → v < n → w < n →
       ((least i ≤ code parents names i v) × (code parents names i v ≡ code parents names i w)) ↔ SameSuffix parents names i v w
   unfolding Alike
-  code_alike i v w hv hw = (code-suffix i v w hv hw, suffix-code i v w hv hw)
+  code_alike i v w hv hw = (code-suffix i v w hv hw, suffix_code i v w hv hw)
 
   -- one code of fewer than i names: one state
   pub code_one :

@@ -13,7 +13,7 @@ use Rattle.model.specs.Tables.{State, plain_walk, walk}
 use Rattle.model.specs.Claims.{AllBytes}
 use Rattle.model.specs.Calls.{Gives, Refuses, too_short, unless, table_of, table_states, table_fault, walk_fault}
 use Rattle.model.proofs.CallLaws.{refuses_first, refuses_then, refuses_none, refuses_when}
-use Rattle.model.proofs.CallLaws.{call-refused, call_answered, answer-by, fault_roomy, call-one-short, call-one-wrote}
+use Rattle.model.proofs.CallLaws.{call-refused, call_answered, answer_by, fault_roomy, call-one_short, call-one_wrote}
 use Rattle.model.proofs.Reading.{rewrites_same}
 use Rattle.endings.specs.Live.{is_live, trimmed, nowhere, live_walk}
 use Rattle.fields.specs.declared.Place.{Place}
@@ -33,21 +33,21 @@ unfolding rewriting
 rewrite_refused table work out k r = call-refused (rewriting table work) (out ∷ []) r
 
 module _ (table work out : List ℕ) (bytes : AllBytes table) (none : table_fault table work ≡ 0) where
-  pub rewrite-short :
+  pub rewrite_short :
       length out < length table → Gives (rewriting table work) (out ∷ []) (out ∷ []) (not_rewritten output_too_short)
   unfolding rewriting
-  rewrite-short short =
-      call-one-short (rewriting table work) table out (ap (λ (l : List ℕ). l ∷ []) (rewrites_same table work bytes none)) none short
+  rewrite_short short =
+      call-one_short (rewriting table work) table out (ap (λ (l : List ℕ). l ∷ []) (rewrites_same table work bytes none)) none short
 
   -- an accepted table copied
-  pub rewrite-copied :
+  pub rewrite_copied :
       (out' : List ℕ) (states : ℕ) → length table ≤ length out → Written out out' 0 table →
       states ≡ length (table_states table) →
       Gives (rewriting table work) (out ∷ []) (out' ∷ []) (rewritten_as 0 (length table) states)
   unfolding rewriting
-  rewrite-copied out' states room written counted =
+  rewrite_copied out' states room written counted =
       let same = rewrites_same table work bytes none in
-      call-one-wrote (rewriting table work) table out (ap (λ (l : List ℕ). l ∷ []) same) out' _ none room
+      call-one_wrote (rewriting table work) table out (ap (λ (l : List ℕ). l ∷ []) same) out' _ none room
       (written-from_zero written)
       (λ i. rewritten_as 0 (length (sym same i)) (counted i))
 
@@ -109,13 +109,13 @@ module _ (table row work : List ℕ) where
   pub walked-within : (r : Walked) → Gives (walking table row work) [] [] r → r.walked ≤ length row
   unfolding walking
   walked-within r gives =
-      answer-by gives (λ (w : Walked). w.walked ≤ length row) (λ k. omega arith) (λ none. beginning_short (table_states table) row)
+      answer_by gives (λ (w : Walked). w.walked ≤ length row) (λ k. omega arith) (λ none. beginning_short (table_states table) row)
 
-  pub beginning-told :
+  pub beginning_told :
       (r : Walked) → Gives (walking table row work) [] [] r →
       take r.walked row ≡ unless (walk_fault table row work) [] (live_walk (table_states table) row).beginning
   unfolding walking too_short
-  beginning-told r gives =
+  beginning_told r gives =
       ap (λ (w : Walked). take w.walked row) gives.answer_is
       ∙ ap (λ (k : ℕ). take (unless k (not_walked k) (walked_over (table_states table) row)).walked row)
       (fault_roomy (walking table row work) [] (λ none. refl))

@@ -21,8 +21,8 @@ use Rattle.tables.specs.KeptFields.{field_at}
 use Rattle.tables.specs.Accepting.{StateField, Ready}
 use Rattle.tables.specs.Walking.{WalkedAs}
 use Rattle.tables.specs.declared.Walk.{Walk}
-use Rattle.tables.proofs.ReadyLaws.{ready-ascends}
-use Rattle.tables.proofs.Marks.{length-trimmed, mark-is}
+use Rattle.tables.proofs.ReadyLaws.{ready_ascends}
+use Rattle.tables.proofs.Marks.{length-trimmed, mark_is}
 use Rattle.results.specs.Says.{walked_as, walked_told, walked_over}
 
 module _ (s work row : List ℕ) (w : Walk) (ready : Ready s work) (walked : WalkedAs (trimmed (table_states s)) row w) where
@@ -31,29 +31,29 @@ module _ (s work row : List ℕ) (w : Walk) (ready : Ready s work) (walked : Wal
   state-inside = omega (arith, walked.in_table, length-trimmed (table_states s))
 
   -- its field
-  pub field-reached : (at : ℕ) → at ≡ field_at work w.state → StateField s at
-  field-reached at e = subst (λ (a : ℕ). StateField s a) (sym e) (ready.field w.state state-inside)
+  pub field_reached : (at : ℕ) → at ≡ field_at work w.state → StateField s at
+  field_reached at e = subst (λ (a : ℕ). StateField s a) (sym e) (ready.field w.state state-inside)
 
   -- it is the state that the walk over the trimmed table reaches
-  reached-is : get_or (trimmed (table_states s)) w.state empty_state ≡ reached_state (trimmed (table_states s)) row
+  reached_is : get_or (trimmed (table_states s)) w.state empty_state ≡ reached_state (trimmed (table_states s)) row
   unfolding reached_state
-  reached-is = ap (λ (v : model.Walk). get_or (trimmed (table_states s)) v.at_state empty_state) walked.is
+  reached_is = ap (λ (v : model.Walk). get_or (trimmed (table_states s)) v.at_state empty_state) walked.is
 
   -- and accepts where its field says so
-  accepts-reached :
+  accepts_reached :
       (at : ℕ) → at ≡ field_at work w.state →
       (state_in (body_at s at)).accepts ≡ (reached_state (trimmed (table_states s)) row).accepts
-  accepts-reached at e =
+  accepts_reached at e =
       ap (λ (a : ℕ). (state_in (body_at s a)).accepts) e
       ∙ ap (λ (q : State). q.accepts) (ready.means w.state state-inside)
       ∙ sym (trimmed-accepts (table_states s) w.state)
-      ∙ ap (λ (q : State). q.accepts) reached-is
+      ∙ ap (λ (q : State). q.accepts) reached_is
 
   -- how many next names: the number of bits of their set
   bits_are : (q : ℕ) → ones (name_set (get_or (trimmed (table_states s)) q empty_state).arcs)
       ≡ length (get_or (trimmed (table_states s)) q empty_state).arcs
   bits_are q =
-      ones_name_set 0 (get_or (trimmed (table_states s)) q empty_state).arcs (trimmed-ascends (table_states s) (ready-ascends s work ready) q)
+      ones_name_set 0 (get_or (trimmed (table_states s)) q empty_state).arcs (trimmed-ascends (table_states s) (ready_ascends s work ready) q)
 
   pub ends-over :
       (at names result count taken : ℕ) (accepting : Bool) → at ≡ field_at work w.state →
@@ -66,11 +66,11 @@ module _ (s work row : List ℕ) (w : Walk) (ready : Ready s work) (walked : Wal
       let steps : w.taken ≡ (walk states row).taken = ap (λ (v : model.Walk). v.taken) walked.is in
       let ends : result ≡ (plain_walk states row).outcome =
       result_is
-      ∙ ap (λ (b : Bool). cond (ltb w.taken (length row)) 3 (cond b 1 2)) (accepts-is ∙ accepts-reached at e)
+      ∙ ap (λ (b : Bool). cond (ltb w.taken (length row)) 3 (cond b 1 2)) (accepts-is ∙ accepts_reached at e)
       ∙ ap (λ (n : ℕ). cond (ltb n (length row)) 3 (cond (reached_state states row).accepts 1 2)) steps in
-      let next : names ≡ (plain_walk states row).next_names = names_are ∙ ap (λ (q : State). name_set q.arcs) reached-is in
+      let next : names ≡ (plain_walk states row).next_names = names_are ∙ ap (λ (q : State). name_set q.arcs) reached_is in
       let many : count ≡ (plain_walk states row).next_count =
-      count-is ∙ ap ones names_are ∙ bits_are w.state ∙ ap (λ (q : State). length q.arcs) reached-is in
+      count-is ∙ ap ones names_are ∙ bits_are w.state ∙ ap (λ (q : State). length q.arcs) reached_is in
       let long : taken ≡ length (plain_walk states row).beginning =
       taken_is ∙ steps ∙ sym (length-take-le (walk states row).taken row (omega (arith, steps, walked.within))) in
       λ i. walked_as 0 (ends i) (long i) (next i) (many i)
@@ -86,11 +86,11 @@ module _ (states : List State) (row marks : List ℕ) (some : 0 < length states)
   -- a start that is not marked: no row is admitted
   pub start-dead : get_or marks 0 0 ≡ 0 → walked_told nowhere ≡ walked_over states row
   start-dead e =
-      let dead : is_live states 0 ≡ false = sym (mark-is states marks marked 0 some) ∙ ap not (eq-eqb (get_or marks 0 0) 0 e) in
+      let dead : is_live states 0 ≡ false = sym (mark_is states marks marked 0 some) ∙ ap not (eq-eqb (get_or marks 0 0) 0 e) in
       ap walked_told (sym (told-by false dead))
 
   -- a marked start: the walk over the trimmed table
   pub start-live : (get_or marks 0 0 ≡ 0 → ⊥) → walked_told (plain_walk (trimmed states) row) ≡ walked_over states row
   start-live n =
-      let live : is_live states 0 ≡ true = sym (mark-is states marks marked 0 some) ∙ ap not (ne_eqb (get_or marks 0 0) 0 n) in
+      let live : is_live states 0 ≡ true = sym (mark_is states marks marked 0 some) ∙ ap not (ne_eqb (get_or marks 0 0) 0 n) in
       ap walked_told (sym (told-by true live))

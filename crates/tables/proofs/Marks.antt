@@ -44,21 +44,21 @@ filter_by-same {A} test other (x ∷ xs) h =
 
 module _ (states : List State) (marks : List ℕ) (marked : Marked states marks) where
   -- a mark is set for the states with a way to an end
-  pub mark-is : (q : ℕ) → q < length states → is_marked (get_or marks q 0) ≡ is_live states q
-  mark-is q h = ap not (marked.tells q h) ∙ not-not (is_live states q)
+  pub mark_is : (q : ℕ) → q < length states → is_marked (get_or marks q 0) ≡ is_live states q
+  mark_is q h = ap not (marked.tells q h) ∙ not-not (is_live states q)
 
   -- so the arcs to marked states are those to states with a way to an end
-  marked-arcs : (arcs : List Arc) → TargetsBelow (length states) arcs → marked_arcs marks arcs ≡ live_arcs states arcs
+  marked_arcs_lem : (arcs : List Arc) → TargetsBelow (length states) arcs → marked_arcs marks arcs ≡ live_arcs states arcs
   unfolding marked_arcs live_arcs
-  marked-arcs arcs inside =
+  marked_arcs_lem arcs inside =
       filter_by-same (λ (a : Arc). is_marked (get_or marks a.to 0)) (λ (a : Arc). is_live states a.to) arcs
-      (λ a m. mark-is a.to (inside.below a m))
+      (λ a m. mark_is a.to (inside.below a m))
 
   -- which are the arcs of the trimmed table
-  pub marked-trimmed :
+  pub marked_trimmed :
       (q : ℕ) → TargetsBelow (length states) (get_or states q empty_state).arcs →
       marked_arcs marks (get_or states q empty_state).arcs ≡ (get_or (trimmed states) q empty_state).arcs
-  marked-trimmed q inside = marked-arcs (get_or states q empty_state).arcs inside ∙ sym (trimmed-arcs states q)
+  marked_trimmed q inside = marked_arcs_lem (get_or states q empty_state).arcs inside ∙ sym (trimmed-arcs states q)
 
   module _ (up : ArcsAscend states) (q name next : ℕ) (found : target_of states q name ≡ next) where
     -- no target, none in the trimmed table
@@ -80,7 +80,7 @@ module _ (states : List State) (marks : List ℕ) (marked : Marked states marks)
     target-marked low =
         trimmed-target states up q name
         ∙ ap (λ (t : ℕ). cond (is_live states (t - 1)) t 0) found
-        ∙ ap (λ (b : Bool). cond b next 0) (sym (mark-is (next - 1) low))
+        ∙ ap (λ (b : Bool). cond b next 0) (sym (mark_is (next - 1) low))
 
 -- ---- one more name put into the set, where its arc's target is marked
 
@@ -90,11 +90,11 @@ with_marked marks names a to = cond (is_marked (get_or marks to 0)) (bit_or name
 
 module _ (marks : List ℕ) (names a to : ℕ) (arcs : List Arc) (low : names < 2 ^ a) where
   -- the set so far, with the next arc's name, and the set of the marked arcs after it
-  pub marked-goes :
+  pub marked_goes :
       {r : ℕ} → r ≡ with_marked marks names a to →
       r + name_set (marked_arcs marks arcs) ≡ names + name_set (marked_arcs marks (arc a to ∷ arcs))
   unfolding marked_arcs filter_by
-  marked-goes {r} = go (is_marked (get_or marks to 0))
+  marked_goes {r} = go (is_marked (get_or marks to 0))
     where
       rest : List Arc
       rest = filter_by (λ (z : Arc). is_marked (get_or marks z.to 0)) arcs
@@ -104,9 +104,9 @@ module _ (marks : List ℕ) (names a to : ℕ) (arcs : List Arc) (low : names < 
       go true is = name_set-goes names a to rest low is
       go false is = ap (λ (n : ℕ). n + name_set rest) is
 
-  pub marked-small :
+  pub marked_small :
       {r : ℕ} → r ≡ with_marked marks names a to → r < 2 ^ (a + 1)
-  marked-small {r} = go (is_marked (get_or marks to 0))
+  marked_small {r} = go (is_marked (get_or marks to 0))
     where
       go : (b : Bool) → r ≡ cond b (bit_or names (2 ^ a)) names → r < 2 ^ (a + 1)
       go true is = with_name_small names a low is

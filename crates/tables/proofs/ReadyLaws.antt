@@ -26,8 +26,8 @@ use Rattle.tables.proofs.MetLaws.{target_in-table}
 
 module _ (s work : List ℕ) (ready : Ready s work) where
   -- the names of its arcs ascend
-  pub ready-ascends : ArcsAscend (table_states s)
-  ready-ascends q = go (ltb q (length (table_states s))) refl
+  pub ready_ascends : ArcsAscend (table_states s)
+  ready_ascends q = go (ltb q (length (table_states s))) refl
     where
       go : (b : Bool) → ltb q (length (table_states s)) ≡ b → Ascending 0 (get_or (table_states s) q empty_state).arcs
       go true e =
@@ -39,25 +39,25 @@ module _ (s work : List ℕ) (ready : Ready s work) where
           subst (λ (st : State). Ascending 0 st.arcs) (sym (get_or-eq_default (table_states s) empty_state past)) tt
 
   -- every arc leads to a state
-  pub targets-inside :
+  pub targets_inside :
       (q : ℕ) → q < length (table_states s) → TargetsBelow (length (table_states s)) (get_or (table_states s) q empty_state).arcs
-  targets-inside q h =
+  targets_inside q h =
       record {
         below = λ a m.
             let arcs = (get_or (table_states s) q empty_state).arcs in
             omega (
               arith,
-              target_of_lem 0 arcs a (ready-ascends q) m,
+              target_of_lem 0 arcs a (ready_ascends q) m,
               target_in-table a.name (table_states s) ready.first_met q h,
             );
       }
 
   -- another area is ready where its length and the offsets it keeps are the same
-  pub ready-same :
+  pub ready_same :
       {work' : List ℕ} → length work' ≡ length work →
       ((i : ℕ) → i < state_limit → field_at work' i ≡ field_at work i) →
       Ready s work'
-  ready-same {work'} same_length same_fields =
+  ready_same {work'} same_length same_fields =
       let same : (i : ℕ) → i < length (table_states s) → field_at work i ≡ field_at work' i =
       λ i h. let low : i < state_limit = omega (arith, ready.few_states) in sym (same_fields i low) in
       record {

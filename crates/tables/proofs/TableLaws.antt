@@ -13,7 +13,7 @@ use Rattle.base.specs.Limits.{work_bytes, bad_sizes, bad_numbering}
 use Rattle.model.specs.Fields.{File, Read, read_table}
 use Rattle.model.specs.Tables.{State, empty_state, state_in, states_in, met_by_arcs, met_by_states, is_first_met}
 use Rattle.model.specs.Calls.{Refuses, sizes_fault, table_of, table_states, table_fault}
-use Rattle.model.proofs.CallLaws.{sizes_bad, refuses_first, refuses_then, sizes-refuse, sizes-fit}
+use Rattle.model.proofs.CallLaws.{sizes_bad, refuses_first, refuses_then, sizes_refuse, sizes_fit}
 use Rattle.base.proofs.Places.{nth_in}
 use Rattle.model.proofs.TableBodies.{bodies_ok}
 use Rattle.judging.specs.Offsets.{body_at, next_at, offset_at, fields_at}
@@ -58,9 +58,9 @@ module _ (s : List ℕ) (p : Place) (t : TableRead s p) where
       }
 
   -- and means the i-th state
-  pub field-means : (i : ℕ) → i < p.items → state_in (body_at s (offset_at s p.start i)) ≡ get_or (table_states s) i empty_state
+  pub field_means : (i : ℕ) → i < p.items → state_in (body_at s (offset_at s p.start i)) ≡ get_or (table_states s) i empty_state
   unfolding state_in
-  field-means i h =
+  field_means i h =
       ap state_in (sym (field_at_lem s p.start p.items i h))
       ∙ sym (get_or-map state_in (fields_at s p.start p.items) i [])
       ∙ ap (λ (l : List State). get_or l i empty_state) (sym states_are)
@@ -103,18 +103,18 @@ module _ (s lent : List ℕ) (sized : sizes_fault s lent ≡ 0) where
 
 module _ (s : List ℕ) (p : Place) (t : TableRead s p) (lent work : List ℕ) (at met i : ℕ) (now : Passing s p lent work at met i) where
   -- the place of state i's field
-  pub field-here : i < p.items → StateField s at
-  field-here h = subst (StateField s) (sym now.at_is) (field_is s p t i h)
+  pub field_here : i < p.items → StateField s at
+  field_here h = subst (StateField s) (sym now.at_is) (field_is s p t i h)
 
   pub passing-goes : (next : ℕ) → i < p.items → i < met
       → next ≡ met_by_arcs met (state_in (body_at s at)).arcs
       → Passing s p lent (with_field work i at) (next_at s at) next (i + 1)
   passing-goes next h low e =
-      let room = (sizes-fit s lent now.sized).work_fits in
+      let room = (sizes_fit s lent now.sized).work_fits in
       let few : i < 512 = omega (arith, t.sound.few_items) in
       let big : work_bytes ≤ length work = omega (arith, now.same_length) in
       let state-is : state_in (body_at s at) ≡ get_or (table_states s) i empty_state =
-      ap (λ (a : ℕ). state_in (body_at s a)) now.at_is ∙ field-means s p t i h in
+      ap (λ (a : ℕ). state_in (body_at s a)) now.at_is ∙ field_means s p t i h in
       let there-is : i < length (table_states s) = omega (arith, states-count s p t) in
       record {
         sized = now.sized;
@@ -168,7 +168,7 @@ module _ (s : List ℕ) (p : Place) (t : TableRead s p) (lent work : List ℕ) (
   pub passing-accepted : p.items ≤ i → met ≡ p.items → OpenedAs s lent work (Table p)
   unfolding is_first_met
   passing-accepted h e =
-      let room = (sizes-fit s lent now.sized).work_fits in
+      let room = (sizes_fit s lent now.sized).work_fits in
       let count = states-count s p t in
       let first_met : is_first_met (table_states s) ≡ true =
       eq-eqb (met_by_states 0 1 (table_states s)) (length (table_states s)) (omega (arith, all-met h, count)) in
@@ -191,7 +191,7 @@ module _ (s : List ℕ) (p : Place) (t : TableRead s p) (lent work : List ℕ) (
                         subst (StateField s) (sym (now.kept j (omega arith))) (field_is s p t j less);
                     means = λ (j : ℕ) (l : j < length (table_states s)).
                         let less : j < p.items = omega arith in
-                        ap (λ (a : ℕ). state_in (body_at s a)) (now.kept j (omega arith)) ∙ field-means s p t j less;
+                        ap (λ (a : ℕ). state_in (body_at s a)) (now.kept j (omega arith)) ∙ field_means s p t j less;
                   };
             };
         same_length = now.same_length;
@@ -223,7 +223,7 @@ pub opened_bad : (s lent : List ℕ) → sizes_bad s lent ≡ true → OpenedAs 
 unfolding table_fault
 opened_bad s lent bad =
     record {
-      number = sym (refuses_first _ (sizes-refuse s lent bad)).is;
+      number = sym (refuses_first _ (sizes_refuse s lent bad)).is;
       kept = omega arith;
       same_length = refl;
     }

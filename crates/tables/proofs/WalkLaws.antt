@@ -21,7 +21,7 @@ use Rattle.tables.specs.Accepting.{Ready}
 use Rattle.tables.specs.Walking.{target_of, MovedTo, WalkedAs}
 use Rattle.tables.specs.declared.Walk.{Walk}
 use Rattle.tables.proofs.MetLaws.{target_in-table}
-use Rattle.tables.proofs.ReadyLaws.{ready-ascends}
+use Rattle.tables.proofs.ReadyLaws.{ready_ascends}
 use Rattle.tables.proofs.Marks.{length-trimmed, target_none, target-marked}
 
 -- what is found in the field at the kept offset is the target in the table
@@ -41,12 +41,12 @@ module _
 
   -- no arc
   pub stops-unfound : next ≡ 0 → target_of (trimmed (table_states s)) w.state name ≡ 0
-  stops-unfound e = target_none (table_states s) marks marked (ready-ascends s work ready) w.state name next found e
+  stops-unfound e = target_none (table_states s) marks marked (ready_ascends s work ready) w.state name next found e
 
   module _ (n : next ≡ 0 → ⊥) where
     trimmed-is : target_of (trimmed (table_states s)) w.state name ≡ cond (is_marked (get_or marks (next - 1) 0)) next 0
     trimmed-is =
-        target-marked (table_states s) marks marked (ready-ascends s work ready) w.state name next found (target-inside n)
+        target-marked (table_states s) marks marked (ready_ascends s work ready) w.state name next found (target-inside n)
 
     -- an arc to a state that is not marked
     pub stops-unmarked : get_or marks (next - 1) 0 ≡ 0 → target_of (trimmed (table_states s)) w.state name ≡ 0

@@ -81,8 +81,8 @@ buckets_none ends values =
 
 -- one state more, which is in no list
 module _ (ends values : List ℕ) (v : ℕ) (links heads : List ℕ) (so_far : Buckets ends values v links heads) where
-  buckets-skip : ((b : ℕ) → Listed ends values b v → ⊥) → Buckets ends values (v + 1) links heads
-  buckets-skip unlisted =
+  buckets_skip : ((b : ℕ) → Listed ends values b v → ⊥) → Buckets ends values (v + 1) links heads
+  buckets_skip unlisted =
       record {
         links_size = so_far.links_size;
         heads_size = so_far.heads_size;
@@ -90,14 +90,14 @@ module _ (ends values : List ℕ) (v : ℕ) (links heads : List ℕ) (so_far : B
       }
 
   -- it does not accept
-  pub buckets-other : get_or ends v 0 ≡ 0 → Buckets ends values (v + 1) links heads
-  buckets-other none = buckets-skip (λ b l. omega (arith, l.0))
+  pub buckets_other : get_or ends v 0 ≡ 0 → Buckets ends values (v + 1) links heads
+  buckets_other none = buckets_skip (λ b l. omega (arith, l.0))
 
   -- it accepts: the first accepting state with its value is itself, or an earlier one
-  pub buckets-more :
+  pub buckets_more :
       (b first : ℕ) (links' heads' : List ℕ) → v < 512 → b < 512 → b ≡ bucket_of (get_or values v 0) →
       FirstEnd ends values v first → Linked b v first links heads links' heads' → Buckets ends values (v + 1) links' heads'
-  buckets-more b first links' heads' v_below b_below bucket found linked = go (eqb first v) refl
+  buckets_more b first links' heads' v_below b_below bucket found linked = go (eqb first v) refl
     where
       pushed : (first ≡ v) → Buckets ends values (v + 1) (set links v (get_or heads b 0)) (set heads b (v + 1))
       pushed same =
@@ -114,7 +114,7 @@ module _ (ends values : List ℕ) (v : ℕ) (links heads : List ℕ) (so_far : B
       kept : (first ≡ v → ⊥) → Buckets ends values (v + 1) links heads
       kept other =
           let lower : first < v = omega (arith, found.low) in
-          buckets-skip (λ c l. l.2 first lower found.accepting found.alike)
+          buckets_skip (λ c l. l.2 first lower found.accepting found.alike)
 
       go : (t : Bool) → eqb first v ≡ t → Buckets ends values (v + 1) links' heads'
       go true e =

@@ -16,41 +16,41 @@ use Rattle.worklist.specs.Settling.{QueueRoom}
 use Rattle.worklist.specs.Forks.{ForksReady, Kept, Closing, JoinedPair, KeptClosed}
 use Rattle.worklist.proofs.QueueLaws.{grew_none}
 use Rattle.worklist.proofs.SizeLaws.{own_below}
-use Rattle.worklist.proofs.ReachLaws.{One, reached-none, reached-joined, reached-more, reached-next, reached-done}
-use Rattle.worklist.proofs.KindLaws.{PutInto, put_roots, kind-more, kind-filled, kind-next, kind-closed, kind-merged}
+use Rattle.worklist.proofs.ReachLaws.{One, reached_none, reached-joined, reached-more, reached-next, reached-done}
+use Rattle.worklist.proofs.KindLaws.{PutInto, put_roots, kind_more, kind-filled, kind_next, kind_closed, kind-merged}
 use Rattle.worklist.proofs.KindLaws.{filled-added, merged-added}
 
 module _ {n : ℕ} {parents names numbers : List ℕ} where
   -- ---- how a round starts
 
   -- the lists filled: every pair is pending
-  pub closing-filled :
+  pub closing_filled :
       {groups links heads firsts seconds firsts' seconds' : List ℕ} {tail : ℕ} → ForksReady n parents names numbers →
       Labelled n groups → QueueRoom firsts seconds →
       Filled n parents numbers names groups links heads firsts seconds firsts' seconds' 0 tail →
       Closing n parents names numbers groups groups links heads firsts' seconds' 0 tail
-  closing-filled {firsts' = firsts'} {seconds'} {tail} ready labelled queue filled =
+  closing_filled {firsts' = firsts'} {seconds'} {tail} ready labelled queue filled =
       record {
         rows = filled.rows;
         ready = ready;
         reached =
-            reached-more (reached-none labelled (λ x y hx hy e. e) queue) filled.grew
+            reached-more (reached_none labelled (λ x y hx hy e. e) queue) filled.grew
             (filled-added filled ready.parents_below (own_below ready.own) (λ closed by. by));
         kind = kind-filled filled 0 (omega arith) (grew_none firsts' seconds' tail);
         room = omega (arith, ready.few, filled.counted);
       }
 
   -- lists kept: nothing is pending, and the start is a coarser partition
-  pub closing-kept :
+  pub closing_kept :
       {start groups links heads firsts seconds : List ℕ} {tail : ℕ} → ForksReady n parents names numbers →
       Kept n parents names numbers groups links heads firsts seconds tail → Refines n groups start →
       Closing n parents names numbers start groups links heads firsts seconds tail tail
-  closing-kept ready kept coarser =
+  closing_kept ready kept coarser =
       record {
         rows = kept.rows;
         ready = ready;
-        reached = reached-none kept.labelled coarser kept.queue;
-        kind = kind-more (λ others refines joins. Prim.tt) kept.kind;
+        reached = reached_none kept.labelled coarser kept.queue;
+        kind = kind_more (λ others refines joins. Prim.tt) kept.kind;
         room = kept.room;
       }
 
@@ -73,14 +73,14 @@ module _ {n : ℕ} {parents names numbers : List ℕ} where
         record {
           until =
               reached-done closing.reached coarser
-              (kind-closed closing.kind (λ i low high. let z : ⊥ = omega arith in absurd z) closing.reached.labelled
+              (kind_closed closing.kind (λ i low high. let z : ⊥ = omega arith in absurd z) closing.reached.labelled
               closing.ready.parents_below closing.ready.few);
           kept =
               record {
                 rows = closing.rows;
                 labelled = closing.reached.labelled;
                 kind =
-                    kind-more (λ others refines nothing i low high. let z : ⊥ = omega arith in absurd z) closing.kind;
+                    kind_more (λ others refines nothing i low high. let z : ⊥ = omega arith in absurd z) closing.kind;
                 room = closing.room;
                 queue = closing.reached.queue;
               };
@@ -97,7 +97,7 @@ module _ {n : ℕ} {parents names numbers : List ℕ} where
           rows = closing.rows;
           ready = closing.ready;
           reached = reached-next closing.reached due;
-          kind = kind-next closing.reached due one closing.kind;
+          kind = kind_next closing.reached due one closing.kind;
           room = closing.room;
         }
 
@@ -141,13 +141,13 @@ module _ {n : ℕ} {names numbers above above' links heads firsts seconds : List
       }
 
   -- two groups made one, and their lists merged
-  pub pair-joined :
+  pub pair_joined :
       {links' heads' firsts' seconds' : List ℕ} {tail' : ℕ} → to < from →
       ((rows : List ℕ) → Sorted n names rows links heads →
       Merged n numbers names rows to from links' heads' firsts seconds firsts' seconds' tail tail') →
       {rows : List ℕ} → Sorted n names rows links heads →
       JoinedPair n names numbers above above' links heads links' heads' firsts seconds firsts' seconds' v w tail tail'
-  pair-joined lower merged {rows} sorted =
+  pair_joined lower merged {rows} sorted =
       let two = roots_two n above above' v w to from forest below-v below-w roots in
       record {
         forest = roots.forest;

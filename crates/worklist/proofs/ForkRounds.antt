@@ -12,7 +12,7 @@ use Rattle.partition.specs.Forests.{Forest, roots_of}
 use Rattle.partition.proofs.ForestLaws.{flat_roots, roots_length}
 use Rattle.worklist.specs.Forks.{ForksReady, Kept, Closing, JoinedPair, SettledForks, KeptClosed, TwoClosed}
 use Rattle.worklist.proofs.ReachLaws.{One}
-use Rattle.worklist.proofs.ForkLaws.{closing-kept, closing-next, kept-closed}
+use Rattle.worklist.proofs.ForkLaws.{closing_kept, closing-next, kept-closed}
 
 -- ---- pair after pair of the queue
 
@@ -50,10 +50,10 @@ module _ {n : ℕ} {names numbers above₀ above links₀ heads₀ links heads f
       }
 
   -- none is left
-  pub settled-all :
+  pub settled_all :
       tail ≤ done → done ≤ tail →
       SettledForks n names numbers above₀ above links₀ heads₀ links heads firsts₀ seconds₀ firsts seconds tail₀ tail tail
-  settled-all over order =
+  settled_all over order =
       subst
       (λ (i : ℕ).
       SettledForks n names numbers above₀ above links₀ heads₀ links heads firsts₀ seconds₀ firsts seconds tail₀ i tail)
@@ -118,28 +118,28 @@ module _ {n : ℕ} {parents names numbers above links heads firsts seconds above
   united-refines others one refines = relabelled-refines n v w (roots_of above) others sizes below-v below-w refines one
 
   -- what joining them queued is pending
-  pub closing-two :
+  pub closing_two :
       Closing (length names) parents names numbers (united above v w) (roots_of above₁) links₁ heads₁ firsts₁ seconds₁ 0 end
-  closing-two =
+  closing_two =
       pair.closing parents (united above v w) 0
       (λ closed by refines. refines v w (omega (arith, ready.names_size)) (omega (arith, ready.names_size)) united-one)
       (subst
       (λ (m : ℕ). Closing m parents names numbers (united above v w) (roots_of above) links heads firsts seconds 0 0)
-      (sym ready.names_size) (closing-kept ready kept united-coarser))
+      (sym ready.names_size) (closing_kept ready kept united-coarser))
 
   -- all of it joined
-  pub two-closed :
+  pub two_closed :
       {above₂ links₂ heads₂ firsts₂ seconds₂ : List ℕ} {tail : ℕ} →
       SettledForks (length names) names numbers above₁ above₂ links₁ heads₁ links₂ heads₂ firsts₁ seconds₁ firsts₂ seconds₂ end
       tail tail →
       TwoClosed n parents names numbers v w above above₂ links₂ heads₂ firsts₂ seconds₂
-  two-closed {above₂} {links₂} {heads₂} {firsts₂} {seconds₂} {tail} settled =
+  two_closed {above₂} {links₂} {heads₂} {firsts₂} {seconds₂} {tail} settled =
       let size = ready.names_size in
       let round : KeptClosed n parents names numbers (united above v w) (roots_of above₂) links₂ heads₂ firsts₂ seconds₂ tail =
       round_ended size refl
       (united-refines (roots_of above₁) pair.two.1.together
       (λ x y hx hy e. pair.two.1.coarser x y (omega (arith, size)) (omega (arith, size)) e))
-      closing-two settled in
+      closing_two settled in
       record {
         forest = subst (λ (m : ℕ). Forest m above₂) size settled.forest;
         until =

@@ -85,11 +85,11 @@ put_roots {n} {above} {above'} {to = to} {from = from} forest few lower roots =
 
 module _ {n : ℕ} {ins outs keys : List ℕ} where
   -- more pairs pending, as far as coarser partitions can tell
-  pub kind-more :
+  pub kind_more :
       {groups rows links heads : List ℕ} {Pending Pending' : List ℕ → Type 0} →
       ((others : List ℕ) → Refines n groups others → Pending' others → Pending others) →
       Kind n ins outs keys groups rows links heads Pending → Kind n ins outs keys groups rows links heads Pending'
-  kind-more fewer kind =
+  kind_more fewer kind =
       record {
         sorted = kind.sorted;
         placed = kind.placed;
@@ -105,11 +105,11 @@ module _ {n : ℕ} {ins outs keys : List ℕ} where
       }
 
   -- what is pending is joined: closed
-  pub kind-closed :
+  pub kind_closed :
       {groups rows links heads : List ℕ} {Pending : List ℕ → Type 0} →
       Kind n ins outs keys groups rows links heads Pending → Pending groups → Labelled n groups →
       ((v : ℕ) → v < n → get_or ins v 0 < n) → n ≤ state_limit → KeyClosed n ins outs keys groups
-  kind-closed {groups} {rows} kind joined labelled ins-below few v w hv hw below same_key one =
+  kind_closed {groups} {rows} kind joined labelled ins-below few v w hv hw below same_key one =
       let at-v = kind.covers v hv below in
       let at-w = kind.covers w hw (omega arith) in
       let listed : get_or rows at-v.arc 0 < state_limit =
@@ -121,15 +121,15 @@ module _ {n : ℕ} {ins outs keys : List ℕ} where
       ∙ at-w.one groups (λ a b ha hb e. e) joined
 
   -- the first pair is in one group: it is pending no more
-  pub kind-next :
+  pub kind_next :
       {Closed : List ℕ → Type 0} {start groups rows links heads firsts seconds : List ℕ} {done tail : ℕ} →
       Reached Closed n start groups firsts seconds done tail → done < tail →
       One groups (get_or firsts done 0) (get_or seconds done 0) →
       Kind n ins outs keys groups rows links heads (Joins firsts seconds done tail) →
       Kind n ins outs keys groups rows links heads (Joins firsts seconds (suc done) tail)
-  kind-next {firsts = firsts} {seconds} {done} {tail} reached due one kind =
+  kind_next {firsts = firsts} {seconds} {done} {tail} reached due one kind =
       let here = reached.inside done (omega arith) due in
-      kind-more
+      kind_more
       (λ others refines joins.
       each_first (One others) firsts seconds done tail
       (refines (get_or firsts done 0) (get_or seconds done 0) here.0 here.1 one) joins)

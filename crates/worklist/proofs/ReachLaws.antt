@@ -36,9 +36,9 @@ module _ {firsts seconds firsts' seconds' : List ℕ} {tail tail' : ℕ} (grew :
       subst₂ P (grew.firsts_kept i high) (grew.seconds_kept i high) (each i low (omega (arith, grew.longer)))
 
   -- each of the shorter queue and each that was added, so each of the longer
-  each-longer :
+  each_longer :
       (done : ℕ) → Each P firsts seconds done tail → Each P firsts' seconds' tail tail' → Each P firsts' seconds' done tail'
-  each-longer done old new i low high = go (le_or_lt tail i)
+  each_longer done old new i low high = go (le_or_lt tail i)
     where
       go : (tail ≤ i) ⊎ (i < tail) → P (get_or firsts' i 0) (get_or seconds' i 0)
       go (inl h) = new i h high
@@ -64,10 +64,10 @@ pub record Added
 
 module _ {Closed : List ℕ → Type 0} {n : ℕ} {start groups firsts seconds : List ℕ} where
   -- none is pending yet, and the start is as coarse or coarser
-  pub reached-none :
+  pub reached_none :
       {tail : ℕ} → Labelled n groups → Refines n groups start → QueueRoom firsts seconds →
       Reached Closed n start groups firsts seconds tail tail
-  reached-none labelled finer queue =
+  reached_none labelled finer queue =
       record {
         labelled = labelled;
         safe = λ closed by refines. (
@@ -105,8 +105,8 @@ module _ {Closed : List ℕ → Type 0} {n : ℕ} {start groups firsts seconds :
           labelled = reached.labelled;
           safe = λ closed by refines.
               let old = reached.safe closed by refines in
-              (old.0, each-longer grew (One closed) done old.1 (added.joined closed by old.0));
-          inside = each-longer grew (Two n) done reached.inside added.inside;
+              (old.0, each_longer grew (One closed) done old.1 (added.joined closed by old.0));
+          inside = each_longer grew (Two n) done reached.inside added.inside;
           order = omega (arith, reached.order, grew.longer);
           queue = queue_grew grew reached.queue;
         }

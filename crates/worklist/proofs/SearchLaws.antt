@@ -14,7 +14,7 @@ use Rattle.base.proofs.Places.{number_at}
 use Rattle.worklist.specs.Lists.{Next, Sorted}
 use Rattle.worklist.specs.Forks.{ForkLists}
 use Rattle.worklist.specs.Searches.{Past, ShareAfter}
-use Rattle.worklist.proofs.ListLaws.{same_at, left, next-after, follow-less}
+use Rattle.worklist.proofs.ListLaws.{same_at, left, next_after, follow_less}
 
 -- only the groups of two states tell whether names can be walked in common
 pub share_groups :
@@ -54,19 +54,19 @@ module _
       ⊎_elim
       (λ (lower : get_or names u 0 ≤ name).
       subst (λ (i : ℕ). Next n names rows g (suc i) at) (here lower)
-      (next-after sorted low u at (next.inside u refl) (next.listed u refl) (past.passed lower)))
+      (next_after sorted low u at (next.inside u refl) (next.listed u refl) (past.passed lower)))
       (λ (higher : name < get_or names u 0). subst (Next n names rows g (suc m)) (sym (past.stays higher))
       (next_later n names rows g k (suc m) (suc u) (omega arith)
       (λ v is. omega (arith, same_at names u v (omega arith), later higher)) next))
       (le_or_lt (get_or names u 0) name)
 
   -- the end is no farther, and nearer past the arc
-  past-less : get_or names u 0 ≤ name → left names at < left names (suc u)
-  past-less lower = follow-less sorted low u (suc u) at refl (next.inside u refl) (next.listed u refl) (past.passed lower)
+  past_less : get_or names u 0 ≤ name → left names at < left names (suc u)
+  past_less lower = follow_less sorted low u (suc u) at refl (next.inside u refl) (next.listed u refl) (past.passed lower)
 
-  past-left : left names at ≤ left names (suc u)
-  past-left =
-      ⊎_elim (λ (lower : get_or names u 0 ≤ name). omega (arith, past-less lower))
+  past_left : left names at ≤ left names (suc u)
+  past_left =
+      ⊎_elim (λ (lower : get_or names u 0 ≤ name). omega (arith, past_less lower))
       (λ (higher : name < get_or names u 0). omega (arith, ap (left names) (past.stays higher))) (le_or_lt (get_or names u 0) name)
 
 -- lists x and y followed up to one name: each pair of arcs of theirs that has one name, after which i names can be walked, is still to
@@ -159,9 +159,9 @@ module _
     walking-less =
         ⊎_elim
         (λ (le : get_or names u 0 ≤ get_or names w 0).
-        omega (arith, past-less sorted x-low at-u past-u le, past-left sorted y-low at-w past-w, same-p, same-q))
+        omega (arith, past_less sorted x-low at-u past-u le, past_left sorted y-low at-w past-w, same-p, same-q))
         (λ (gt : get_or names w 0 < get_or names u 0).
-        omega (arith, past-left sorted x-low at-u past-u, past-less sorted y-low at-w past-w (omega arith), same-p, same-q))
+        omega (arith, past_left sorted x-low at-u past-u, past_less sorted y-low at-w past-w (omega arith), same-p, same-q))
         (le_or_lt (get_or names u 0) (get_or names w 0))
       where
         sorted : Sorted n names lists.rows links heads

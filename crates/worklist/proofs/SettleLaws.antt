@@ -14,19 +14,19 @@ use Rattle.partition.proofs.RootLaws.{roots_two}
 use Rattle.worklist.specs.Settling.{RoundReady, RoundClosed, JoinedUntil, QueueRoom, FilledAll, ListedAll, MergedAll}
 use Rattle.worklist.specs.Settling.{Joins, Settling, SettledAt}
 use Rattle.worklist.proofs.QueueLaws.{grew_none, grew_more}
-use Rattle.worklist.proofs.ReachLaws.{One, reached-none, reached-joined, reached-more, reached-next, reached-done}
-use Rattle.worklist.proofs.KindLaws.{put_roots, kind-filled, kind-next, kind-closed, kind-merged, filled-added, merged-added}
+use Rattle.worklist.proofs.ReachLaws.{One, reached_none, reached-joined, reached-more, reached-next, reached-done}
+use Rattle.worklist.proofs.KindLaws.{put_roots, kind-filled, kind_next, kind_closed, kind-merged, filled-added, merged-added}
 use Rattle.worklist.proofs.KindLaws.{PutInto}
 use Rattle.worklist.proofs.SizeLaws.{own_below}
 
 module _ {n : ℕ} {parents names numbers keys more : List ℕ} where
   -- all lists filled: every pair is pending
-  pub settling-filled :
+  pub settling_filled :
       {groups fl fh bl bh ml mh firsts seconds firsts' seconds' : List ℕ} {tail : ℕ} →
       RoundReady n parents names numbers keys more groups → QueueRoom firsts seconds →
       FilledAll n parents names numbers keys more groups fl fh bl bh ml mh firsts seconds firsts' seconds' 0 tail →
       Settling n parents names numbers keys more groups groups fl fh bl bh ml mh firsts' seconds' 0 tail
-  settling-filled {firsts' = firsts'} {seconds'} {tail} ready queue all =
+  settling_filled {firsts' = firsts'} {seconds'} {tail} ready queue all =
       record {
         fork_rows = all.forks.rows;
         back_rows = all.backs.rows;
@@ -36,7 +36,7 @@ module _ {n : ℕ} {parents names numbers keys more : List ℕ} where
         reached =
             reached-more
             (reached-more
-            (reached-more (reached-none ready.labelled (λ x y hx hy e. e) queue) all.forks.grew
+            (reached-more (reached_none ready.labelled (λ x y hx hy e. e) queue) all.forks.grew
             (filled-added all.forks ready.parents_below (own_below ready.own) (λ closed by. by.forks)))
             all.backs.grew (filled-added all.backs (own_below ready.own) ready.parents_below (λ closed by. by.backs)))
             all.others.grew
@@ -48,23 +48,23 @@ module _ {n : ℕ} {parents names numbers keys more : List ℕ} where
       }
 
   -- the same by the number of parents, with the partition as a forest
-  pub settling-opened :
+  pub settling_opened :
       {groups fl fh bl bh ml mh firsts seconds : List ℕ} {tail : ℕ} →
       Settling n parents names numbers keys more groups groups fl fh bl bh ml mh firsts seconds 0 tail →
       Settling (length parents) parents names numbers keys more (roots_of groups) (roots_of groups) fl fh bl bh ml mh firsts seconds
       0 tail
-  settling-opened {groups} {fl} {fh} {bl} {bh} {ml} {mh} {firsts} {seconds} {tail} settling =
+  settling_opened {groups} {fl} {fh} {bl} {bh} {ml} {mh} {firsts} {seconds} {tail} settling =
       subst₂
       (λ (m : ℕ) (labels : List ℕ).
       Settling m parents names numbers keys more labels labels fl fh bl bh ml mh firsts seconds 0 tail)
       (sym settling.ready.parents_size) (sym (flat_roots n groups settling.ready.labelled)) settling
 
   -- and what it ends with, the other way round
-  pub settled-flat :
+  pub settled_flat :
       {groups labels groups' : List ℕ} → RoundReady n parents names numbers keys more groups → groups' ≡ labels →
       JoinedUntil (RoundClosed (length parents) parents names numbers keys more) (length parents) (roots_of groups) labels →
       JoinedUntil (RoundClosed n parents names numbers keys more) n groups groups'
-  settled-flat {groups} {labels} ready flat until =
+  settled_flat {groups} {labels} ready flat until =
       subst (λ (l : List ℕ). JoinedUntil (RoundClosed n parents names numbers keys more) n groups l) (sym flat)
       (subst₂ (λ (m : ℕ) (l : List ℕ). JoinedUntil (RoundClosed m parents names numbers keys more) m l labels)
       ready.parents_size (flat_roots n groups ready.labelled) until)
@@ -83,9 +83,9 @@ module _ {n : ℕ} {parents names numbers keys more : List ℕ} where
         let none : Joins firsts seconds done tail groups = λ i low high. let z : ⊥ = omega arith in absurd z in
         reached-done settling.reached settling.coarser
         (record {
-          forks = kind-closed settling.forks none labelled settling.ready.parents_below few;
-          backs = kind-closed settling.backs none labelled below few;
-          others = kind-closed settling.others none labelled below few;
+          forks = kind_closed settling.forks none labelled settling.ready.parents_below few;
+          backs = kind_closed settling.backs none labelled below few;
+          others = kind_closed settling.others none labelled below few;
         })
 
     -- the first pair is in one group: it is pending no more
@@ -100,9 +100,9 @@ module _ {n : ℕ} {parents names numbers keys more : List ℕ} where
           ready = settling.ready;
           coarser = settling.coarser;
           reached = reached-next settling.reached due;
-          forks = kind-next settling.reached due one settling.forks;
-          backs = kind-next settling.reached due one settling.backs;
-          others = kind-next settling.reached due one settling.others;
+          forks = kind_next settling.reached due one settling.forks;
+          backs = kind_next settling.reached due one settling.backs;
+          others = kind_next settling.reached due one settling.others;
           room = settling.room;
         }
 
@@ -179,14 +179,14 @@ module _ {n : ℕ} {parents names numbers keys more above above' fl fh bl bh ml 
       }
 
   -- two groups made one, and their lists merged
-  pub settled-joined :
+  pub settled_joined :
       {fl' fh' bl' bh' ml' mh' firsts' seconds' : List ℕ} {tail' : ℕ} → to < from →
       ((rows₁ rows₂ rows₃ : List ℕ) → ListedAll n names keys more rows₁ rows₂ rows₃ fl fh bl bh ml mh tail →
       MergedAll n parents names numbers keys more rows₁ rows₂ rows₃ to from fl' fh' bl' bh' ml' mh' firsts seconds firsts' seconds'
       tail tail') →
       SettledAt n parents names numbers keys more above above' fl fh bl bh ml mh fl' fh' bl' bh' ml' mh' firsts seconds firsts'
       seconds' done tail tail'
-  settled-joined lower merged =
+  settled_joined lower merged =
       record {
         forest = roots.forest;
         settling = λ start settling.

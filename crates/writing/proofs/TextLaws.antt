@@ -26,16 +26,16 @@ module _ {text₀ : List ℕ} {at : ℕ} {whole text : List ℕ} {next : ℕ} wh
   parts {left} w = sym (length-append w.done left) ∙ ap length w.all
 
   -- the text is as long as it was
-  pub keeps-length : {left : List ℕ} → Writing text₀ at whole text next left → length text ≡ length text₀
-  keeps-length w = written-length w.written (omega (arith, parts w, w.fits))
+  pub keeps_length : {left : List ℕ} → Writing text₀ at whole text next left → length text ≡ length text₀
+  keeps_length w = written-length w.written (omega (arith, parts w, w.fits))
 
   -- there is room for what is left
-  pub room-left : {left : List ℕ} → Writing text₀ at whole text next left → Fits text next left
-  room-left w = omega (arith, parts w, w.fits, w.ends, keeps-length w)
+  pub room_left : {left : List ℕ} → Writing text₀ at whole text next left → Fits text next left
+  room_left w = omega (arith, parts w, w.fits, w.ends, keeps_length w)
 
   -- and so for the first piece of it
   pub room : (piece left : List ℕ) → Writing text₀ at whole text next (piece ++ left) → Fits text next piece
-  room piece left w = omega (arith, room-left w, length-append piece left)
+  room piece left w = omega (arith, room_left w, length-append piece left)
 
   -- the first piece written
   pub goes :

@@ -12,7 +12,7 @@ use Rattle.written_plans.proofs.Runs.{run}
 use Rattle.written_plans.proofs.NameRule.{a_name, name_rest, name_rest_lem}
 use Rattle.written_plans.proofs.Elements.{none}
 use Rattle.written_plans.proofs.StepsBack.{by_test}
-use Rattle.written_plans.proofs.WrittenRuns.{pass_name, pass_more_name, pass_empty_end, pass_first, pass-empty, pass_due, pass_end}
+use Rattle.written_plans.proofs.WrittenRuns.{pass_name, pass_more_name, pass_empty_end, pass_first, pass_empty, pass_due, pass_end}
 
 -- ---- the bytes
 
@@ -113,7 +113,7 @@ run_ends (n ∷ around) = (pass_end around n none (ends around)).runs ∙ run_en
 -- and so does the rest of a plan, from each place
 finish-runs : (q : Place) → Begun q → run q (finish q) ≡ go after
 unfolding finish run step after_name after_end
-finish-runs before begun = (pass-empty before [] pass_first some_name none []).runs
+finish-runs before begun = (pass_empty before [] pass_first some_name none []).runs
 finish-runs (inside n around) begun = run_ends (n ∷ around)
 finish-runs (opened around) begun =
     (pass_name around some_name.bytes _ some_name.allowed).runs

@@ -40,39 +40,39 @@ module _ (s : List ℕ) where
   -- ---- plans and the bytes read
 
   -- some plan begins with bytes that can be read
-  begins-plan : (p : ℕ) → p ≤ length s → (r : Place) × (run before (take p s) ≡ go r) →
+  begins_plan : (p : ℕ) → p ≤ length s → (r : Place) × (run before (take p s) ≡ go r) →
       (plan : Plan) × (take p (plan_bytes plan) ≡ take p s)
-  begins-plan p h (r, e) =
+  begins_plan p h (r, e) =
       let rest = completes (take p s) r e in
       let whole = run-plan (take p s ++ rest.0) (run-front before (take p s) rest.0 e ∙ rest.1) in
       (whole.0, ap (take p) whole.1 ∙ take_at (take p s) rest.0 p (length-take-le p s h))
 
   -- where reading is blocked, no plan goes on
-  is-impossible : (p : ℕ) → Blocked before s p → Impossible s p
-  is-impossible p h =
+  is_impossible : (p : ℕ) → Blocked before s p → Impossible s p
+  is_impossible p h =
       record {
         within = h.within;
-        possible_before = begins-plan p h.within h.leads;
+        possible_before = begins_plan p h.within h.leads;
         not_here = λ plan e. h.ends_not (plan_bytes plan) e (plan-runs plan);
       }
 
   -- a byte that no plan can have is not before one that some plan has
-  impossible-after : (p q : ℕ) → Impossible s q → (plan : Plan) × (take p (plan_bytes plan) ≡ take p s) → q < p → ⊥
-  impossible-after p q h (plan, e) less = h.not_here plan (take-fewer s (plan_bytes plan) (suc q) p less e)
+  impossible_after : (p q : ℕ) → Impossible s q → (plan : Plan) × (take p (plan_bytes plan) ≡ take p s) → q < p → ⊥
+  impossible_after p q h (plan, e) less = h.not_here plan (take-fewer s (plan_bytes plan) (suc q) p less e)
 
   -- a tag met is one of some plan that begins so
-  has-tag : (p : ℕ) {t : Tag} → In t (met_at before p s) → (u : List ℕ) × TagAt s p (tag t.around t.name u)
-  has-tag p {t} m =
+  has_tag : (p : ℕ) {t : Tag} → In t (met_at before p s) → (u : List ℕ) × TagAt s p (tag t.around t.name u)
+  has_tag p {t} m =
       let h = met-is_here before p s m in
-      let some = begins-plan (suc p) h.within h.leads in
+      let some = begins_plan (suc p) h.within h.leads in
       let u = plan_bytes some.0 in
       let v = tag t.around t.name (drop p u) in
       let n : In v (tags_from before u) = met_tag before p u (met-moves before p s m u some.1) in
       (drop p u, record { plan = some.0; alike = some.1; of_plan = subst (λ z. In v z) (plan-tags some.0) n; here = refl })
 
   -- and the other way
-  tag-is-met : (p : ℕ) (t : Tag) → TagAt s p t → In (tag t.around t.name (drop p s)) (met_at before p s)
-  tag-is-met p t h =
+  tag-is_met : (p : ℕ) (t : Tag) → TagAt s p t → In (tag t.around t.name (drop p s)) (met_at before p s)
+  tag-is_met p t h =
       let u = plan_bytes h.plan in
       let m = tag-met before u (subst (λ z. In t z) (sym (plan-tags h.plan)) h.of_plan) in
       let same : p ≡ m.0 =
@@ -90,7 +90,7 @@ module _ (s : List ℕ) where
     -- a tag of a plan that is too deep is met and refused
     deep-refused : (p : ℕ) → Deep s p → Refused too_deep p
     deep-refused p (t, at, far) =
-        let u = tag t.around t.name (drop p s) in (u, tag-is-met p t at, look u far (verdict names chosen u))
+        let u = tag t.around t.name (drop p s) in (u, tag-is_met p t at, look u far (verdict names chosen u))
       where
         look : (u : Tag) → TooDeep u → Verdict names chosen u → (0 < tag_fault names chosen u) × (tag_fault names chosen u ≤ too_deep)
         look u d (fine e near o) = absurd (near d)
@@ -100,7 +100,7 @@ module _ (s : List ℕ) where
     -- and so is one that is an unknown child
     unknown-refused : (p : ℕ) → Unknown names chosen s p → Refused unknown_child p
     unknown-refused p (t, at, child, other) =
-        let u = tag t.around t.name (drop p s) in (u, tag-is-met p t at, look u (child, other) (verdict names chosen u))
+        let u = tag t.around t.name (drop p s) in (u, tag-is_met p t at, look u (child, other) (verdict names chosen u))
       where
         look : (u : Tag) → UnknownChild names chosen u → Verdict names chosen u →
             (0 < tag_fault names chosen u) × (tag_fault names chosen u ≤ unknown_child)
@@ -115,10 +115,10 @@ module _ (s : List ℕ) where
         look : Verdict names chosen h.met_tag → Fault names chosen s number p
         look (fine e d o) = let z : ⊥ = omega (arith, e, h.judged, h.refused) in absurd z
         look (deep e d) =
-            let at = has-tag p h.is_met in
+            let at = has_tag p h.is_met in
             inr (inl (sym h.judged ∙ e, (tag h.met_tag.around h.met_tag.name at.0, at.1, d)))
         look (unknown e d o) =
-            let at = has-tag p h.is_met in
+            let at = has_tag p h.is_met in
             inr (inr (sym h.judged ∙ e, (tag h.met_tag.around h.met_tag.name at.0, at.1, o.0, o.1)))
 
     -- ---- the first fault
@@ -139,7 +139,7 @@ module _ (s : List ℕ) where
         (n q : ℕ) → Fault names chosen s n q → Earlier bad_plan p n q
     blocked-first p clear h n q (inl (e, f)) =
         ⊎_elim inl (λ (d : p ≡ q). inr (d, omega arith))
-        (no_less (impossible-after p q f (begins-plan p h.within h.leads)))
+        (no_less (impossible_after p q f (begins_plan p h.within h.leads)))
     blocked-first p clear h n q (inr (inl (e, f))) =
         ⊎_elim inl (λ (d : p ≡ q). inr (d, omega arith)) (no_less (clear-before too_deep p q clear (deep-refused q f)))
     blocked-first p clear h n q (inr (inr (e, f))) =
@@ -161,7 +161,7 @@ module _ (s : List ℕ) where
       judged-first : (n q : ℕ) → Fault names chosen s n q → Earlier number p n q
       judged-first n q (inl (e, f)) =
           let here = met-is_here before p s h.is_met in
-          let later : q < suc p → ⊥ = impossible-after (suc p) q f (begins-plan (suc p) here.within here.leads) in
+          let later : q < suc p → ⊥ = impossible_after (suc p) q f (begins_plan (suc p) here.within here.leads) in
           inl (omega arith)
       judged-first n q (inr (inl (e, f))) = tag-first n q (subst (λ z. Refused z q) (sym e) (deep-refused q f))
       judged-first n q (inr (inr (e, f))) = tag-first n q (subst (λ z. Refused z q) (sym e) (unknown-refused q f))
@@ -176,7 +176,7 @@ module _ (s : List ℕ) where
         let place : i ≡ (read_plan names chosen s).place = omega (arith, at) in
         subst (λ z. First names chosen s z (read_plan names chosen s).place) (sym n)
         (subst (λ z. First names chosen s bad_plan z) place
-        (record { fault = inl (refl, is-impossible i h); first = blocked-first i c h }))
+        (record { fault = inl (refl, is_impossible i h); first = blocked-first i c h }))
     outcome-first (judged_at i at c h) some =
         let number = (read_plan names chosen s).number in
         let place : i ≡ (read_plan names chosen s).place = omega (arith, at) in

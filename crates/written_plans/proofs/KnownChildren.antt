@@ -70,8 +70,8 @@ module _ (names : List (List ℕ)) (chosen : List ℕ) where
       (Memᴰ.append_cases (traces chosen inner) m))
 
   -- a plan without a fault has such tags
-  faultless-tags : (plan : Plan) → Faultless names chosen (plan_bytes plan) → KnownTags (plan_tags plan)
-  faultless-tags plan free t m child =
+  faultless_tags : (plan : Plan) → Faultless names chosen (plan_bytes plan) → KnownTags (plan_tags plan)
+  faultless_tags plan free t m child =
       let bytes = plan_bytes plan in
       let at = tag-met before bytes (subst (λ z. In t z) (sym (plan-tags plan)) m) in
       ⊎_elim (λ i. i)
@@ -90,4 +90,4 @@ module _ (names : List (List ℕ)) (chosen : List ℕ) where
 
 pub children-are_known : ChildrenKnown
 children-are_known names chosen plan free =
-    traces-known names chosen [] plan.element plan.after.bytes (faultless-tags names chosen plan free)
+    traces-known names chosen [] plan.element plan.after.bytes (faultless_tags names chosen plan free)

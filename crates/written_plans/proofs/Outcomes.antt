@@ -104,8 +104,8 @@ outcome_nil judge q p (early away f) =
 
 module _ (judge : Tag → ℕ) (q : Place) (p b : ℕ) (s : List ℕ) where
   -- what the tags met at this byte are refused for
-  abbrev faultHere : ℕ
-  faultHere = tags_fault judge (met q b s)
+  abbrev fault_here : ℕ
+  fault_here = tags_fault judge (met q b s)
 
   -- reading goes on at a place with what the byte's tags are refused for
   abbrev onward : Place → ℕ → Reading
@@ -113,26 +113,26 @@ module _ (judge : Tag → ℕ) (q : Place) (p b : ℕ) (s : List ℕ) where
       elim (eqb fault 0) [ true ↦ with_tags (met q b s) (read_plan_from judge r (suc p) s) | false ↦ refused_at fault p ]
 
   -- reading, where the byte stops it and where it leads to a place
-  read-stops : step q b ≡ stop → read_plan_from judge q p (b ∷ s) ≡ refused_at bad_plan p
+  read_stops : step q b ≡ stop → read_plan_from judge q p (b ∷ s) ≡ refused_at bad_plan p
   unfolding read_plan_from
-  read-stops e = ap (λ (x : Next). elim x [ stop ↦ refused_at bad_plan p | go r ↦ onward r faultHere ]) e
+  read_stops e = ap (λ (x : Next). elim x [ stop ↦ refused_at bad_plan p | go r ↦ onward r fault_here ]) e
 
-  read_goes : {r : Place} → step q b ≡ go r → read_plan_from judge q p (b ∷ s) ≡ onward r faultHere
+  read_goes : {r : Place} → step q b ≡ go r → read_plan_from judge q p (b ∷ s) ≡ onward r fault_here
   unfolding read_plan_from
-  read_goes e = ap (λ (x : Next). elim x [ stop ↦ refused_at bad_plan p | go r ↦ onward r faultHere ]) e
+  read_goes e = ap (λ (x : Next). elim x [ stop ↦ refused_at bad_plan p | go r ↦ onward r fault_here ]) e
 
   -- what is judged is the tag met
-  fault-of : {t : Tag} → In t (met q b s) → faultHere ≡ judge t
+  fault-of : {t : Tag} → In t (met q b s) → fault_here ≡ judge t
   fault-of {t} m = look (meets q b)
     where
-      look : Meets q b → faultHere ≡ judge t
+      look : Meets q b → fault_here ≡ judge t
       look (none f) = absurd (Memᴰ.not-nil (subst (λ z. In t z) (f s) m))
       look (one a n f) =
           ap (tags_fault judge) (f s) ∙ ap judge (sym (Memᴰ.eq_of_singleton (subst (λ z. In t z) (f s) m)))
 
   -- a byte that stops reading
-  outcome-stop : step q b ≡ stop → Outcome judge q p (b ∷ s) (refused_at bad_plan p)
-  outcome-stop e =
+  outcome_stop : step q b ≡ stop → Outcome judge q p (b ∷ s) (refused_at bad_plan p)
+  outcome_stop e =
       blocked 0 (sym (add-zero p)) (clear_zero judge q (b ∷ s)) refl
       (record { within = omega arith; leads = (q, run-nil q); ends_not = ends_not })
     where
@@ -142,19 +142,19 @@ module _ (judge : Tag → ℕ) (q : Place) (p b : ℕ) (s : List ℕ) where
 
   module _ {r : Place} (e : step q b ≡ go r) where
     -- a tag that is refused
-    outcome-judged : (faultHere ≡ 0 → ⊥) → Outcome judge q p (b ∷ s) (refused_at faultHere p)
+    outcome-judged : (fault_here ≡ 0 → ⊥) → Outcome judge q p (b ∷ s) (refused_at fault_here p)
     outcome-judged some = look (meets q b)
       where
-        look : Meets q b → Outcome judge q p (b ∷ s) (refused_at faultHere p)
+        look : Meets q b → Outcome judge q p (b ∷ s) (refused_at fault_here p)
         look (none f) = absurd (some (ap (tags_fault judge) (f s)))
         look (one a n f) =
             let t = tag a n (b ∷ s) in
             let m : In t (met q b s) = subst (λ z. In t z) (sym (f s)) (here refl) in
-            let above : 0 < faultHere = omega arith in
+            let above : 0 < fault_here = omega arith in
             judged_at 0 (sym (add-zero p)) (clear_zero judge q (b ∷ s))
             (record { met_tag = t; is_met = subst (λ z. In t z) (sym (met-here q b s e)) m; judged = sym (fault-of m); refused = above })
 
-    module _ (fine : faultHere ≡ 0) where
+    module _ (fine : fault_here ≡ 0) where
       -- no tag up to here is refused
       clear-on : (i : ℕ) → Clear judge r s i → Clear judge q (b ∷ s) (suc i)
       clear-on i c zero t h m = sym (fault-of (subst (λ z. In t z) (met-here q b s e) m)) ∙ fine
@@ -197,11 +197,11 @@ module _ (judge : Tag → ℕ) (q : Place) (p b : ℕ) (s : List ℕ) where
           judged_at (suc i) (at ∙ next) (clear-on i c) (judged-on i x.number h)
 
     -- where the byte leads to a place
-    outcome-goes : (x : Bool) → eqb faultHere 0 ≡ x → Outcome judge r (suc p) s (read_plan_from judge r (suc p) s)
+    outcome-goes : (x : Bool) → eqb fault_here 0 ≡ x → Outcome judge r (suc p) s (read_plan_from judge r (suc p) s)
         → Outcome judge q p (b ∷ s)
-        (elim x [ true ↦ with_tags (met q b s) (read_plan_from judge r (suc p) s) | false ↦ refused_at faultHere p ])
-    outcome-goes true f h = outcome-on ((tells_eqb faultHere 0).fact f) (read_plan_from judge r (suc p) s) h
-    outcome-goes false f h = outcome-judged (not_told (tells_eqb faultHere 0) f)
+        (elim x [ true ↦ with_tags (met q b s) (read_plan_from judge r (suc p) s) | false ↦ refused_at fault_here p ])
+    outcome-goes true f h = outcome-on ((tells_eqb fault_here 0).fact f) (read_plan_from judge r (suc p) s) h
+    outcome-goes false f h = outcome-judged (not_told (tells_eqb fault_here 0) f)
 
 -- what reading any bytes from any place comes to
 pub outcome : (judge : Tag → ℕ) (q : Place) (p : ℕ) (s : List ℕ) → Outcome judge q p s (read_plan_from judge q p s)
@@ -211,7 +211,7 @@ outcome judge q p (b ∷ s) = look (stepped q b) (λ r. outcome judge r (suc p) 
   where
     look : Stepped q b → ((r : Place) → Outcome judge r (suc p) s (read_plan_from judge r (suc p) s))
         → Outcome judge q p (b ∷ s) (read_plan_from judge q p (b ∷ s))
-    look (stops e) again = subst (Outcome judge q p (b ∷ s)) (sym (read-stops judge q p b s e)) (outcome-stop judge q p b s e)
+    look (stops e) again = subst (Outcome judge q p (b ∷ s)) (sym (read_stops judge q p b s e)) (outcome_stop judge q p b s e)
     look (goes r e) again =
         subst (Outcome judge q p (b ∷ s)) (sym (read_goes judge q p b s e))
-        (outcome-goes judge q p b s e (eqb (faultHere judge q p b s) 0) refl (again r))
+        (outcome-goes judge q p b s e (eqb (fault_here judge q p b s) 0) refl (again r))

@@ -51,34 +51,34 @@ module _ (names : List (List ℕ)) where
   kept around c s entries = map (entry_of names) (tags around c s) ++ entries
 
   -- a row of an element further out than the parent has nothing of it
-  row-over : (d : ℕ) (around : List (List ℕ)) (c : Content) (s : List ℕ) (entries : List Entry) → suc d < length around
+  row_over : (d : ℕ) (around : List (List ℕ)) (c : Content) (s : List ℕ) (entries : List Entry) → suc d < length around
       → row_after d (kept around c s entries) ≡ row_after d entries
   unfolding tags
-  row-over d around nothing s entries h = refl
-  row-over d around (text b p c) s entries h = row-over d around c s entries h
-  row-over d around (empty n g c) s entries h = row_passes d _ _ h ∙ row-over d around c s entries h
-  row-over d around (full n g inner e c) s entries h =
+  row_over d around nothing s entries h = refl
+  row_over d around (text b p c) s entries h = row_over d around c s entries h
+  row_over d around (empty n g c) s entries h = row_passes d _ _ h ∙ row_over d around c s entries h
+  row_over d around (full n g inner e c) s entries h =
       let rest = end_tag n.bytes e.bytes (written c s) in
       row_passes d _ _ h
       ∙ ap (row_after d) (map-parts (entry_of names) (tags (n.bytes ∷ around) inner rest) (tags around c s) entries)
-      ∙ row-over d (n.bytes ∷ around) inner rest (kept around c s entries) (omega arith)
-      ∙ row-over d around c s entries h
+      ∙ row_over d (n.bytes ∷ around) inner rest (kept around c s entries) (omega arith)
+      ∙ row_over d around c s entries h
 
   -- the row of the parent has the numbers of the children
-  row-of-children : (d : ℕ) (around : List (List ℕ)) (c : Content) (s : List ℕ) (entries : List Entry) → length around ≡ suc d
+  row_of_children : (d : ℕ) (around : List (List ℕ)) (c : Content) (s : List ℕ) (entries : List Entry) → length around ≡ suc d
       → row_after d (kept around c s entries) ≡ map (name_number names) (children c) ++ row_after d entries
   unfolding tags children
-  row-of-children d around nothing s entries h = refl
-  row-of-children d around (text b p c) s entries h = row-of-children d around c s entries h
-  row-of-children d around (empty n g c) s entries h =
-      row_takes d _ _ h ∙ ap (λ (r : List ℕ). name_number names n.bytes ∷ r) (row-of-children d around c s entries h)
-  row-of-children d around (full n g inner e c) s entries h =
+  row_of_children d around nothing s entries h = refl
+  row_of_children d around (text b p c) s entries h = row_of_children d around c s entries h
+  row_of_children d around (empty n g c) s entries h =
+      row_takes d _ _ h ∙ ap (λ (r : List ℕ). name_number names n.bytes ∷ r) (row_of_children d around c s entries h)
+  row_of_children d around (full n g inner e c) s entries h =
       let rest = end_tag n.bytes e.bytes (written c s) in
       row_takes d _ _ h
       ∙ ap (λ (r : List ℕ). name_number names n.bytes ∷ r)
       (ap (row_after d) (map-parts (entry_of names) (tags (n.bytes ∷ around) inner rest) (tags around c s) entries)
-      ∙ row-over d (n.bytes ∷ around) inner rest (kept around c s entries) (omega arith)
-      ∙ row-of-children d around c s entries h)
+      ∙ row_over d (n.bytes ∷ around) inner rest (kept around c s entries) (omega arith)
+      ∙ row_of_children d around c s entries h)
 
   -- rows that end before the entries behind, end before it as well
   ends-before : (around : List (List ℕ)) (c : Content) (s : List ℕ) (entries : List Entry) → Ends (length around) entries
@@ -116,7 +116,7 @@ module _ (names : List (List ℕ)) where
         let parts = map-parts (entry_of names) (tags (n.bytes ∷ around) inner rest) (tags around c s) entries in
         rows_more n.bytes _ _ (children inner) (traces chosen inner ++ traces chosen c) _ refl
         (ap (row_after d) parts
-        ∙ row-of-children d (n.bytes ∷ around) inner rest behind refl
+        ∙ row_of_children d (n.bytes ∷ around) inner rest behind refl
         ∙ ap (λ (r : List ℕ). map (name_number names) (children inner) ++ r) (behind-ends d (omega arith))
         ∙ append-nil (map (name_number names) (children inner)))
         (ap (rows_in number) parts

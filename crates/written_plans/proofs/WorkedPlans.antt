@@ -16,7 +16,7 @@ use Rattle.written_plans.specs.Reading.{after_name, after_end, end_begins, rows_
 use Rattle.written_plans.specs.Calls.{plan_reading, plan_rows, asked_fault, plan_fault}
 use Rattle.model.specs.WorkedDays.{same_rows}
 use Rattle.written_plans.specs.WorkedPlans.{times, holds, examples, day_of, plan_names, WorkedPlansHold}
-use Rattle.model.proofs.CallLaws.{sizes-none}
+use Rattle.model.proofs.CallLaws.{sizes_none}
 
 -- the examples, one after the other
 examples_hold : all holds examples ≡ true
@@ -27,7 +27,7 @@ examples_hold = refl
 -- an input that is not too long passes 1, where there is room to work
 passes : (input work : List ℕ) → leb (length input) input_limit ≡ true → work_bytes ≤ length work → sizes_fault input work ≡ 0
 passes input work short enough =
-    sizes-none input work (record { input_fits = leb-true (length input) input_limit short; work_fits = enough })
+    sizes_none input work (record { input_fits = leb-true (length input) input_limit short; work_fits = enough })
 
 -- a day of 40 entries, and one of 41
 record DaysJudged : Type 0 where

@@ -150,19 +150,19 @@ pass_empty_end around n g s ok =
 -- from a place where `<` can be read and meets nothing
 module _ (q : Place) (around : List (List ℕ)) (opens : (s : List ℕ) → Passes q (less ∷ s) [] (opened around) s) where
   -- a start tag leads into its element
-  pub pass-start : (n : Name) (g : Space) (s : List ℕ) → Passes q (start_tag n.bytes g.bytes s)
+  pub pass_start : (n : Name) (g : Space) (s : List ℕ) → Passes q (start_tag n.bytes g.bytes s)
       (tag around n.bytes (g.bytes ++ (greater ∷ s)) ∷ []) (inside n.bytes around) s
   unfolding after_name
-  pass-start n g s =
+  pass_start n g s =
       opens (n.bytes ++ (g.bytes ++ (greater ∷ s)))
       then pass_name around n.bytes (g.bytes ++ (greater ∷ s)) n.allowed
       then pass_after_name around n.bytes g.bytes greater s (inside n.bytes around) n.allowed g.white
       (greater-ends n.bytes) refl
 
   -- an empty-element tag leads past its element
-  pub pass-empty : (n : Name) (g : Space) (s : List ℕ) → Passes q (empty_tag n.bytes g.bytes s)
+  pub pass_empty : (n : Name) (g : Space) (s : List ℕ) → Passes q (empty_tag n.bytes g.bytes s)
       (tag around n.bytes (g.bytes ++ (slash ∷ (greater ∷ s))) ∷ []) (leave around) s
-  pass-empty n g s =
+  pass_empty n g s =
       opens (n.bytes ++ (g.bytes ++ (slash ∷ (greater ∷ s))))
       then pass_name around n.bytes (g.bytes ++ (slash ∷ (greater ∷ s))) n.allowed
       then pass_empty_end around n.bytes g s n.allowed
@@ -207,10 +207,10 @@ pass_written n around (text b p c) s =
     let goes : step (inside n around) b ≡ go (inside n around) = rw (p, apart) in
     pass (inside n around) (inside n around) b (written c s) goes then pass_written n around c s
 pass_written n around (empty m g c) s =
-    pass-empty (inside n around) (n ∷ around) (pass_less n around) m g (written c s) then pass_written n around c s
+    pass_empty (inside n around) (n ∷ around) (pass_less n around) m g (written c s) then pass_written n around c s
 pass_written n around (full m g inner e c) s =
     let rest = end_tag m.bytes e.bytes (written c s) in
-    pass-start (inside n around) (n ∷ around) (pass_less n around) m g (written inner rest)
+    pass_start (inside n around) (n ∷ around) (pass_less n around) m g (written inner rest)
     then pass_written m.bytes (n ∷ around) inner rest
     then pass_end (n ∷ around) m.bytes e (written c s)
     then pass_written n around c s
@@ -240,10 +240,10 @@ pub pass_element : (c : Content) (s : List ℕ) → is_element c ≡ true → Pa
 unfolding written tags
 pass_element c s single =
     by_element (λ c. Passes before (written c s) (tags [] c s) after s)
-    (λ n g. pass-empty before [] pass_first n g s)
+    (λ n g. pass_empty before [] pass_first n g s)
     (λ n g inner e.
     let rest = end_tag n.bytes e.bytes s in
-    pass-start before [] pass_first n g (written inner rest)
+    pass_start before [] pass_first n g (written inner rest)
     then pass_written n.bytes [] inner rest
     then pass_end [] n.bytes e s)
     c single

@@ -6,9 +6,9 @@ use native.Mathlib.Omega.{arith}
 use lib.ListN.{length}
 use borrow.Author.Rules.{rules}
 use Rattle.partition.specs.Forests.{Forest, roots_of, JoinedRoots}
-use Rattle.partition.proofs.ForestLaws.{forest_again, roots-labelled}
+use Rattle.partition.proofs.ForestLaws.{forest_again, roots_labelled}
 use Rattle.partition.proofs.RootLaws.{roots_two}
-use Rattle.contexts.proofs.ClimbLaws.{Climbing, climbing-none, climbing-more, climbing-done}
+use Rattle.contexts.proofs.ClimbLaws.{Climbing, climbing_none, climbing-more, climbing_done}
 use Rattle.contexts.proofs.climb.Statement.{statement}
 use Rattle.contexts.proofs.climb.Tie as tie
 
@@ -25,9 +25,9 @@ loop-holds c =
     let start = c.before.before in (
       omega arith,
       start.requires.1.0,
-      climbing-none (length start.args.groups.now) start.args.m start.args.parents.now start.requires.0
+      climbing_none (length start.args.groups.now) start.args.m start.args.parents.now start.requires.0
           start.args.v start.args.w (roots_of start.args.groups.now) start.requires.1.1.1.0 start.requires.1.1.1.1
-          (roots-labelled (length start.args.groups.now) start.args.groups.now start.requires.1.0),
+          (roots_labelled (length start.args.groups.now) start.args.groups.now start.requires.1.0),
     )
 
 mul-wide16 : tie.Need-overflow-mul-wide16 invariant-loop decreases-loop
@@ -116,7 +116,7 @@ returns c =
     record {
       forest = loop.invariant.1;
       promised =
-          climbing-done (length groups) start.args.m start.args.parents.now start.requires.0 start.args.v
+          climbing_done (length groups) start.args.m start.args.parents.now start.requires.0 start.args.v
           start.args.w loop.a loop.b (roots_of groups) (roots_of loop.groups)
           (subst (λ (k : ℕ). Climbing (length groups) start.args.m start.args.parents.now start.args.v
           start.args.w k loop.a loop.b (roots_of groups) (roots_of loop.groups)) all loop.invariant.2);

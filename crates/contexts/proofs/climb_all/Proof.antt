@@ -7,7 +7,7 @@ use native.Mathlib.Omega.{arith}
 use lib.ListN.{length}
 use Rattle.indexed.specs.Partitions.{Labelled}
 use Rattle.partition.specs.Forests.{roots_of}
-use Rattle.partition.proofs.ForestLaws.{forest_again, roots-labelled}
+use Rattle.partition.proofs.ForestLaws.{forest_again, roots_labelled}
 use Rattle.contexts.specs.Climbs.{Above, ClimbedAt, ByRoots}
 use Rattle.contexts.proofs.ClimbLaws.{Climbs, climbs-none, climbs-more, climbs-all}
 use Rattle.contexts.proofs.climb_all.Statement.{statement}
@@ -27,7 +27,7 @@ loop-holds c =
     let forest = start.requires.1.1.0 in
     let none =
     climbs-none (length groups) start.args.m start.args.parents.now start.requires.0 start.args.starts.now
-    start.requires.1.0 (roots_of groups) (roots-labelled (length groups) groups forest) in
+    start.requires.1.0 (roots_of groups) (roots_labelled (length groups) groups forest) in
     (omega arith, record { forest = forest; promised = none })
 
 climb-at-requires : tie.Need-climb-at-requires invariant-loop decreases-loop

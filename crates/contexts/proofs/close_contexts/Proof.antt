@@ -14,7 +14,7 @@ use Rattle.worklist.proofs.ForkRounds.{kept_from_start}
 use Rattle.contexts.specs.Joins.{SweptBy}
 use Rattle.contexts.proofs.ForkLaws.{forks-ready, forks-joined, kept-forks}
 use Rattle.contexts.proofs.RoundLaws.{RoundsTo, arrays_front, classes_front, sweep_asked, sweep_told, rounds_none}
-use Rattle.contexts.proofs.RoundLaws.{rounds-more, rounds-less, rounds_all}
+use Rattle.contexts.proofs.RoundLaws.{rounds_more, rounds_less, rounds_all}
 use Rattle.contexts.proofs.close_contexts.Statement.{statement}
 use Rattle.contexts.proofs.close_contexts.Tie as tie
 
@@ -203,7 +203,7 @@ loop-holds c =
     let n = length at.args.groups.now in
     let last = sweeps.sweep.new.1.1.1.1.1.1 in (
       refl,
-      rounds-more n at.args.h at.args.m at.args.parents.now at.args.names.now at.args.before.now
+      rounds_more n at.args.h at.args.m at.args.parents.now at.args.names.now at.args.before.now
           starts.start.last.1.1.1.0 true at.pre.0.arrays at.pre.0.some_names (none_here starts)
           cut.suffix-classes.last.1.1.1.0 sweeps.sweep.new.1.1.1.1.1.0 last.0 sweeps.sweep.result
           (classes-here cut) (first-swept sweeps)
@@ -240,7 +240,7 @@ loop-less c =
     let cut = known here in
     subst (λ (b : Bool). due sweeps.sweep2.new.1.1.1.1.1.1.0 sweeps.sweep2.result < due here.loop.groups b)
     (sym (turn sweeps).loop-test.true)
-    (rounds-less (length at.args.groups.now) at.args.h at.args.m at.args.parents.now at.args.names.now
+    (rounds_less (length at.args.groups.now) at.args.h at.args.m at.args.parents.now at.args.names.now
     here.loop.before here.loop.groups here.loop.joined at.pre.0.arrays at.pre.0.some_names here.loop.inv.1
     cut.suffix-classes.last.1.1.1.0 sweeps.sweep2.new.1.1.1.1.1.0
     sweeps.sweep2.new.1.1.1.1.1.1.0 sweeps.sweep2.result (classes-here cut) (swept-here sweeps))
@@ -254,7 +254,7 @@ loop-again c =
     let n = length at.args.groups.now in
     let last = sweeps.sweep2.new.1.1.1.1.1.1 in (
       sweeps.sweep2.auto.1.1.1.1.1.0 ∙ here.loop.inv.0,
-      rounds-more n at.args.h at.args.m at.args.parents.now at.args.names.now here.loop.before
+      rounds_more n at.args.h at.args.m at.args.parents.now at.args.names.now here.loop.before
           here.loop.groups here.loop.joined at.pre.0.arrays at.pre.0.some_names here.loop.inv.1
           cut.suffix-classes.last.1.1.1.0 sweeps.sweep2.new.1.1.1.1.1.0 last.0 sweeps.sweep2.result
           (classes-here cut) (swept-here sweeps)

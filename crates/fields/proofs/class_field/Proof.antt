@@ -2,7 +2,7 @@
 use mathlib.Core.Path.{◌≡◌, sym, ◌∙◌}
 use native.Mathlib.Omega.{arith}
 use lib.ListN.{length}
-use Rattle.fields.proofs.PlaceLaws.{class_bytes, class-refused, class-goes}
+use Rattle.fields.proofs.PlaceLaws.{class_bytes, class_refused, class_goes}
 use borrow.Author.Rules.{rules}
 use Rattle.fields.proofs.class_field.Statement.{statement}
 use Rattle.fields.proofs.class_field.Tie as tie
@@ -18,7 +18,7 @@ returns c =
     let start = c.before.before.before.before in
     let bytes = c.before.before.body in
     let fault = c.before.class-fault in
-    class-refused start.args.s.now start.args.p start.requires.0 bytes.result.now fault.result bytes.ensures
+    class_refused start.args.s.now start.args.p start.requires.0 bytes.result.now fault.result bytes.ensures
     fault.ensures c.if1.true
 
 next-field-requires : tie.Need-next-field-requires
@@ -51,7 +51,7 @@ returns-2 c =
     let bytes = c.before.before.before.before.before.before.body in
     let fault = c.before.before.before.before.before.class-fault in
     let next = c.before.before.before.next_field in
-    class-goes start.args.s.now start.args.p start.requires.0 bytes.result.now fault.result bytes.ensures
+    class_goes start.args.s.now start.args.p start.requires.0 bytes.result.now fault.result bytes.ensures
     fault.ensures
     next.result next.ensures start.requires.1 c.before.before.before.before.if1.false
 

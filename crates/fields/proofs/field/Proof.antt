@@ -1,7 +1,7 @@
 -- `field` meets its contract: one law for each answer. Assumes nothing.
 use native.Mathlib.Omega.{arith}
 use Rattle.fields.specs.Places.{kind_of}
-use Rattle.fields.proofs.TurnLaws.{turn-cut, turn-cut-body, turn}
+use Rattle.fields.proofs.TurnLaws.{turn_cut, turn_cut_body, turn}
 use borrow.Author.Rules.{rules}
 use Rattle.fields.proofs.field.Statement.{statement}
 use Rattle.fields.proofs.field.Tie as tie
@@ -12,7 +12,7 @@ sub-if1 c = search rules
 returns : tie.Need-returns
 returns c =
     let at = c.before.before.args in
-    turn-cut at.s.now at.p (omega arith) (kind_of at.kind) (omega arith)
+    turn_cut at.s.now at.p (omega arith) (kind_of at.kind) (omega arith)
 
 sub-if2 : tie.Need-overflow-sub-if2
 sub-if2 c = search rules
@@ -26,7 +26,7 @@ body-len-requires c κs = search rules
 returns-2 : tie.Need-returns-2
 returns-2 c =
     let at = c.before.before.before.before.args in
-    turn-cut-body at.s.now at.p (omega arith) (kind_of at.kind) (omega arith) (omega arith)
+    turn_cut_body at.s.now at.p (omega arith) (kind_of at.kind) (omega arith) (omega arith)
 
 whole-field-requires : tie.Need-whole-field-requires
 whole-field-requires c κs = search rules

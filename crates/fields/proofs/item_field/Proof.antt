@@ -1,6 +1,6 @@
 -- `item_field` meets its contract: the laws of PlaceLaws at what the code has at hand. Assumes nothing.
 use mathlib.Core.Path.{refl}
-use Rattle.fields.proofs.PlaceLaws.{refuses_some, item-goes}
+use Rattle.fields.proofs.PlaceLaws.{refuses_some, item_goes}
 use borrow.Author.Rules.{rules}
 use Rattle.fields.proofs.item_field.Statement.{statement}
 use Rattle.fields.proofs.item_field.Tie as tie
@@ -20,7 +20,7 @@ returns-2 c =
     let args = start.args in
     let none = c.before.before.if1.false in
     let next = c.before.next_field in
-    item-goes args.s.now args.p start.requires.0 c.with_item.result next.result args.fault
+    item_goes args.s.now args.p start.requires.0 c.with_item.result next.result args.fault
     c.with_item.ensures next.ensures none (start.requires.1 none)
 
 pub item-field-spec : {M : Type 1} → statement M

@@ -8,8 +8,8 @@ use lib.ListN.{length}
 use Rattle.model.specs.Fields.{class_of, last_stage}
 use Rattle.fields.specs.Places.{kind_of, Turned, settings_of, Goes}
 use Rattle.fields.specs.declared.Step.{Step}
-use Rattle.fields.proofs.TurnLaws.{Reading, reading_begins, reading-goes, reading-refused, reading-accepted}
-use Rattle.fields.proofs.TurnLaws.{reading-unfinished}
+use Rattle.fields.proofs.TurnLaws.{Reading, reading_begins, reading_goes, reading_refused, reading_accepted}
+use Rattle.fields.proofs.TurnLaws.{reading_unfinished}
 use Rattle.fields.proofs.read_with.Statement.{statement}
 use Rattle.fields.proofs.read_with.Tie as tie
 
@@ -45,7 +45,7 @@ loop-again c =
     let loop = c.before.before.before.before.before.before.loop in
     let next = c.before.step.given in
     let settings = settings_of at.settings in
-    reading-goes settings (kind_of at.kind) at.s.now loop.p loop.invariant next.0.0
+    reading_goes settings (kind_of at.kind) at.s.now loop.p loop.invariant next.0.0
     (subst (λ (r : Step). Turned (kind_of at.kind) at.s.now loop.p r) next.1 c.before.before.before.field.ensures)
 
 enum-known-step-2 : tie.Need-enum-known-step-2 invariant-loop decreases-loop
@@ -57,7 +57,7 @@ returns c =
     let loop = c.before.before.before.before.before.before.loop in
     let next = c.before.step2.given in
     let settings = settings_of at.settings in
-    reading-refused settings (kind_of at.kind) at.s.now loop.p loop.invariant next.0.0
+    reading_refused settings (kind_of at.kind) at.s.now loop.p loop.invariant next.0.0
     (subst (λ (r : Step). Turned (kind_of at.kind) at.s.now loop.p r) next.1 c.before.before.before.field.ensures)
 
 last-stage-requires : tie.Need-last-stage-requires invariant-loop decreases-loop
@@ -69,7 +69,7 @@ returns-2 c =
     let loop = c.before.before.before.before.before.loop in
     let settings = settings_of at.settings in
     let met = c.if2.true ∙ c.before.before.last-stage.ensures in
-    reading-accepted settings (kind_of at.kind) at.s.now loop.p loop.invariant (omega arith) met
+    reading_accepted settings (kind_of at.kind) at.s.now loop.p loop.invariant (omega arith) met
 
 returns-3 : tie.Need-returns-3 invariant-loop decreases-loop
 returns-3 c =
@@ -78,7 +78,7 @@ returns-3 c =
     let settings = settings_of at.settings in
     let unmet : loop.p.stage ≡ last_stage (kind_of at.kind) → ⊥ =
     λ e. c.if2.false (e ∙ sym c.before.before.last-stage.ensures) in
-    reading-unfinished settings (kind_of at.kind) at.s.now loop.p loop.invariant (omega arith) unmet
+    reading_unfinished settings (kind_of at.kind) at.s.now loop.p loop.invariant (omega arith) unmet
 
 pub read-with-spec : {M : Type 1} → statement M
 read-with-spec =

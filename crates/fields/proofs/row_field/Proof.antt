@@ -1,6 +1,6 @@
 -- `row_field` meets its contract: the laws of PlaceLaws at what the code has at hand. Assumes nothing.
 use Rattle.model.specs.Fields.{row_fault}
-use Rattle.fields.proofs.PlaceLaws.{rows_left, item_room, item-step}
+use Rattle.fields.proofs.PlaceLaws.{rows_left, item_room, item_step}
 use borrow.Author.Rules.{rules}
 use Rattle.fields.proofs.row_field.Statement.{statement}
 use Rattle.fields.proofs.row_field.Tie as tie
@@ -26,7 +26,7 @@ returns c =
     let start = c.before.before.before.before in
     let bytes = c.before.before.body in
     let fault = c.before.row-fault in
-    item-step row_fault start.args.s.now start.args.p bytes.result.now fault.result bytes.ensures fault.ensures
+    item_step row_fault start.args.s.now start.args.p bytes.result.now fault.result bytes.ensures fault.ensures
     c.item-field.result c.item-field.ensures
 
 pub row-field-spec : {M : Type 1} → statement M

@@ -1,6 +1,6 @@
 -- `state_field` meets its contract: the laws of PlaceLaws at what the code has at hand. Assumes nothing.
 use Rattle.model.specs.Fields.{state_fault, with_field}
-use Rattle.fields.proofs.PlaceLaws.{states_left, item_room, item-step}
+use Rattle.fields.proofs.PlaceLaws.{states_left, item_room, item_step}
 use borrow.Author.Rules.{rules}
 use Rattle.fields.proofs.state_field.Statement.{statement}
 use Rattle.fields.proofs.state_field.Tie as tie
@@ -27,7 +27,7 @@ returns c =
     let start = c.before.before.before.before in
     let bytes = c.before.before.body in
     let fault = c.before.state-fault in
-    item-step state_fault start.args.s.now start.args.p bytes.result.now fault.result bytes.ensures fault.ensures
+    item_step state_fault start.args.s.now start.args.p bytes.result.now fault.result bytes.ensures fault.ensures
     c.item-field.result c.item-field.ensures
 
 pub state-field-spec : {M : Type 1} → statement M

@@ -2,7 +2,7 @@
 use native.Mathlib.Omega.{arith}
 use lib.ListN.{get_or}
 use Rattle.fields.specs.Places.{kind_of}
-use Rattle.fields.proofs.MarkLaws.{misplaced, name-arm, class-arm, row-arm, state-arm, no_name, no-class, no_row, no-state}
+use Rattle.fields.proofs.MarkLaws.{misplaced, name-arm, class_arm, row_arm, state-arm, no_name, no_class, no_row, no_state}
 use Rattle.fields.proofs.MarkLaws.{class_stage, no_mark}
 use borrow.Author.Rules.{rules}
 use Rattle.fields.proofs.whole_field.Statement.{statement}
@@ -34,7 +34,7 @@ returns-2 : tie.Need-returns-2
 returns-2 c =
     let at = c.before.before.before.before.before.before.args in
     let takes = c.before.before.takes-class in
-    class-arm (kind_of at.kind) at.s.now at.p c.class-field.result takes.result takes.ensures
+    class_arm (kind_of at.kind) at.s.now at.p c.class-field.result takes.result takes.ensures
     c.before.before.before.match.keys2 c.before.if2.true c.class-field.ensures
 
 takes-rows-requires : tie.Need-takes-rows-requires
@@ -47,7 +47,7 @@ returns-3 : tie.Need-returns-3
 returns-3 c =
     let at = c.before.before.before.before.before.before.args in
     let takes = c.before.before.takes-rows in
-    row-arm (kind_of at.kind) at.s.now at.p c.row_field.result takes.result takes.ensures
+    row_arm (kind_of at.kind) at.s.now at.p c.row_field.result takes.result takes.ensures
     c.before.before.before.match.keys3 c.before.if3.true c.row_field.ensures
 
 takes-states-requires : tie.Need-takes-states-requires
@@ -77,7 +77,7 @@ returns-6 c =
     let mark = get_or at.s.now at.p.at 0 in
     let takes = c.before.takes-class in
     misplaced kind at.s.now at.p
-    (no-class kind at.p.stage mark takes.result takes.ensures c.before.before.match.keys2 c.if2.false)
+    (no_class kind at.p.stage mark takes.result takes.ensures c.before.before.match.keys2 c.if2.false)
 
 returns-7 : tie.Need-returns-7
 returns-7 c =
@@ -95,7 +95,7 @@ returns-8 c =
     let mark = get_or at.s.now at.p.at 0 in
     let takes = c.before.takes-states in
     misplaced kind at.s.now at.p
-    (no-state kind at.p.stage mark takes.result takes.ensures c.before.before.match.keys4 c.if4.false)
+    (no_state kind at.p.stage mark takes.result takes.ensures c.before.before.match.keys4 c.if4.false)
 
 returns-9 : tie.Need-returns-9
 returns-9 c =

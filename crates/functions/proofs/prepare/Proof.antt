@@ -5,7 +5,7 @@ use Prim.Native.Nat.{ℕ}
 use lib.ListN.{length}
 use Rattle.indexed.specs.Passes.{SeenSets, KeysWhere}
 use Rattle.functions.proofs.FLaws.{arrays_for}
-use Rattle.functions.proofs.PreparedLaws.{by-sets, by_codes}
+use Rattle.functions.proofs.PreparedLaws.{by_sets, by_codes}
 use borrow.Author.Rules.{rules}
 use Rattle.functions.proofs.prepare.Statement.{statement}
 use Rattle.functions.proofs.prepare.Tie as tie
@@ -54,16 +54,16 @@ returns c =
     let at = start seen in
     let args = at.args in
     let sets = seen.seen-sets.last.1.1.0 in
-    let keys = keyed.seen-keys.new.1.1.1.0 in
-    let more = keyed.seen-keys.new.1.1.1.1.0 in
-    by-sets args.seen (length args.values.now) args.j args.parents.now args.names.now args.more.now sets
+    let keys = keyed.seen_keys.new.1.1.1.0 in
+    let more = keyed.seen_keys.new.1.1.1.1.0 in
+    by_sets args.seen (length args.values.now) args.j args.parents.now args.names.now args.more.now sets
     keys more seen.before.before.if1.taken
     (record {
       sets = seen.seen-sets.ensures;
       enlarging = subst (λ (m : ℕ). KeysWhere m true args.parents.now args.names.now sets keys)
-          at.pre.1.1.0 keyed.seen-keys.ensures.0;
+          at.pre.1.1.0 keyed.seen_keys.ensures.0;
       others = subst (λ (m : ℕ). KeysWhere m false args.parents.now args.names.now sets more)
-          at.pre.1.1.0 keyed.seen-keys.ensures.1;
+          at.pre.1.1.0 keyed.seen_keys.ensures.1;
     })
 
 codes-and-names-above-requires : tie.Need-codes-and-names-above-requires

@@ -15,8 +15,8 @@ use Rattle.prefix_tree.specs.declared.Tree.{Tree}
 use Rattle.inference.specs.Books.{rows_at}
 use Rattle.inference.specs.Results.{Infers}
 use Rattle.inference.specs.declared.Inferred.{Inferred}
-use Rattle.inference.proofs.BookLaws.{rows-within, rows-entries, items-few}
-use Rattle.inference.proofs.ResultLaws.{gives-too-large, told-few, gives-result}
+use Rattle.inference.proofs.BookLaws.{rows-within, rows-entries, items_few}
+use Rattle.inference.proofs.ResultLaws.{gives_too_large, told-few, gives-result}
 use Rattle.inference.proofs.infer.Statement.{statement}
 use Rattle.inference.proofs.infer.Tie as tie
 
@@ -82,7 +82,7 @@ add-rows-requires c κs =
         rows-entries args.book.now args.place start.requires.0 (λ i h. omega (arith, known.shared-slice-known.given i)),
         (
           record { parents_size = refl; names_size = refl; ends_size = refl; work_size = start.requires.2 },
-          items-few args.book.now args.place start.requires.0,
+          items_few args.book.now args.place start.requires.0,
         ),
       ),
     )
@@ -143,7 +143,7 @@ returns c =
     let large =
     subst (λ (r : Tree). number_of r ≡ tree_fault (rows at)) c.before.enum_told.given.1 after.add-rows.ensures.number in
     subst (λ (r : Inferred). Infers at.args.wanted book (outs at) (outs at) r) (sym c.refused.ensures)
-    (gives-too-large at.args.wanted book (outs at) large)
+    (gives_too_large at.args.wanted book (outs at) large)
 
 same-length-2 : tie.Need-same-length-2
 same-length-2 c = search rules

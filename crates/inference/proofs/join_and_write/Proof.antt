@@ -17,9 +17,9 @@ use Rattle.inference.specs.Books.{rows_at, class_at, names_end, made_of, JoinedB
 use Rattle.inference.specs.Results.{WritesTable, WritesBook}
 use Rattle.inference.specs.declared.Table.{Table}
 use Rattle.inference.specs.declared.Table.TheVariants as table
-use Rattle.inference.proofs.BookLaws.{class-allowed, names-fit, rows_short}
+use Rattle.inference.proofs.BookLaws.{class_allowed, names-fit, rows_short}
 use Rattle.inference.proofs.TableLaws.{prefix_fits, prefix_again, tree_ready, joined_tree, lent, back-room}
-use Rattle.inference.proofs.TableLaws.{written-fits, front-too-long, table-too-long, table-written}
+use Rattle.inference.proofs.TableLaws.{written-fits, front-too_long, table-too-long, table-written}
 use Rattle.inference.proofs.join_and_write.Statement.{statement}
 use Rattle.inference.proofs.join_and_write.Tie as tie
 
@@ -147,7 +147,7 @@ returns : tie.Need-returns
 returns c =
     let at = start c.before in
     let args = at.args in
-    front-too-long args.book.now args.place at.pre.0.0 (bytes (known c.before)) args.wanted args.out.now
+    front-too_long args.book.now args.place at.pre.0.0 (bytes (known c.before)) args.wanted args.out.now
     args.counts.now c.if1.true
 
 array-borrow-prefix-groups : tie.Need-array-borrow-prefix-groups
@@ -160,7 +160,7 @@ join-by-class-requires : tie.Need-join-by-class-requires
 join-by-class-requires c κs =
     let at = start c.before.before.before in
     let args = at.args in (
-      class-allowed args.book.now args.place at.pre.0.0 (bytes (known c.before.before.before)),
+      class_allowed args.book.now args.place at.pre.0.0 (bytes (known c.before.before.before)),
       tree_ready (rows at) args.parents.now args.names.now args.ends.now _ at.pre.1 (length-take-le _ _ (count at)),
     )
 

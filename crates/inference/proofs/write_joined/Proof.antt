@@ -13,7 +13,7 @@ use Rattle.counts.specs.Counts.{counts_if}
 use Rattle.quotient.specs.Ready.{Prepared}
 use Rattle.writing.proofs.WritingLaws.{written-from_zero}
 use Rattle.inference.specs.Books.{JoinedTree, made_of}
-use Rattle.inference.proofs.StateLaws.{made_few, counts_ready, states-too-long, states-fit, counts-fit, states-written}
+use Rattle.inference.proofs.StateLaws.{made_few, counts_ready, states-too_long, states-fit, counts-fit, states-written}
 use Rattle.inference.proofs.write_joined.Statement.{statement}
 use Rattle.inference.proofs.write_joined.Tie as tie
 
@@ -101,7 +101,7 @@ returns c rows tree =
     let sizes = c.before in
     let at = start (made sizes) in
     let ready = prepared (made sizes) rows tree in
-    states-too-long rows at.args.groups.now at.args.wanted (made sizes).prepare.result.states
+    states-too_long rows at.args.groups.now at.args.wanted (made sizes).prepare.result.states
     (made sizes).prepare.result.arcs sizes.counts_bytes.result at.args.out.now at.args.counts.now ready.counted
     ready.arcs_are sizes.counts_bytes.ensures c.if1.true
 

@@ -9,7 +9,7 @@ use Rattle.model.specs.Listing.{state_lines, first_line, listing}
 use Rattle.model.specs.Calls.{table_of, table_states}
 use Rattle.tables.proofs.TableLaws.{states-count}
 use Rattle.listings.specs.Texts.{names_at}
-use Rattle.writing.proofs.TextLaws.{Writing, begins, room, room-left, goes, ends_with}
+use Rattle.writing.proofs.TextLaws.{Writing, begins, room, room_left, goes, ends_with}
 use Rattle.listings.proofs.LineLaws.{listing-parts}
 use Rattle.listings.proofs.list_table.Statement.{statement}
 use Rattle.listings.proofs.list_table.Tie as tie
@@ -54,7 +54,7 @@ put-first-line-requires c κs =
     ((omega arith, start.requires.1.0.0, start.requires.1.0.1), room (first-line start) (lines start) (first start))
 
 put-states-requires : tie.Need-put-states-requires
-put-states-requires c κs = ((start-1 c.before.before.before).requires.0, room-left (after-1 c.before.before.before))
+put-states-requires c κs = ((start-1 c.before.before.before).requires.0, room_left (after-1 c.before.before.before))
 
 same_length : tie.Need-same-length
 same_length c = search rules

@@ -7,7 +7,7 @@ use Prim.Native.Nat.{ℕ}
 use Rattle.model.specs.Listing.{decimal, space, newline, arc_text, state_line}
 use Rattle.writing.specs.Writing.{Put}
 use Rattle.listings.specs.Texts.{names_at, state_at}
-use Rattle.writing.proofs.TextLaws.{Writing, begins, room, room-left, goes, ends_with}
+use Rattle.writing.proofs.TextLaws.{Writing, begins, room, room_left, goes, ends_with}
 use Rattle.listings.proofs.put_state_line.Statement.{statement}
 use Rattle.listings.proofs.put_state_line.Tie as tie
 
@@ -109,7 +109,7 @@ put-arcs-requires c κs =
     (start.pre.0, (start.pre.1.0, room (arcs-of start) newline (after-3 c.before.before.before)))
 
 put-byte-requires-3 : tie.Need-put-byte-requires-3
-put-byte-requires-3 c κs = room-left (after-4 c.before.before.before)
+put-byte-requires-3 c κs = room_left (after-4 c.before.before.before)
 
 same_length : tie.Need-same-length
 same_length c = search rules

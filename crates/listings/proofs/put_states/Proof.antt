@@ -11,9 +11,9 @@ use Rattle.model.specs.Calls.{table_states}
 use Rattle.judging.specs.Offsets.{next_at, offset_at}
 use Rattle.judging.proofs.OffsetLaws.{offset_suc}
 use Rattle.tables.specs.Accepting.{StateField}
-use Rattle.tables.proofs.TableLaws.{states-count, field_is, field-means}
+use Rattle.tables.proofs.TableLaws.{states-count, field_is, field_means}
 use Rattle.listings.specs.Texts.{names_at, state_at}
-use Rattle.writing.proofs.TextLaws.{Writing, begins, keeps-length, room, goes}
+use Rattle.writing.proofs.TextLaws.{Writing, begins, keeps_length, room, goes}
 use Rattle.listings.proofs.LineLaws.{StatesWriting, states-next, states-finish}
 use Rattle.listings.proofs.put_states.Statement.{statement}
 use Rattle.listings.proofs.put_states.Tie as tie
@@ -57,7 +57,7 @@ turn c =
     let below : loop.i < p.items = omega arith in
     let there-is : loop.i < length (table_states s) = omega (arith, states-count s p start.pre.0) in
     states-next (names start) (table_states s) loop.i (state_at s loop.from) there-is
-    (ap (state_at s) loop.invariant.1 ∙ field-means s p start.pre.0 loop.i below) loop.invariant.2
+    (ap (state_at s) loop.invariant.1 ∙ field_means s p start.pre.0 loop.i below) loop.invariant.2
 
 loop-holds : tie.Need-loop-init invariant-loop decreases-loop
 unfolding offset_at
@@ -112,7 +112,7 @@ loop-again c =
     )
 
 same_length : tie.Need-same-length invariant-loop decreases-loop
-same_length c = keeps-length c.before.loop.invariant.2
+same_length c = keeps_length c.before.loop.invariant.2
 
 returns : tie.Need-returns invariant-loop decreases-loop
 returns c =

@@ -6,7 +6,7 @@ use Prim.Native.Nat.{ℕ}
 use native.Mathlib.Omega.{arith}
 use Rattle.model.specs.Listing.{refusal_text, refused_word, decimal, newline}
 use Rattle.writing.specs.Writing.{Fits, Put}
-use Rattle.writing.proofs.TextLaws.{Writing, begins, room, room-left, goes, ends_with}
+use Rattle.writing.proofs.TextLaws.{Writing, begins, room, room_left, goes, ends_with}
 use Rattle.listings.proofs.refusal_text.Statement.{statement}
 use Rattle.listings.proofs.refusal_text.Tie as tie
 
@@ -62,7 +62,7 @@ put-decimal-requires c κs =
     )
 
 put-byte-requires : tie.Need-put-byte-requires
-put-byte-requires c κs = room-left (after-2 c.before.before.before)
+put-byte-requires c κs = room_left (after-2 c.before.before.before)
 
 same_length : tie.Need-same-length
 same_length c = search rules

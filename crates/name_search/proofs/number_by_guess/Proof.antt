@@ -8,7 +8,7 @@ use Rattle.base.specs.Limits.{name_limit}
 use Rattle.judging.specs.Offsets.{fields_at}
 use Rattle.judging.proofs.OffsetLaws.{length_fields}
 use Rattle.name_search.specs.declared.Order.TheVariants as order
-use Rattle.name_search.proofs.SearchLaws.{noted-within, noted-ordered, found_at}
+use Rattle.name_search.proofs.SearchLaws.{noted_within, noted_ordered, found_at}
 use Rattle.name_search.proofs.number_by_guess.Statement.{statement}
 use Rattle.name_search.proofs.number_by_guess.Tie as tie
 
@@ -46,7 +46,7 @@ element-copy-out-body c = search rules
 body-requires : tie.Need-body-requires
 body-requires c κs =
     let args = (entry c).args in
-    noted-within args.list.now args.index.now args.count (entry c).requires.0 (guess c) (guess c) refl (low c)
+    noted_within args.list.now args.index.now args.count (entry c).requires.0 (guess c) (guess c) refl (low c)
 
 compare-requires : tie.Need-compare-requires
 compare-requires c κs = search rules
@@ -70,7 +70,7 @@ returns c =
     let name = args.name.now in
     let inside : guess here < length names = omega (arith, low here, length_fields list 0 args.count) in
     let same =
-    noted-ordered list args.index.now args.count (entry here).requires.0 (guess here) (guess here) refl (low here) name
+    noted_ordered list args.index.now args.count (entry here).requires.0 (guess here) (guess here) refl (low here) name
     known.before.body.result.now known.compare.result order.Same known.before.body.ensures known.compare.ensures
     c.before.enum-told2.given.1 in
     c.narrow8.ensures ∙ sym (found_at names name (entry here).requires.1 (guess here) inside same)

@@ -11,7 +11,7 @@ use Rattle.judging.proofs.OffsetLaws.{length_fields}
 use Rattle.name_search.specs.Search.{Ordered}
 use Rattle.name_search.specs.declared.Order.{Order}
 use Rattle.name_search.specs.declared.Order.TheVariants as order
-use Rattle.name_search.proofs.SearchLaws.{noted-within, noted-ordered}
+use Rattle.name_search.proofs.SearchLaws.{noted_within, noted_ordered}
 use Rattle.name_search.proofs.SearchLaws.{PlacesLeft, all_left, none_left, lower-half, upper-half, found_at}
 use Rattle.name_search.proofs.number_of.Statement.{statement}
 use Rattle.name_search.proofs.number_of.Tie as tie
@@ -50,7 +50,7 @@ compared c r e =
     let here = turn c in
     let args = (entry here).args in
     let read = c.before.before.before.wide8 in
-    noted-ordered args.list.now args.index.now args.count (entry here).pre.0 read.result (middle here)
+    noted_ordered args.list.now args.index.now args.count (entry here).pre.0 read.result (middle here)
     read.ensures (halfway here).0 args.name.now c.before.body.result.now c.compare.result r c.before.body.ensures
     c.compare.ensures e
 
@@ -77,7 +77,7 @@ body-requires c κs =
     let here = c.before.before in
     let args = (entry here).args in
     let read = c.before.wide8 in
-    noted-within args.list.now args.index.now args.count (entry here).requires.0 read.result (middle here) read.ensures
+    noted_within args.list.now args.index.now args.count (entry here).requires.0 read.result (middle here) read.ensures
     (halfway here).0
 
 compare-requires : tie.Need-compare-requires invariant-loop decreases-loop

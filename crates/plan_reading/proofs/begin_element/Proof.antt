@@ -4,7 +4,7 @@ use borrow.Author.Rules.{rules}
 use Rattle.plan_reading.specs.Scanning.{part}
 use Rattle.plan_reading.specs.Pieces.{open_names, CloseFrom}
 use Rattle.plan_reading.specs.declared.pieces.Close.{Close}
-use Rattle.plan_reading.proofs.TurnLaws.{element-empty, element-opened}
+use Rattle.plan_reading.proofs.TurnLaws.{element_empty, element-opened}
 use Rattle.plan_reading.proofs.begin_element.Statement.{statement}
 use Rattle.plan_reading.proofs.begin_element.Tie as tie
 
@@ -95,7 +95,7 @@ returns-2 c =
     let empty = closed ended _ c.before.before.close2.given.1 in
     record {
       is = λ names stands is_number.
-          element-empty names s stack a.r a.from a.end _ begun.pre.0 begun.pre.1.0 stands empty.1 empty.2
+          element_empty names s stack a.r a.from a.end _ begun.pre.0 begun.pre.1.0 stands empty.1 empty.2
           (empty.0 (open_names s stack a.r.depth) (part s a.from a.end));
     }
 

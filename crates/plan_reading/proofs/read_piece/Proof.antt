@@ -12,7 +12,7 @@ use Rattle.plan_reading.specs.Pieces.{open_names, place_of, Met, PieceFrom, Afte
 use Rattle.plan_reading.specs.Turns.{sought_names, sought_name, judge_of}
 use Rattle.plan_reading.specs.declared.pieces.Piece.{Piece}
 use Rattle.plan_reading.proofs.StackLaws.{fine_shallow}
-use Rattle.plan_reading.proofs.TurnLaws.{turn_stops, turn-past, turn-fault, turn-element}
+use Rattle.plan_reading.proofs.TurnLaws.{turn_stops, turn_past, turn-fault, turn-element}
 use Rattle.plan_reading.proofs.read_piece.Statement.{statement}
 use Rattle.plan_reading.proofs.read_piece.Tie as tie
 
@@ -152,7 +152,7 @@ returns-2 c =
     let next = c.before.before.before in
     let begun = start next in
     let a = begun.args in
-    turn-past (names begun) (judge begun) a.plan.now a.stack.now a.log.now a.r begun.pre.1.1.1.0 _
+    turn_past (names begun) (judge begun) a.plan.now a.stack.now a.log.now a.r begun.pre.1.1.1.0 _
     (piece_is next _ c.before.piece.given.1).0
 
 returns-3 : tie.Need-returns-3

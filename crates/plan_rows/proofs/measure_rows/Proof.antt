@@ -9,7 +9,7 @@ use Rattle.written_plans.specs.Reading.{rows_in}
 use Rattle.plan_rows.specs.LoggedRows.{entries_from, row_at, log_rows}
 use Rattle.plan_rows.proofs.LogLaws.{entries_all, rows-chosen, rows_other, rows_end}
 use Rattle.plan_rows.proofs.Faults.{rows_too_many}
-use Rattle.plan_rows.proofs.Measuring.{MeasuredTo, passed_none, passed-more, passed-long, passed-all}
+use Rattle.plan_rows.proofs.Measuring.{MeasuredTo, passed_none, passed_more, passed_long, passed_all}
 use Rattle.plan_rows.proofs.measure_rows.Statement.{statement}
 use Rattle.plan_rows.proofs.measure_rows.Tie as tie
 
@@ -72,7 +72,7 @@ returns-2 c =
     let after = c.before in
     let before = counted after.before.before.before in
     let many = before.count-rows.ensures in
-    passed-long after.row_len.result after.row_len.ensures (omega arith) (turn after.before) (omega (arith, many))
+    passed_long after.row_len.result after.row_len.ensures (omega arith) (turn after.before) (omega (arith, many))
 
 add-bytes : tie.Need-overflow-add-bytes invariant-loop decreases-loop
 add-bytes c = omega arith
@@ -95,7 +95,7 @@ loop-again c =
     (λ w. (
       omega arith,
       omega (arith, w.2.left),
-      rw w.3 (passed-more w.1.result w.1.ensures (omega (arith, w.2.left)) (turn (record { before = c.before; if2 = w.0 }))),
+      rw w.3 (passed_more w.1.result w.1.ensures (omega (arith, w.2.left)) (turn (record { before = c.before; if2 = w.0 }))),
     ))
     (λ w. (
       omega arith,
@@ -111,7 +111,7 @@ returns-3 c =
     let loop = c.before.loop in
     let before = c.before.before.before in
     let args = (start before).args in
-    passed-all before.count-rows.result before.count-rows.ensures (omega arith)
+    passed_all before.count-rows.result before.count-rows.ensures (omega arith)
     (subst (λ (l : List (List ℕ)). MeasuredTo (all (start before)) l loop.bytes)
     (rows_end args.log.now args.count loop.i args.chosen (omega arith)) loop.invariant.2)
 

@@ -5,10 +5,10 @@ use mathlib.Core.List.{List, [], ◌∷◌}
 use Prim.Native.Nat.{ℕ, ◌+◌, ◌-◌, ◌*◌, ◌≤◌}
 use native.Mathlib.Omega.{arith}
 use Rattle.written_plans.specs.Reading.{row_after}
-use Rattle.writing.proofs.TextLaws.{Writing, begins, keeps-length, room, goes, finishes}
+use Rattle.writing.proofs.TextLaws.{Writing, begins, keeps_length, room, goes, finishes}
 use Rattle.written_plans.specs.Logs.{entry_at}
 use Rattle.plan_rows.specs.LoggedRows.{entries_from, row_at}
-use Rattle.plan_rows.proofs.LogLaws.{row-stops, row_takes, row_passes, row_ends}
+use Rattle.plan_rows.proofs.LogLaws.{row_stops, row_takes, row_passes, row_ends}
 use Rattle.plan_rows.proofs.put_entries.Statement.{statement}
 use Rattle.plan_rows.proofs.put_entries.Tie as tie
 
@@ -77,7 +77,7 @@ shared-slice-read-around : tie.Need-shared-slice-read-around invariant-loop decr
 shared-slice-read-around c = omega (arith, c.before.before.before.before.before.before.requires.0.within)
 
 same_length : tie.Need-same-length invariant-loop decreases-loop
-same_length c = keeps-length c.before.before.before.loop.invariant.1
+same_length c = keeps_length c.before.before.before.loop.invariant.1
 
 returns : tie.Need-returns invariant-loop decreases-loop
 returns c =
@@ -87,7 +87,7 @@ returns c =
     let depth = (entry_at args.log.now args.i).depth in
     finishes
     (subst (Left start loop.out loop.next)
-    (row-stops args.log.now args.count loop.j depth (omega arith) (omega arith)) loop.invariant.1)
+    (row_stops args.log.now args.count loop.j depth (omega arith) (omega arith)) loop.invariant.1)
 
 add-if2 : tie.Need-overflow-add-if2 invariant-loop decreases-loop
 add-if2 c = omega (arith, c.before.shared-slice-known3.given (2 * c.before.before.before.loop.j + 1))
@@ -134,7 +134,7 @@ loop-again c =
     c.if2.branch
 
 same-length-2 : tie.Need-same-length-2 invariant-loop decreases-loop
-same-length-2 c = keeps-length c.before.loop.invariant.1
+same-length-2 c = keeps_length c.before.loop.invariant.1
 
 returns-2 : tie.Need-returns-2 invariant-loop decreases-loop
 returns-2 c =

@@ -10,7 +10,7 @@ use lib.ListN.{length}
 use Rattle.base.specs.Limits.{row_limit, row_mark}
 use Rattle.model.specs.Tables.{field_bytes, row_fields}
 use Rattle.written_plans.specs.Reading.{rows_in, rows_short}
-use Rattle.writing.proofs.TextLaws.{Writing, begins, keeps-length, room, goes, finishes}
+use Rattle.writing.proofs.TextLaws.{Writing, begins, keeps_length, room, goes, finishes}
 use Rattle.plan_rows.specs.LoggedRows.{entries_from, row_at, log_rows}
 use Rattle.plan_rows.proofs.LogLaws.{entries_all, rows-chosen, rows_other, rows_end}
 use Rattle.plan_rows.proofs.Faults.{short_first, short_next, rows_passed}
@@ -123,7 +123,7 @@ loop-again c =
     c.if1.branch
 
 same_length : tie.Need-same-length invariant-loop decreases-loop
-same_length c = keeps-length c.before.loop.invariant.2
+same_length c = keeps_length c.before.loop.invariant.2
 
 returns : tie.Need-returns invariant-loop decreases-loop
 returns c =

@@ -8,7 +8,7 @@ use lib.ListN.{length}
 use Rattle.written_plans.specs.Reading.{row_after}
 use Rattle.written_plans.specs.Logs.{entry_at}
 use Rattle.plan_rows.specs.LoggedRows.{entries_from, row_at}
-use Rattle.plan_rows.proofs.LogLaws.{row-stops, row_takes, row_passes, row_ends}
+use Rattle.plan_rows.proofs.LogLaws.{row_stops, row_takes, row_passes, row_ends}
 use Rattle.plan_rows.proofs.row_len.Statement.{statement}
 use Rattle.plan_rows.proofs.row_len.Tie as tie
 
@@ -49,7 +49,7 @@ returns c =
     let at = c.before.before.before.before.before.args in
     let j = c.before.before.before.loop.j in
     let depth = (entry_at at.log.now at.i).depth in
-    omega (arith, ap length (row-stops at.log.now at.count j depth (omega arith) (omega arith)))
+    omega (arith, ap length (row_stops at.log.now at.count j depth (omega arith) (omega arith)))
 
 add-if2 : tie.Need-overflow-add-if2 invariant-loop decreases-loop
 add-if2 c = omega (arith, c.before.shared-slice-known2.given (2 * c.before.before.before.loop.j + 1))

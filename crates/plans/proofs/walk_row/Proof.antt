@@ -4,7 +4,7 @@ use Prim.Native.Nat.{ℕ}
 use lib.ListN.{length, take}
 use lib.Seq.{length-take-le}
 use Rattle.results.specs.Says.{walked_as, WalkedSays}
-use Rattle.table_calls.proofs.CallLaws.{walked-within, beginning-told}
+use Rattle.table_calls.proofs.CallLaws.{walked-within, beginning_told}
 use borrow.Author.Rules.{rules}
 use Rattle.plans.proofs.walk_row.Statement.{statement}
 use Rattle.plans.proofs.walk_row.Tie as tie
@@ -47,7 +47,7 @@ returns c =
           WalkedSays at.table.now at.row.now at.work.now told.last.1.1.0
           (walked_as r.refusal r.outcome n r.next_names r.next_count))
           (sym (counted (walked c))) told.ensures;
-      beginning_is = beginning-told at.table.now at.row.now at.work.now r told.ensures.gives;
+      beginning_is = beginning_told at.table.now at.row.now at.work.now r told.ensures.gives;
     }
 
 pub walk-row-spec : {M : Type 1} → statement M

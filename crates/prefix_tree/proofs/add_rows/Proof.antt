@@ -10,8 +10,8 @@ use lib.ListN.{length}
 use Rattle.judging.specs.Offsets.{body_at, next_at, fields_at}
 use Rattle.prefix_tree.specs.Growth.{Store, store, Sized, RowBelow, RowOf}
 use Rattle.prefix_tree.specs.declared.Added.{Added}
-use Rattle.prefix_tree.proofs.StepLaws.{Adding, sized_kept, adding_begins, adding-fits, adding-below, adding_few, adding-few-rows}
-use Rattle.prefix_tree.proofs.StepLaws.{adding-new, adding-again, adding-full, adding_ends, built-number, tree_answer}
+use Rattle.prefix_tree.proofs.StepLaws.{Adding, sized_kept, adding_begins, adding-fits, adding_below, adding_few, adding_few_rows}
+use Rattle.prefix_tree.proofs.StepLaws.{adding_new, adding_again, adding_full, adding_ends, built-number, tree_answer}
 use Rattle.prefix_tree.proofs.add_rows.Statement.{statement}
 use Rattle.prefix_tree.proofs.add_rows.Tie as tie
 
@@ -109,13 +109,13 @@ body-requires c κs = fits c.before (omega arith)
 add-row-requires : tie.Need-add-row-requires invariant-loop decreases-loop
 add-row-requires c κs =
     let at = c.before.before.before.before.before.before in
-    let below : RowBelow (row at) = adding-below at.loop.invariant (omega arith) (start at).requires.1.0 in (
+    let below : RowBelow (row at) = adding_below at.loop.invariant (omega arith) (start at).requires.1.0 in (
       (
         at.loop.invariant.some,
         at.loop.invariant.few,
         subst (λ (w : List ℕ). RowBelow w) (sym c.before.before.before.before.body.ensures) below,
       ),
-      (at.loop.invariant.sizes, adding-few-rows at.loop.invariant (omega arith) (start at).requires.1.1.1),
+      (at.loop.invariant.sizes, adding_few_rows at.loop.invariant (omega arith) (start at).requires.1.1.1),
     )
 
 enum-known-added : tie.Need-enum-known-added invariant-loop decreases-loop
@@ -149,7 +149,7 @@ returns c =
     let after = stopped c in
     let at = turn after in
     tree_answer (rows at) (lent at) (left after) _
-    (adding-full at.loop.inv (omega arith) (rowed after _ c.enum-told2.given.1).tree)
+    (adding_full at.loop.inv (omega arith) (rowed after _ c.enum-told2.given.1).tree)
     (λ none. absurd (omega (arith, none)))
     (start at).pre.1.1.0
     (left-sized after)
@@ -171,9 +171,9 @@ loop-again c =
     let kept = after.add_row.kept.1.1.1.1.0 in
     ⊎_elim
     (λ new.
-    adding-new inv (omega arith) (rowed after _ new.1.given.1) new.3 new.4 (left-sized after) kept c.next_field.ensures)
+    adding_new inv (omega arith) (rowed after _ new.1.given.1) new.3 new.4 (left-sized after) kept c.next_field.ensures)
     (λ again.
-    adding-again inv (omega arith) (rowed after _ again.1.given.1) again.2 again.3 (left-sized after) kept
+    adding_again inv (omega arith) (rowed after _ again.1.given.1) again.2 again.3 (left-sized after) kept
     c.next_field.ensures)
     c.before.match.branch
 

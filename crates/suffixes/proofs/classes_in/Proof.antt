@@ -5,7 +5,7 @@ use lib.ListN.{length}
 use Rattle.indexed.specs.Trees.{Arrays}
 use Rattle.suffixes.specs.Codes.{Coded}
 use Rattle.suffixes.specs.Classes.{Dropped}
-use Rattle.suffixes.proofs.ClassLaws.{dropped-classes}
+use Rattle.suffixes.proofs.ClassLaws.{dropped_classes}
 use borrow.Author.Rules.{rules}
 use Rattle.suffixes.proofs.classes_in.Statement.{statement}
 use Rattle.suffixes.proofs.classes_in.Tie as tie
@@ -46,7 +46,7 @@ returns c =
     let values = coded.codes.new.1.1.1.0 in
     let classes = classed.classes-of.new.1.0 in
     let classes' = dropped.drop-short.new.1.1.0 in
-    dropped-classes n i parents names values classes classes' start.requires.0
+    dropped_classes n i parents names values classes classes' start.requires.0
     (subst (λ (m : ℕ). Coded m i parents names values) start.requires.1.1 coded.codes.ensures) classed.classes-of.ensures.0
     (subst₂ (λ (m bound : ℕ). Dropped m bound values classes classes') classed.classes-of.ensures.0.labelled.size
     least-is.least-code.ensures dropped.drop-short.ensures)

@@ -10,8 +10,8 @@ use Rattle.model.specs.Calls.{table_states}
 use Rattle.judging.specs.Offsets.{body_at}
 use Rattle.tables.specs.Arcs.{StateOk, TargetsBelow, marked_arcs}
 use Rattle.tables.specs.Accepting.{StateField}
-use Rattle.tables.proofs.ReadyLaws.{targets-inside}
-use Rattle.tables.proofs.Marks.{targets_more, marked-trimmed}
+use Rattle.tables.proofs.ReadyLaws.{targets_inside}
+use Rattle.tables.proofs.Marks.{targets_more, marked_trimmed}
 use Rattle.tables.proofs.next_names.Statement.{statement}
 use Rattle.tables.proofs.next_names.Tie as tie
 
@@ -43,7 +43,7 @@ inside : (c : tie.After-body)
     (get_or (table_states c.before.before.before.before.args.s.now) c.before.before.before.before.args.q empty_state).arcs
 inside c =
     let start = c.before.before.before.before in
-    targets-inside start.args.s.now start.args.work.now start.requires.0 start.args.q start.requires.1.1
+    targets_inside start.args.s.now start.args.work.now start.requires.0 start.args.q start.requires.1.1
 
 name-set-requires : tie.Need-name-set-requires
 name-set-requires c κs =
@@ -58,7 +58,7 @@ returns c =
     let marks = start.args.marks.now in
     c.name_set.ensures
     ∙ ap (λ (st : State). name_set (marked_arcs marks st.arcs)) (means c.before)
-    ∙ ap name_set (marked-trimmed (table_states start.args.s.now) marks start.requires.1.0 start.args.q (inside c.before))
+    ∙ ap name_set (marked_trimmed (table_states start.args.s.now) marks start.requires.1.0 start.args.q (inside c.before))
 
 pub next-names-spec : {M : Type 1} → statement M
 next-names-spec = tie.close (tie.spec field-at-requires body-requires name-set-requires returns)

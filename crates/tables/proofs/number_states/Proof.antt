@@ -5,11 +5,11 @@ use mathlib.Core.List.{List}
 use Prim.Native.Nat.{ℕ, ◌+◌, ◌-◌}
 use native.Mathlib.Omega.{arith}
 use Rattle.model.specs.Tables.{state_in, met_by_arcs}
-use Rattle.model.proofs.CallLaws.{sizes-fit}
+use Rattle.model.proofs.CallLaws.{sizes_fit}
 use Rattle.tables.specs.Arcs.{StateOk}
 use Rattle.tables.specs.KeptFields.{with_field}
 use Rattle.tables.specs.Accepting.{StateField}
-use Rattle.tables.proofs.TableLaws.{Passing, passing_begins, field-here, passing-goes, passing-stops, passing-refused}
+use Rattle.tables.proofs.TableLaws.{Passing, passing_begins, field_here, passing-goes, passing-stops, passing-refused}
 use Rattle.tables.proofs.TableLaws.{passing-accepted}
 use Rattle.tables.proofs.number_states.Statement.{statement}
 use Rattle.tables.proofs.number_states.Tie as tie
@@ -26,7 +26,7 @@ here c =
     let loop = c.before.loop in
     let start = c.before.before.before.before in
     let args = start.args in
-    field-here args.s.now args.p start.requires.0 args.work.now loop.work loop.at loop.met loop.i
+    field_here args.s.now args.p start.requires.0 args.work.now loop.work loop.at loop.met loop.i
     loop.invariant (omega arith)
 
 loop-holds : tie.Need-loop-init invariant-loop decreases-loop
@@ -50,7 +50,7 @@ keep-field-requires c κs =
     let fits = (here c.before.before).fits in
     let start = c.before.before.before.before.before.before in
     let few = start.requires.0.sound.few_items in
-    let sizes = sizes-fit start.args.s.now start.args.work.now start.requires.1 in
+    let sizes = sizes_fit start.args.s.now start.args.work.now start.requires.1 in
     let short = sizes.input_fits in
     let room = sizes.work_fits in
     let length-is = c.before.before.before.loop.invariant.same_length in

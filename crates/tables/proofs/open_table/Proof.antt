@@ -1,7 +1,7 @@
 -- `open_table` meets its contract: refused for its sizes, or judged as `accept_table` says. Assumes nothing.
 use mathlib.Core.Path.{sym, ◌∙◌}
 use borrow.Author.Rules.{rules}
-use Rattle.model.proofs.CallLaws.{sizes-pass}
+use Rattle.model.proofs.CallLaws.{sizes_pass}
 use Rattle.tables.proofs.TableLaws.{opened_bad}
 use Rattle.tables.proofs.open_table.Statement.{statement}
 use Rattle.tables.proofs.open_table.Tie as tie
@@ -17,7 +17,7 @@ returns c =
 accept-table-requires : tie.Need-accept-table-requires
 accept-table-requires c κs =
     let at = c.before.before.before.before.before.args in
-    sizes-pass at.s.now at.work.now (sym c.before.before.sizes-bad.ensures ∙ c.before.if1.false)
+    sizes_pass at.s.now at.work.now (sym c.before.before.sizes-bad.ensures ∙ c.before.if1.false)
 
 same_length : tie.Need-same-length
 same_length c = search rules

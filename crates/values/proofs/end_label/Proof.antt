@@ -3,7 +3,7 @@ use Prim.Native.Nat.{◌<◌}
 use native.Mathlib.Omega.{arith}
 use lib.ListN.{get_or}
 use Rattle.values.specs.Buckets.{FirstEnd}
-use Rattle.values.proofs.BucketLaws.{buckets-other, buckets-more}
+use Rattle.values.proofs.BucketLaws.{buckets_other, buckets_more}
 use Rattle.values.proofs.EndLaws.{label_end, label_other}
 use borrow.Author.Rules.{rules}
 use Rattle.values.proofs.end_label.Statement.{statement}
@@ -22,7 +22,7 @@ returns : tie.Need-returns
 returns c =
     let at = c.before.before.before.before in (
       label_other at.args.ends.now at.args.values.now at.args.v c.if1.true,
-      buckets-other at.args.ends.now at.args.values.now at.args.v at.args.links.now at.args.heads.now
+      buckets_other at.args.ends.now at.args.values.now at.args.v at.args.links.now at.args.heads.now
           at.requires.1.1.1 c.if1.true,
     )
 
@@ -64,7 +64,7 @@ returns-2 c =
     let first : FirstEnd ends values at.args.v found.first_alike.result =
     found.first_alike.ensures.first ends accepting at.pre.1.1.1 in (
       label_end ends values at.args.v found.first_alike.result accepting first,
-      buckets-more ends values at.args.v at.args.links.now at.args.heads.now at.pre.1.1.1
+      buckets_more ends values at.args.v at.args.links.now at.args.heads.now at.pre.1.1.1
           placed.bucket.result found.first_alike.result c.link.new.0 c.link.new.1.0
           (omega (arith, at.pre.0, at.pre.1.1.0)) placed.bucket.ensures.1 placed.bucket.ensures.0 first
           c.link.ensures,

@@ -4,7 +4,7 @@ use native.Mathlib.Omega.{arith}
 use lib.ListN.{length}
 use Rattle.partition.proofs.ForestLaws.{forest_again}
 use Rattle.worklist.proofs.SizeLaws.{flat_by_states}
-use Rattle.worklist.proofs.SettleLaws.{settling-filled, settling-opened, settling-done, settled-flat}
+use Rattle.worklist.proofs.SettleLaws.{settling_filled, settling_opened, settling-done, settled_flat}
 use borrow.Author.Rules.{rules}
 use Rattle.worklist.proofs.close_in.Statement.{statement}
 use Rattle.worklist.proofs.close_in.Tie as tie
@@ -28,7 +28,7 @@ same_length c = search rules
 returns : tie.Need-returns
 returns c =
     let at = entry c.before.before in
-    settling-done (settling-filled at.pre.0 at.pre.1.1.1.1.0 c.before.fill-all.ensures)
+    settling-done (settling_filled at.pre.0 at.pre.1.1.1.1.0 c.before.fill-all.ensures)
     (omega (arith, c.if1.true))
 
 settle-requires : tie.Need-settle-requires
@@ -37,7 +37,7 @@ settle-requires c κs =
     let at = entry fills.before in
     let ready = at.pre.0 in (
       flat_by_states ready.parents_size ready.labelled,
-      settling-opened (settling-filled ready at.pre.1.1.1.1.0 fills.fill-all.ensures),
+      settling_opened (settling_filled ready at.pre.1.1.1.1.0 fills.fill-all.ensures),
     )
 
 flatten-requires : tie.Need-flatten-requires
@@ -54,7 +54,7 @@ returns-2 c =
     let flat = c.before.before in
     let settles = settles-of flat.before in
     let at = entry (fills_of settles.before).before in
-    settled-flat at.pre.0 flat.flatten.ensures settles.settle.ensures.until
+    settled_flat at.pre.0 flat.flatten.ensures settles.settle.ensures.until
 
 pub close-in-spec : {M : Type 1} → statement M
 close-in-spec =

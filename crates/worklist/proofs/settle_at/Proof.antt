@@ -7,7 +7,7 @@ use borrow.Author.Rules.{rules}
 use Rattle.partition.specs.Forests.{JoinedRoots}
 use Rattle.partition.proofs.ForestLaws.{forest_again}
 use Rattle.worklist.proofs.SizeLaws.{own-size, roots_by_states}
-use Rattle.worklist.proofs.SettleLaws.{listed-all, settled-skipped, settled-joined}
+use Rattle.worklist.proofs.SettleLaws.{listed-all, settled-skipped, settled_joined}
 use Rattle.worklist.proofs.settle_at.Statement.{statement}
 use Rattle.worklist.proofs.settle_at.Tie as tie
 
@@ -100,7 +100,7 @@ returns-2 c =
     let two = two-of c.before in
     let joins = joins_of two.before in
     let at = entry joins.before in
-    settled-joined at.pre.0 at.pre.1.1 joins.before.before.before.wide16.ensures
+    settled_joined at.pre.0 at.pre.1.1 joins.before.before.before.wide16.ensures
     joins.before.wide162.ensures (roots-of joins) (lower_of two) c.merge-all.ensures
 
 pub settle-at-spec : {M : Type 1} → statement M

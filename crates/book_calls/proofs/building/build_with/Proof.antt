@@ -7,14 +7,14 @@ use native.Mathlib.Omega.{arith}
 use Rattle.model.specs.Fields.{Settings, File}
 use Rattle.model.specs.Fields as model
 use Rattle.model.specs.Calls.{book_of}
-use Rattle.model.proofs.CallLaws.{gives_as, sizes_bad, SizesFit, sizes-pass, sizes-fit}
+use Rattle.model.proofs.CallLaws.{gives_as, sizes_bad, SizesFit, sizes_pass, sizes_fit}
 use Rattle.fields.specs.Places.{settings_of, ReadAs}
 use Rattle.fields.specs.declared.Fields.{Fields}
 use Rattle.fields.specs.declared.Fields.TheVariants as answer
 use Rattle.fields.proofs.Parts.{refused-number}
 use Rattle.inference.specs.Results.{Infers}
-use Rattle.book_calls.proofs.BuildLaws.{BookRead, book_read_as, Small, inferred-small}
-use Rattle.book_calls.proofs.BuildLaws.{build-sizes-refused, build-fields-refused, build-inferred}
+use Rattle.book_calls.proofs.BuildLaws.{BookRead, book_read_as, Small, inferred_small}
+use Rattle.book_calls.proofs.BuildLaws.{build_sizes_refused, build_fields_refused, build_inferred}
 use borrow.Author.Rules.{rules}
 use Rattle.book_calls.proofs.building.build_with.Statement.{statement}
 use Rattle.book_calls.proofs.building.build_with.Tie as tie
@@ -48,7 +48,7 @@ fit : (c : tie.Else1) → sizes_bad (book c) (work c) ≡ false
 fit c = sym c.before.sizes-bad.ensures ∙ c.if1.false
 
 sizes : (c : tie.Else1) → SizesFit (book c) (work c)
-sizes c = sizes-fit (book c) (work c) (sizes-pass (book c) (work c) (fit c))
+sizes c = sizes_fit (book c) (work c) (sizes_pass (book c) (work c) (fit c))
 
 -- the book as read, and what inference gives for it
 read_as : (c : tie.After-read)
@@ -78,7 +78,7 @@ inferred c =
 
 small : (c : tie.After-infer) → Small c.infer.result
 small c =
-    inferred-small (settings (at c)) (wanted (at c)) (book (at c)) (work (at c)) (outs (at c)) (outs' c) c.infer.result
+    inferred_small (settings (at c)) (wanted (at c)) (book (at c)) (work (at c)) (outs (at c)) (outs' c) c.infer.result
     (start (at c)).requires (read (answered c)).no_refusal (inferred c)
 
 -- its numbers fit where they are narrowed
@@ -104,7 +104,7 @@ returns : tie.Need-returns
 returns c =
     let args = c.before.before.before.before.before.before.before.args in
     gives_as _ _ c.not_counted.ensures
-    (build-sizes-refused (settings_of args.settings) args.wanted args.book.now args.work.now _
+    (build_sizes_refused (settings_of args.settings) args.wanted args.book.now args.work.now _
     (sym c.before.before.sizes-bad.ensures ∙ c.before.if1.true))
 
 read-with-requires : tie.Need-read-with-requires
@@ -154,7 +154,7 @@ same-length-3 c = search rules
 returns-2 : tie.Need-returns-2
 returns-2 c =
     let inferring = c.before.before.before.before.before.before.before.before.before.before.before in
-    build-inferred (settings (at inferring)) (wanted (at inferring)) (book (at inferring)) (work (at inferring)) (outs (at inferring))
+    build_inferred (settings (at inferring)) (wanted (at inferring)) (book (at inferring)) (work (at inferring)) (outs (at inferring))
     (outs' inferring) inferring.infer.result (fit (at inferring)) (read (answered inferring)).no_refusal (inferred inferring)
 
 returns-3 : tie.Need-returns-3
@@ -166,7 +166,7 @@ returns-3 c =
     subst (λ (r : Fields). ReadAs (settings before) model.book (book before) r) refusing.read2.given.1
     refusing.before.before.read-with.ensures in
     gives_as _ _ c.not-counted2.ensures
-    (build-fields-refused (settings before) (wanted before) (book before) (work before) (outs before) k (fit before)
+    (build_fields_refused (settings before) (wanted before) (book before) (work before) (outs before) k (fit before)
     (refused-number (settings before) model.book (book before) k refused) refused.kept)
 
 pub build-with-spec : {M : Type 1} → statement M

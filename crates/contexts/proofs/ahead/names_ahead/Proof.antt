@@ -2,7 +2,7 @@
 use mathlib.Core.Path.{refl}
 use native.Mathlib.Omega.{arith}
 use lib.ListN.{length}
-use Rattle.contexts.proofs.AheadLaws.{ones_tell, two-names-tell}
+use Rattle.contexts.proofs.AheadLaws.{ones_tell, two_names_tell}
 use Rattle.contexts.proofs.ahead.names_ahead.Statement.{statement}
 use Rattle.contexts.proofs.ahead.names_ahead.Tie as tie
 
@@ -22,7 +22,7 @@ returns-2 : tie.Need-returns-2
 returns-2 c =
     let some = c.before.before.before in
     let start = some.before.before.before.before in
-    λ linked. two-names-tell c.two-names.new.1.1.1.1.0 start.requires.0 linked c.two-names.ensures
+    λ linked. two_names_tell c.two-names.new.1.1.1.1.0 start.requires.0 linked c.two-names.ensures
     start.args.j (omega (arith, some.if1.false))
 
 pub names-ahead-spec : {M : Type 1} → statement M

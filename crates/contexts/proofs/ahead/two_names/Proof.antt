@@ -8,7 +8,7 @@ use lib.ListN.{length, get_or, length-set}
 use borrow.Author.Rules.{rules}
 use Rattle.indexed.proofs.Suffixes.{parent_below}
 use Rattle.contexts.specs.Ahead.{low_of, LeadOnBelow}
-use Rattle.contexts.proofs.AheadLaws.{lead-more}
+use Rattle.contexts.proofs.AheadLaws.{lead_more}
 use Rattle.contexts.proofs.ahead.two_names.Statement.{statement}
 use Rattle.contexts.proofs.ahead.two_names.Tie as tie
 
@@ -130,7 +130,7 @@ loop-again c =
       omega (arith, here.loop-test.taken),
       simp length-set loop.inv.2,
       rw add-one
-          (lead-more loop.v start.args.parents.now start.args.names.now start.args.old.now
+          (lead_more loop.v start.args.parents.now start.args.names.now start.args.old.now
           start.args.next.now loop.ahead from.result groups.wide16.result c.before.before.low_names.result
           from.ensures groups.wide16.ensures c.before.before.low_names.ensures (omega (arith, from_low groups))
           loop.inv.3),

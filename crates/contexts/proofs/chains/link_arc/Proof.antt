@@ -9,7 +9,7 @@ use Rattle.base.specs.Limits.{name_limit}
 use Rattle.base.specs.Bits.{bit}
 use Rattle.indexed.proofs.Suffixes.{parent_below}
 use Rattle.contexts.specs.Sweeps.{Linked}
-use Rattle.contexts.proofs.LinkLaws.{name_known, name_new, first_arc, linked-more}
+use Rattle.contexts.proofs.LinkLaws.{name_known, name_new, first_arc, linked_more}
 use Rattle.contexts.proofs.NearLaws.{arcs-known, arcs-placed}
 use Rattle.contexts.proofs.chains.link_arc.Statement.{statement}
 use Rattle.contexts.proofs.chains.link_arc.Tie as tie
@@ -34,11 +34,11 @@ name_low : (start : tie.Start) → get_or start.args.names.now start.args.v 0 < 
 name_low start = start.requires.0.name_below start.args.v start.requires.1.1.0 start.requires.1.1.1.0
 
 -- no arc of this name leaves the group yet
-new-name :
+new_name :
     (c : tie.Else1) → let start = entry c.before.before.before.before in
     bit (get_or start.args.names.now start.args.v 0)
     (get_or start.args.next.now (get_or start.args.old.now (get_or start.args.parents.now start.args.v 0) 0) 0) ≡ 1 → ⊥
-new-name c known =
+new_name c known =
     let above = c.before.before.before.before in
     let start = entry above in
     let next = start.args.next.now in
@@ -101,9 +101,9 @@ linked-here c =
     let next = start.args.next.now in
     let name = get_or start.args.names.now start.args.v 0 in
     let from = above.class-above.result in
-    linked-more start.pre.1.1.0 start.pre.1.1.1.1.1.linked from name above.class-above.ensures refl
+    linked_more start.pre.1.1.0 start.pre.1.1.1.1.1.linked from name above.class-above.ensures refl
     (omega (arith, from_low above, start.pre.0.few_states, start.pre.1.1.1.1.0.next_size))
-    (ap (set next from) c.before.with_name.ensures) (new-name c)
+    (ap (set next from) c.before.with_name.ensures) (new_name c)
 
 place-arc-requires : tie.Need-place-arc-requires
 place-arc-requires c κs =
@@ -131,7 +131,7 @@ returns-2 c =
     let sizes = start.pre.1.1.1.1.0 in
     let so_far = start.pre.1.1.1.1.1 in
     arcs-placed so_far (linked-here new) (omega (arith, start.pre.1.1.1.0, start.pre.0.few_states)) sizes.links_size
-    sizes.heads_size start.pre.1.1.0 (first_arc so_far.linked (new-name new)) placed.place-arc.ensures
+    sizes.heads_size start.pre.1.1.0 (first_arc so_far.linked (new_name new)) placed.place-arc.ensures
 
 pub link-arc-spec : {M : Type 1} → statement M
 link-arc-spec =

@@ -4,7 +4,7 @@ use Prim.Native.Nat.{suc, ◌-◌, ◌≤◌}
 use native.Mathlib.Omega.{arith}
 use lib.ListN.{length}
 use Rattle.contexts.specs.Distances.{SpreadFrom, Lowered}
-use Rattle.contexts.proofs.DistanceLaws.{lowering_fallen, lowered_none, lowered-more, lowered_cast}
+use Rattle.contexts.proofs.DistanceLaws.{lowering_fallen, lowered_none, lowered_more, lowered_cast}
 use Rattle.contexts.proofs.distances.lower.Statement.{statement}
 use Rattle.contexts.proofs.distances.lower.Tie as tie
 
@@ -45,7 +45,7 @@ loop-again c =
     let groups = start.args.groups.now in
     let next : suc (loop.v - 1) ≡ loop.v = omega (arith, turn.loop-test.true) in (
       omega (arith, loop.invariant.0),
-      lowered-more (length groups) start.args.j start.args.parents.now groups start.args.dist.now loop.dist
+      lowered_more (length groups) start.args.j start.args.parents.now groups start.args.dist.now loop.dist
           c.lower-at.new.1.1.1.0 loop.v (loop.v - 1) next loop.lowered c.lower-at.result loop.invariant.1
           c.lower-at.ensures,
     )

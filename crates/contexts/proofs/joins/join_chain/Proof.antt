@@ -8,7 +8,7 @@ use Rattle.indexed.specs.Partitions.{Refines}
 use Rattle.indexed.proofs.Suffixes.{parent_below}
 use Rattle.partition.specs.Forests.{roots_of}
 use Rattle.contexts.specs.Joins.{Live, Comparing, PairJoined}
-use Rattle.contexts.proofs.JoinLaws.{Chaining, chaining-none, come-to, chaining-more, chaining-done}
+use Rattle.contexts.proofs.JoinLaws.{Chaining, chaining_none, come-to, chaining-more, chaining_done}
 use Rattle.contexts.proofs.joins.join_chain.Statement.{statement}
 use Rattle.contexts.proofs.joins.join_chain.Tie as tie
 
@@ -74,7 +74,7 @@ wide16-requires c κs = tt
 loop-holds : tie.Need-loop-init invariant-loop decreases-loop
 loop-holds c =
     let start = c.before.before.before.before.before.before.before.before.before in
-    (refl, start.requires.1.1.0, chaining-none c.wide16.ensures start.requires.1.1.0.kept.labelled)
+    (refl, start.requires.1.1.0, chaining_none c.wide16.ensures start.requires.1.1.0.kept.labelled)
 
 sub-w : tie.Need-overflow-sub-w invariant-loop decreases-loop
 sub-w c = omega arith
@@ -140,7 +140,7 @@ same_length : tie.Need-same-length invariant-loop decreases-loop
 same_length c = c.before.loop.invariant.0
 
 returns : tie.Need-returns invariant-loop decreases-loop
-returns c = (chaining-done (omega (arith, c.loop-test.false)) c.before.loop.invariant.2, c.before.loop.invariant.1)
+returns c = (chaining_done (omega (arith, c.loop-test.false)) c.before.loop.invariant.2, c.before.loop.invariant.1)
 
 pub join-chain-spec : {M : Type 1} → statement M
 join-chain-spec =

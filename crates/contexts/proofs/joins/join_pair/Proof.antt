@@ -16,7 +16,7 @@ use Rattle.worklist.specs.Forks.{Nothing, ForksReady, ForkLists}
 use Rattle.worklist.proofs.SearchLaws.{share_groups}
 use Rattle.contexts.proofs.AheadLaws.{next_common}
 use Rattle.contexts.proofs.ForkLaws.{forks-ready}
-use Rattle.contexts.proofs.JoinLaws.{share_refines, pair_left, pair-joined}
+use Rattle.contexts.proofs.JoinLaws.{share_refines, pair_left, pair_joined}
 use Rattle.contexts.proofs.joins.join_pair.Statement.{statement}
 use Rattle.contexts.proofs.joins.join_pair.Tie as tie
 
@@ -258,7 +258,7 @@ returns-4 c =
     let both = sources (arcs search-done) in
     let at = entry (compared both) in
     let two = joins.join-two.ensures at.args.parents.now (ready-here at) at.pre.1.0.kept in (
-      pair-joined both.before.before.before.before.root.result both.root2.result at.pre.0.arrays at.pre.0.own
+      pair_joined both.before.before.before.before.root.result both.root2.result at.pre.0.arrays at.pre.0.own
           (labels at) at.pre.1.1.1.0 at.pre.1.1.1.1 (x_is both) (y_is both)
           search-done.before.before.before.before.before.before.before.before.if2.false
           (found search-done (not-false search-done.lead-on.result apart-still.if3.false)) two.until,

@@ -17,8 +17,8 @@ use Rattle.contexts.specs.Ahead.{Telling}
 use Rattle.contexts.specs.Joins.{Comparing, PairsJoined}
 use Rattle.contexts.proofs.AheadLaws.{all_ones}
 use Rattle.contexts.proofs.ForkLaws.{kept-forks}
-use Rattle.contexts.proofs.NearLaws.{distances_none, arcs-none, arcs-ready}
-use Rattle.contexts.proofs.ReadyLaws.{arcs-fall}
+use Rattle.contexts.proofs.NearLaws.{distances_none, arcs_none, arcs_ready}
+use Rattle.contexts.proofs.ReadyLaws.{arcs_fall}
 use Rattle.contexts.proofs.SweepLaws.{pairs-sweep}
 use Rattle.contexts.proofs.joins.sweep.Statement.{statement}
 use Rattle.contexts.proofs.joins.sweep.Tie as tie
@@ -111,7 +111,7 @@ link-arcs-requires c κs =
             links_size = refl;
             heads_size = refl;
           },
-          arcs-none (heads_none 512) (heads_none 512) (heads_none 512),
+          arcs_none (heads_none 512) (heads_none 512) (heads_none 512),
         ),
       ),
     )
@@ -157,7 +157,7 @@ ready-here :
     start.args.classes.now groups dist made.0 c.link-far.new.1.1.0 made.1.1.0
 ready-here c =
     let start = entry (copied (linked c)) in
-    arcs-ready (arcs-here (linked c)) (λ v low. c.link-far.ensures v (omega (arith, start.pre.1.1.0)))
+    arcs_ready (arcs-here (linked c)) (λ v low. c.link-far.ensures v (omega (arith, start.pre.1.1.0)))
 
 names-ahead-requires : tie.Need-names-ahead-requires
 names-ahead-requires c κs =
@@ -221,7 +221,7 @@ sweep-pairs-requires c κs =
             (linked arcs).link-arcs.kept.1.1.1.1.1.1.1.0,
             start.pre.0.few_states,
           );
-          falling = arcs-fall (ready-here arcs);
+          falling = arcs_fall (ready-here arcs);
         },
         (
           record {

@@ -6,7 +6,7 @@ use lib.ListN.{length}
 use Rattle.indexed.specs.Partitions.{Refines}
 use Rattle.partition.specs.Forests.{roots_of}
 use Rattle.contexts.specs.Joins.{Live, Comparing, Chains, ChainJoined, PairsJoined}
-use Rattle.contexts.proofs.JoinLaws.{pairs-none, pairs-more}
+use Rattle.contexts.proofs.JoinLaws.{pairs_none, pairs_more}
 use Rattle.contexts.proofs.joins.sweep_pairs.Statement.{statement}
 use Rattle.contexts.proofs.joins.sweep_pairs.Tie as tie
 
@@ -31,7 +31,7 @@ turn c = c.before.before.before.before.before.before
 loop-holds : tie.Need-loop-init invariant-loop decreases-loop
 loop-holds c =
     let start = c.before.before.before.before.before.before.before in
-    (omega arith, refl, start.requires.1.1.0, pairs-none start.requires.1.1.0.kept.labelled)
+    (omega arith, refl, start.requires.1.1.0, pairs_none start.requires.1.1.0.kept.labelled)
 
 join-chain-requires : tie.Need-join-chain-requires invariant-loop decreases-loop
 join-chain-requires c κs =
@@ -81,7 +81,7 @@ loop-again c =
       arc.join-chain.auto.1.1.1.1.1.1.1.1.1.0 ∙ loop.inv.1,
       subst (λ (k : ℕ). Live k start.args.parents.now start.args.names.now start.args.numbers.now last.0 last.1.0
           last.1.1.0 last.1.1.1.0 last.1.1.1.1.0) loop.inv.1 arc.join-chain.ensures.1,
-      pairs-more start.pre.0.arrays start.pre.1.0 inside loop.inv.3 chain,
+      pairs_more start.pre.0.arrays start.pre.1.0 inside loop.inv.3 chain,
     )
 
 same_length : tie.Need-same-length invariant-loop decreases-loop

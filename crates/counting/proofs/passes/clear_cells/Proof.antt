@@ -6,7 +6,7 @@ use native.Mathlib.Omega.{arith}
 use lib.ListN.{length, get_or}
 use Rattle.indexed.proofs.TreeArcs.{ArcHere, arc-here}
 use Rattle.counting.specs.PassCells.{CellsClear}
-use Rattle.counting.proofs.Stores.{clear-start, clear-more, clear-end}
+use Rattle.counting.proofs.Stores.{clear_start, clear_more, clear_end}
 use Rattle.counting.proofs.passes.clear_cells.Statement.{statement}
 use Rattle.counting.proofs.passes.clear_cells.Tie as tie
 
@@ -25,7 +25,7 @@ loop-holds : tie.Need-loop-init invariant-loop decreases-loop
 loop-holds c =
     let at = c.before.before.before.before in
     let start =
-    clear-start at.requires.0.0 at.args.parents.now at.args.names.now at.args.groups.now at.requires.0.1
+    clear_start at.requires.0.0 at.args.parents.now at.args.names.now at.args.groups.now at.requires.0.1
     at.args.work.now at.requires.1 in
     (omega arith, (refl, start))
 
@@ -101,7 +101,7 @@ loop-again c =
       omega (arith, head.loop.inv.0),
       (
         stored.auto.0 ∙ head.loop.inv.1.0,
-        clear-more at.pre.0.0 at.args.parents.now at.args.names.now at.args.groups.now at.pre.0.1
+        clear_more at.pre.0.0 at.args.parents.now at.args.names.now at.args.groups.now at.pre.0.1
             head.loop.v wide.before.before.wide162.result wide.wide8.result head.loop.work stored.new.0
             head.loop.inv.0 (turn wide).loop-test.true head.loop.inv.1.1 (from_is wide) wide.wide8.ensures
             stored.ensures,
@@ -115,7 +115,7 @@ returns : tie.Need-returns invariant-loop decreases-loop
 returns c =
     let head = c.before in
     let at = entry head in
-    clear-end at.pre.0.0 at.args.parents.now at.args.names.now at.args.groups.now at.pre.0.1 head.loop.v
+    clear_end at.pre.0.0 at.args.parents.now at.args.names.now at.args.groups.now at.pre.0.1 head.loop.v
     head.loop.work c.loop-test.false head.loop.invariant.1.1
 
 pub clear-cells-spec : {M : Type 1} → statement M

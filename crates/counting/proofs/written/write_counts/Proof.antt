@@ -11,7 +11,7 @@ use Rattle.model.specs.Quotients.{states_of}
 use Rattle.counts.specs.Counts.{count_field, counts_file}
 use Rattle.writing.proofs.BytesLeft.{BytesLeft, left-all, left-more, left-length, left-room, left-none}
 use Rattle.counting.specs.Ready.{CountsReady}
-use Rattle.counting.proofs.CountPieces.{fields_from, fields_all, fields_more, fields_none, count-states, count_low}
+use Rattle.counting.proofs.CountPieces.{fields_from, fields_all, fields_more, fields_none, count_states, count_low}
 use Rattle.counting.proofs.CountPieces.{group-low, field-ready}
 use Rattle.counting.proofs.written.write_counts.Statement.{statement}
 use Rattle.counting.proofs.written.write_counts.Tie as tie
@@ -90,7 +90,7 @@ write-field-requires c κs =
     let states = states_of p.0 (tree_of p.0) p.3 in
     let early : head.loop.i < at.args.count = wide.before.before.loop-test.true in
     let all =
-    count-states p.0 p.1 p.2 p.3 at.args.work.now at.args.next.now at.args.sums.now at.args.met.now
+    count_states p.0 p.1 p.2 p.3 at.args.work.now at.args.next.now at.args.sums.now at.args.met.now
     at.args.count p.4 in (
       (p.4.passes.work_size, omega (arith, low wide, p.4.joined.few)),
       (
@@ -127,7 +127,7 @@ loop-again c =
     λ rows parents names groups ready.
     let field = count_field (states_of rows (tree_of rows) groups) rows i in
     let all =
-    count-states rows parents names groups at.args.work.now at.args.next.now at.args.sums.now at.args.met.now
+    count_states rows parents names groups at.args.work.now at.args.next.now at.args.sums.now at.args.met.now
     at.args.count ready in
     left-more (head.loop.inv rows parents names groups ready) field (fields_from rows groups (i + 1)) written.new.1.1.1.1.0
     written.result (fields_more rows groups i (omega (arith, all)))
@@ -148,7 +148,7 @@ returns c =
     let at = entry head in
     λ rows parents names groups ready.
     let all =
-    count-states rows parents names groups at.args.work.now at.args.next.now at.args.sums.now at.args.met.now
+    count_states rows parents names groups at.args.work.now at.args.next.now at.args.sums.now at.args.met.now
     at.args.count ready in
     left-none (head.loop.invariant rows parents names groups ready)
     (fields_none rows groups head.loop.i (omega (arith, all, c.loop-test.false)))

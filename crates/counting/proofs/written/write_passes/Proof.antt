@@ -8,7 +8,7 @@ use lib.ListN.{length}
 use Rattle.model.specs.Tables.{two_bytes}
 use Rattle.writing.proofs.BytesLeft.{BytesLeft, left-all, left-more, left-length, left-room, left-none}
 use Rattle.counting.specs.Ready.{PassesToWrite}
-use Rattle.counting.proofs.CountPieces.{PassesMore, passes-next, passes-done}
+use Rattle.counting.proofs.CountPieces.{PassesMore, passes_next, passes_done}
 use Rattle.counting.proofs.written.write_passes.Statement.{statement}
 use Rattle.counting.proofs.written.write_passes.Tie as tie
 
@@ -40,7 +40,7 @@ next :
 next c =
     let head = c.before.before in
     let at = entry head in
-    passes-next c.lowest.result (head.loop.invariant at.pre.1.0 at.pre.1.1).1 c.before.loop-test.true
+    passes_next c.lowest.result (head.loop.invariant at.pre.1.0 at.pre.1.1).1 c.before.loop-test.true
     c.lowest.ensures
 
 cell-requires : tie.Need-cell-requires invariant-loop decreases-loop
@@ -81,7 +81,7 @@ loop-again c =
     let start-low : at.args.at ≤ length at.args.out.now = omega arith in
     λ bytes given.
     let m = head.loop.invariant bytes given in
-    let t = passes-next lowest.lowest.result m.1 lowest.before.loop-test.true lowest.lowest.ensures in (
+    let t = passes_next lowest.lowest.result m.1 lowest.before.loop-test.true lowest.lowest.ensures in (
       t.rest,
       t.after c.only.result c.only.ensures,
       left-more m.2 (two_bytes cell.result) t.rest put.new.0 put.result
@@ -97,7 +97,7 @@ returns : tie.Need-returns invariant-loop decreases-loop
 returns c =
     λ bytes given.
     let m = c.before.loop.invariant bytes given in
-    left-none m.2 (passes-done m.1 c.loop-test.false)
+    left-none m.2 (passes_done m.1 c.loop-test.false)
 
 pub write-passes-spec : {M : Type 1} → statement M
 write-passes-spec =

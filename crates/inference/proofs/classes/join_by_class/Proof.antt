@@ -7,7 +7,7 @@ use lib.ListN.{length}
 use Rattle.indexed.specs.Passes.{ContextJoined}
 use Rattle.functions.specs.Results.{JoinedByF}
 use borrow.Author.Rules.{rules}
-use Rattle.inference.proofs.ClassLaws.{context_settings, function_setting, by_context_fact, by-function}
+use Rattle.inference.proofs.ClassLaws.{context_settings, function_setting, by_context_fact, by_function}
 use Rattle.inference.proofs.classes.join_by_class.Statement.{statement}
 use Rattle.inference.proofs.classes.join_by_class.Tie as tie
 
@@ -81,7 +81,7 @@ returns-2 c =
     subst (λ (j : ℕ). JoinedByF (eqb args.kind 1) n j args.parents.now args.names.now args.ends.now groups)
     wide.wide83.ensures done.ensures in
     λ rows tree.
-    by-function args.kind args.first args.second n rows args.parents.now args.names.now args.ends.now
+    by_function args.kind args.first args.second n rows args.parents.now args.names.now args.ends.now
     groups tree start.requires.1.arrays.parents_size chosen.match.rest.1 joined
 
 pub join-by-class-spec : {M : Type 1} → statement M

@@ -7,7 +7,7 @@ use Rattle.tables.proofs.ArcLaws.{Left, ArcHere, arcs_from, left-begins, arc-her
 use Rattle.base.specs.Lists.{any}
 use Rattle.model.specs.Tables.{state_in}
 use Rattle.levels.specs.Found.{rises}
-use Rattle.levels.proofs.RisingLaws.{up, rises-accepting, rises-by-arcs, up-found, up-goes, up-end}
+use Rattle.levels.proofs.RisingLaws.{up, rises-accepting, rises-by_arcs, up-found, up-goes, up-end}
 use Rattle.levels.proofs.rising.rises.Statement.{statement}
 use Rattle.levels.proofs.rising.rises.Tie as tie
 
@@ -39,7 +39,7 @@ loop-holds c =
     let start = c.before.before.before in
     let s = start.args.state.now in
     let ok = start.requires in
-    (omega (arith, state-some s ok), (0, left-begins s ok), rises-by-arcs s start.args.q ok (λ e. omega arith))
+    (omega (arith, state-some s ok), (0, left-begins s ok), rises-by_arcs s start.args.q ok (λ e. omega arith))
 
 target-at-requires : tie.Need-target-at-requires invariant-loop decreases-loop
 target-at-requires c κs = (here c).whole

@@ -5,10 +5,10 @@ use native.Mathlib.Omega.{arith}
 use lib.ListN.{length, get_or, replicate}
 use Rattle.base.specs.Limits.{state_limit}
 use Rattle.model.specs.Calls.{table_states}
-use Rattle.tables.proofs.ReadyLaws.{ready-ascends}
+use Rattle.tables.proofs.ReadyLaws.{ready_ascends}
 use Rattle.levels.specs.Queues.{Longer, AcceptsBelow}
-use Rattle.levels.proofs.SpreadLaws.{LevelsSoFar, levels_begin, state-here, low-level}
-use Rattle.levels.proofs.SpreadLaws.{may-reach, levels-go, levels_end}
+use Rattle.levels.proofs.SpreadLaws.{LevelsSoFar, levels_begin, state-here, low_level}
+use Rattle.levels.proofs.SpreadLaws.{may_reach, levels-go, levels_end}
 use Rattle.levels.proofs.spreading.spread.Statement.{statement}
 use Rattle.levels.proofs.spreading.spread.Tie as tie
 
@@ -88,7 +88,7 @@ add-level : tie.Need-overflow-add-level invariant-loop decreases-loop
 add-level c =
     let read = c.before in
     let here = turn read in
-    let low = low-level here.before.loop.inv here.loop-test.taken read.wide16.result read.wide16.ensures in
+    let low = low_level here.before.loop.inv here.loop-test.taken read.wide16.result read.wide16.ensures in
     omega (arith, low, first_low here)
 
 mul-wide16-2 : tie.Need-overflow-mul-wide16-2 invariant-loop decreases-loop
@@ -120,7 +120,7 @@ reach-from-requires c κs =
     let loop = (turn read).before.loop in
     let start = entry (turn read).before in
     let t = read.wide16.result in
-    let level-is : get_or loop.levels t 0 + 1 ≡ suc (get_or loop.levels t 0) = omega arith in (
+    let level_is : get_or loop.levels t 0 + 1 ≡ suc (get_or loop.levels t 0) = omega arith in (
       start.pre.0.room,
       (
         omega (arith, to_is to, start.pre.1.1.few t (inside read)),
@@ -129,7 +129,7 @@ reach-from-requires c κs =
               let after : get_or start.args.ends.now t 0 ≤ j = omega (arith, low, from.wide162.ensures) in
               let source = start.pre.1.1.here t j (inside read) after (omega (arith, high, to_is to)) in
               omega (arith, source.0, start.pre.0.few_states),
-          may-reach loop.inv (turn read).loop-test.taken t read.wide16.ensures (get_or loop.levels t 0 + 1) level-is,
+          may_reach loop.inv (turn read).loop-test.taken t read.wide16.ensures (get_or loop.levels t 0 + 1) level_is,
         ),
       ),
     )
@@ -148,19 +148,19 @@ loop-again c =
     let start = entry (turn read).before in
     let levels = loop.levels in
     let t = read.wide16.result in
-    let level-is : get_or levels t 0 + 1 ≡ suc (get_or levels t 0) = omega arith in
+    let level_is : get_or levels t 0 + 1 ≡ suc (get_or levels t 0) = omega arith in
     let one_more : suc loop.first ≡ loop.first + 1 = omega arith in
     subst
     (λ (k : ℕ).
     LevelsSoFar (table_states start.args.s.now) c.reach-from.new.1.1.1.1.0 c.reach-from.new.1.1.1.1.1.0 k
     c.reach-from.result)
     one_more
-    (levels-go loop.inv (turn read).loop-test.taken t read.wide16.ensures start.pre.1.1 (ready-ascends _ _ start.pre.0)
-    to.before.before.wide162.ensures (to_is to) level-is c.reach-from.ensures)
+    (levels-go loop.inv (turn read).loop-test.taken t read.wide16.ensures start.pre.1.1 (ready_ascends _ _ start.pre.0)
+    to.before.before.wide162.ensures (to_is to) level_is c.reach-from.ensures)
 
 returns : tie.Need-returns invariant-loop decreases-loop
 returns c =
-    levels_end (ready-ascends _ _ (entry c.before).pre.0) c.before.loop.invariant (omega (arith, c.loop-test.false))
+    levels_end (ready_ascends _ _ (entry c.before).pre.0) c.before.loop.invariant (omega (arith, c.loop-test.false))
 
 pub spread-spec : {M : Type 1} → statement M
 spread-spec =

@@ -7,7 +7,7 @@ use Rattle.model.specs.Listing.{decimal, space, arc_text}
 use Rattle.judging.specs.Offsets.{name_at}
 use Rattle.fields.proofs.Parts.{names-inside}
 use Rattle.listings.specs.Texts.{names_at}
-use Rattle.writing.proofs.TextLaws.{Writing, begins, room, room-left, goes, ends_with}
+use Rattle.writing.proofs.TextLaws.{Writing, begins, room, room_left, goes, ends_with}
 use Rattle.listings.proofs.arcs.put_arc.Statement.{statement}
 use Rattle.listings.proofs.arcs.put_arc.Tie as tie
 
@@ -84,7 +84,7 @@ put-byte-requires-2 c κs =
 put-decimal-requires : tie.Need-put-decimal-requires
 put-decimal-requires c κs =
     let start = start-1 (back-2 (back-3 c.before.before.before).before) in
-    (start.pre.1.0, room-left (after-3 c.before.before.before))
+    (start.pre.1.0, room_left (after-3 c.before.before.before))
 
 same_length : tie.Need-same-length
 same_length c = search rules

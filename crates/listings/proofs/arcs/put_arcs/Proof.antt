@@ -11,8 +11,8 @@ use Rattle.tables.specs.Arcs.{StateOk}
 use Rattle.tables.proofs.ArcLaws.{Left, ArcHere, arcs_from, left-begins, arc-here, state-some}
 use Rattle.writing.specs.Writing.{Fits, Put}
 use Rattle.listings.specs.Texts.{names_at}
-use Rattle.writing.proofs.TextLaws.{Writing, keeps-length, room, goes}
-use Rattle.listings.proofs.LineLaws.{ArcsWriting, arcs_begin, arcs-next, arcs-finish}
+use Rattle.writing.proofs.TextLaws.{Writing, keeps_length, room, goes}
+use Rattle.listings.proofs.LineLaws.{ArcsWriting, arcs_begin, arcs_next, arcs_finish}
 use Rattle.listings.proofs.arcs.put_arcs.Statement.{statement}
 use Rattle.listings.proofs.arcs.put_arcs.Tie as tie
 
@@ -49,7 +49,7 @@ turn : (c : tie.After-target-at invariant-loop decreases-loop)
 turn c =
     let loop = c.before.before.before.loop in
     let body = c.before.before.before.before in
-    arcs-next (names body) body.body.result.now loop.i c.target_at.result (omega arith) c.target_at.ensures.is
+    arcs_next (names body) body.body.result.now loop.i c.target_at.result (omega arith) c.target_at.ensures.is
     loop.invariant.2
 
 body-requires : tie.Need-body-requires invariant-loop decreases-loop
@@ -103,7 +103,7 @@ loop-again c =
     )
 
 same_length : tie.Need-same-length invariant-loop decreases-loop
-same_length c = keeps-length c.before.loop.invariant.2
+same_length c = keeps_length c.before.loop.invariant.2
 
 returns : tie.Need-returns invariant-loop decreases-loop
 returns c =
@@ -114,7 +114,7 @@ returns c =
     (λ (l : List ℕ).
     Put args.text.now loop.text args.at (flat_map (arc_text (names body)) (state_in l).arcs) loop.next)
     body.body.ensures
-    (arcs-finish (names body) body.body.result.now loop.i (omega arith) loop.invariant.2)
+    (arcs_finish (names body) body.body.result.now loop.i (omega arith) loop.invariant.2)
 
 pub put-arcs-spec : {M : Type 1} → statement M
 put-arcs-spec =

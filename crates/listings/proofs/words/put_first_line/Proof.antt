@@ -3,7 +3,7 @@ use borrow.Author.Rules.{rules}
 use mathlib.Core.List.{List, ◌++◌}
 use Prim.Native.Nat.{ℕ}
 use Rattle.model.specs.Listing.{decimal, newline, states_word, joins_word, distinct_word, first_line}
-use Rattle.writing.proofs.TextLaws.{Writing, begins, room, room-left, goes, ends_with}
+use Rattle.writing.proofs.TextLaws.{Writing, begins, room, room_left, goes, ends_with}
 use Rattle.listings.proofs.words.put_first_line.Statement.{statement}
 use Rattle.listings.proofs.words.put_first_line.Tie as tie
 
@@ -130,7 +130,7 @@ put-decimal-requires-3 c κs =
     (start.pre.0.2, room (decimal start.args.distinct) newline (after-5 at))
 
 put-byte-requires : tie.Need-put-byte-requires
-put-byte-requires c κs = room-left (after-6 c.before.before.before)
+put-byte-requires c κs = room_left (after-6 c.before.before.before)
 
 same_length : tie.Need-same-length
 same_length c = search rules

@@ -5,7 +5,7 @@ use Prim.Native.Nat.{◌<◌}
 use native.Mathlib.Omega.{arith}
 use borrow.Author.Rules.{rules}
 use lib.ListN.{length, get_or, length-set}
-use Rattle.partition.proofs.ForestLaws.{Finding, finding_start, up-inside, next_lower, finding-next, finding-end}
+use Rattle.partition.proofs.ForestLaws.{Finding, finding_start, up-inside, next_lower, finding-next, finding_end}
 use Rattle.partition.proofs.forest.find.Statement.{statement}
 use Rattle.partition.proofs.forest.find.Tie as tie
 
@@ -101,7 +101,7 @@ returns : tie.Need-returns invariant-loop decreases-loop
 returns c =
     let here = c.before.loop in
     let at = c.before.before.before.before.before in
-    finding-end (length at.args.above.now) at.args.above.now here.above at.args.v here.at here.up
+    finding_end (length at.args.above.now) at.args.above.now here.above at.args.v here.at here.up
     here.invariant at.requires.0 at.requires.1 c.loop-test.false
 
 pub find_spec : {M : Type 1} → statement M

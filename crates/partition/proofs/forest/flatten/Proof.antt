@@ -5,7 +5,7 @@ use Prim.Native.Nat.{◌-◌, ◌<◌, ◌≤◌}
 use native.Mathlib.Omega.{arith}
 use borrow.Author.Rules.{rules}
 use lib.ListN.{length}
-use Rattle.partition.proofs.ForestLaws.{Flattening, flattening_none, flattening-inside, flattening-more, flattening-all}
+use Rattle.partition.proofs.ForestLaws.{Flattening, flattening_none, flattening-inside, flattening-more, flattening_all}
 use Rattle.partition.proofs.forest.flatten.Statement.{statement}
 use Rattle.partition.proofs.forest.flatten.Tie as tie
 
@@ -70,7 +70,7 @@ returns : tie.Need-returns invariant-loop decreases-loop
 returns c =
     let here = c.before in
     let at = here.before.before in
-    flattening-all at.args.above.now at.requires here.loop.v here.loop.above here.loop.invariant.1
+    flattening_all at.args.above.now at.requires here.loop.v here.loop.above here.loop.invariant.1
     (omega (arith, here.loop.invariant.1.filled.size))
 
 pub flatten-spec : {M : Type 1} → statement M

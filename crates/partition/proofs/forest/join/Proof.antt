@@ -4,7 +4,7 @@ use native.Mathlib.Omega.{arith}
 use lib.ListN.{length}
 use borrow.Author.Rules.{rules}
 use Rattle.partition.proofs.ForestLaws.{forest_again}
-use Rattle.partition.proofs.RootLaws.{Both, both_found, roots-joined, roots-joined-back, roots_same}
+use Rattle.partition.proofs.RootLaws.{Both, both_found, roots_joined, roots_joined_back, roots_same}
 use Rattle.partition.proofs.forest.join.Statement.{statement}
 use Rattle.partition.proofs.forest.join.Tie as tie
 
@@ -62,7 +62,7 @@ returns c =
     let test = united.before.before in
     let found = found_of test.before in
     let at = entry found in
-    roots-joined (length at.args.above.now) at.args.above.now found.find2.last.0 united.unite.new.0
+    roots_joined (length at.args.above.now) at.args.above.now found.find2.last.0 united.unite.new.0
     at.args.v at.args.w (first_of_lem found.before).find.result found.find2.result (both-here found)
     (omega (arith, test.if1.true)) united.unite.ensures
 
@@ -87,7 +87,7 @@ returns-2 c =
     let test = united.before.before in
     let found = found_of test.before.before in
     let at = entry found in
-    roots-joined-back (length at.args.above.now) at.args.above.now found.find2.last.0 united.unite2.new.0
+    roots_joined_back (length at.args.above.now) at.args.above.now found.find2.last.0 united.unite2.new.0
     at.args.v at.args.w (first_of_lem found.before).find.result found.find2.result (both-here found)
     (omega (arith, test.if2.true)) united.unite2.ensures
 

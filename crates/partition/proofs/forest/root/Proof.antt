@@ -4,7 +4,7 @@ use native.Mathlib.Omega.{arith}
 use borrow.Author.Rules.{rules}
 use lib.ListN.{length}
 use Rattle.partition.specs.Forests.{FoundRoot}
-use Rattle.partition.proofs.ForestLaws.{Finding, finding_start, up-inside, finding-up, finding-end}
+use Rattle.partition.proofs.ForestLaws.{Finding, finding_start, up-inside, finding_up, finding_end}
 use Rattle.partition.proofs.forest.root.Statement.{statement}
 use Rattle.partition.proofs.forest.root.Tie as tie
 
@@ -61,7 +61,7 @@ loop-again c =
     let going = c.before.before in
     let here = going.before.loop in
     let at = start going in
-    finding-up (length at.args.above.now) at.args.above.now at.args.above.now at.args.v here.w here.up
+    finding_up (length at.args.above.now) at.args.above.now at.args.above.now at.args.v here.w here.up
     here.invariant c.wide162.result at.pre.0 c.wide162.ensures
 
 returns : tie.Need-returns invariant-loop decreases-loop
@@ -69,7 +69,7 @@ returns c =
     let here = c.before.loop in
     let at = c.before.before.before.before.before in
     let found : FoundRoot (length at.args.above.now) at.args.above.now at.args.above.now at.args.v here.w =
-    finding-end (length at.args.above.now) at.args.above.now at.args.above.now at.args.v here.w here.up
+    finding_end (length at.args.above.now) at.args.above.now at.args.above.now at.args.v here.w here.up
     here.invariant at.requires.0 at.requires.1 c.loop-test.false in
     (found.is_root, found.inside)
 

@@ -10,7 +10,7 @@ use Rattle.fields.specs.Places.{NamesReadAs}
 use Rattle.fields.specs.declared.Fields.{Fields}
 use Rattle.fields.specs.declared.Fields.TheVariants as answer
 use Rattle.fields.proofs.Parts.{ListAt, list_at, refused-number}
-use Rattle.plan_calls.proofs.RowsLaws.{plan-sizes-refused, list-sizes-refused, list-refused, chosen-refused, rows-asked}
+use Rattle.plan_calls.proofs.RowsLaws.{plan-sizes_refused, list-sizes-refused, list-refused, chosen-refused, rows-asked}
 use Rattle.plan_calls.proofs.RowsLaws.{plan-room, list_named}
 use borrow.Author.Rules.{rules}
 use Rattle.plan_calls.proofs.reading.read_rows.Statement.{statement}
@@ -63,7 +63,7 @@ returns : tie.Need-returns
 returns c =
     let at = c.before.before in
     gives_as _ _ c.not_read.ensures
-    (plan-sizes-refused (plan at) (list at) (chosen at) (work at) (out at) (sym at.sizes-bad.ensures ∙ c.before.if1.true))
+    (plan-sizes_refused (plan at) (list at) (chosen at) (work at) (out at) (sym at.sizes-bad.ensures ∙ c.before.if1.true))
 
 sizes-bad-requires-2 : tie.Need-sizes-bad-requires-2
 sizes-bad-requires-2 c κs = search rules

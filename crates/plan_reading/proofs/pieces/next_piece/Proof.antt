@@ -1,7 +1,7 @@
 -- `pieces::next_piece` meets its contract. Assumes nothing.
 use Prim.Native.Nat.{◌+◌, ◌≤◌}
 use native.Mathlib.Omega.{arith}
-use Rattle.plan_reading.proofs.PieceLaws.{stacked_on, piece_after, after_less, only-before, no-tag, second-element, tag-next}
+use Rattle.plan_reading.proofs.PieceLaws.{stacked_on, piece_after, after_less, only_before, no-tag, second-element, tag-next}
 use borrow.Author.Rules.{rules}
 use Rattle.plan_reading.proofs.pieces.next_piece.Statement.{statement}
 use Rattle.plan_reading.proofs.pieces.next_piece.Tie as tie
@@ -16,7 +16,7 @@ returns c =
     let s = start.args.plan.now in
     let stack = start.args.stack.now in
     let r = start.args.r in
-    (only-before s stack r run.result run.ensures start.requires.0 start.requires.1 c.if1.true, tt)
+    (only_before s stack r run.result run.ensures start.requires.0 start.requires.1 c.if1.true, tt)
 
 shared-slice-read-if2 : tie.Need-shared-slice-read-if2
 shared-slice-read-if2 c = search rules

@@ -4,7 +4,7 @@ use Prim.Native.Nat.{◌-◌, ◌<◌}
 use native.Mathlib.Omega.{arith}
 use lib.ListN.{length, get_or}
 use Rattle.plan_reading.specs.Scanning.{Agrees}
-use Rattle.plan_reading.proofs.ScanLaws.{Agreeing, agreeing-start, agreeing-more, agreeing-end}
+use Rattle.plan_reading.proofs.ScanLaws.{Agreeing, agreeing_start, agreeing_more, agreeing_end}
 use Rattle.plan_reading.proofs.scanning.agree.Statement.{statement}
 use Rattle.plan_reading.proofs.scanning.agree.Tie as tie
 
@@ -25,12 +25,12 @@ ended :
     let args = c.before.args in Agrees args.s.now args.from args.end args.at c.loop.i
 ended c stops =
     let args = c.before.args in
-    agreeing-end args.s.now args.from args.end args.at c.loop.i c.loop.j c.loop.invariant stops
+    agreeing_end args.s.now args.from args.end args.at c.loop.i c.loop.j c.loop.invariant stops
 
 loop-holds : tie.Need-loop-init invariant-loop decreases-loop
 loop-holds c =
     let args = c.args in
-    agreeing-start args.s.now args.from args.end args.at (omega arith) (omega arith)
+    agreeing_start args.s.now args.from args.end args.at (omega arith) (omega arith)
 
 returns : tie.Need-returns invariant-loop decreases-loop
 returns c = ended c.before.before (λ h g e. omega arith)
@@ -57,7 +57,7 @@ loop-again : tie.Need-loop-preserved invariant-loop decreases-loop
 loop-again c =
     let at = c.before.before.before.before.before in
     let args = at.before.args in
-    agreeing-more args.s.now args.from args.end args.at at.loop.i at.loop.j at.loop.invariant (omega arith) (omega arith)
+    agreeing_more args.s.now args.from args.end args.at at.loop.i at.loop.j at.loop.invariant (omega arith) (omega arith)
     (omega arith)
 
 returns-3 : tie.Need-returns-3 invariant-loop decreases-loop

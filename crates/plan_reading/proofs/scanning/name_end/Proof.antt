@@ -4,7 +4,7 @@ use native.Mathlib.Omega.{arith}
 use borrow.Author.Rules.{rules}
 use borrow.Author.Tests.{not-true, not-false}
 use lib.ListN.{length}
-use Rattle.plan_reading.proofs.ScanLaws.{Naming, naming-none, naming-start, naming-more, naming-all, naming-full, naming-stop}
+use Rattle.plan_reading.proofs.ScanLaws.{Naming, naming_none, naming_start, naming_more, naming_all, naming_full, naming_stop}
 use Rattle.plan_reading.proofs.scanning.name_end.Statement.{statement}
 use Rattle.plan_reading.proofs.scanning.name_end.Tie as tie
 
@@ -18,7 +18,7 @@ returns : tie.Need-returns invariant-loop decreases-loop
 returns c =
     let args = c.before.before.args in
     let s = args.s.now in
-    naming-none s args.at (omega arith) (λ (h : args.at < length s). let z : ⊥ = omega arith in absurd z)
+    naming_none s args.at (omega arith) (λ (h : args.at < length s). let z : ⊥ = omega arith in absurd z)
 
 shared-slice-read-starts-name : tie.Need-shared-slice-read-starts-name invariant-loop decreases-loop
 shared-slice-read-starts-name c = omega arith
@@ -31,7 +31,7 @@ returns-2 c =
     let args = c.before.before.before.before.before.args in
     let s = args.s.now in
     let test = not-true c.before.starts-name.result c.if2.true in
-    naming-none s args.at (omega arith) (λ (h : args.at < length s). cc)
+    naming_none s args.at (omega arith) (λ (h : args.at < length s). cc)
 
 add-i : tie.Need-overflow-add-i invariant-loop decreases-loop
 add-i c = omega arith
@@ -40,7 +40,7 @@ loop-holds : tie.Need-loop-init invariant-loop decreases-loop
 loop-holds c =
     let args = c.before.before.before.before.before.args in
     let test = not-false c.before.starts-name.result c.if2.false in
-    naming-start args.s.now args.at (omega arith) (cc)
+    naming_start args.s.now args.at (omega arith) (cc)
 
 sub-if3 : tie.Need-overflow-sub-if3 invariant-loop decreases-loop
 sub-if3 c = omega arith
@@ -49,7 +49,7 @@ returns-3 : tie.Need-returns-3 invariant-loop decreases-loop
 returns-3 c =
     let at = c.before.before in
     let args = at.before.before.before.before.before.before.args in
-    naming-full args.s.now args.at at.loop.i at.loop.invariant (omega arith)
+    naming_full args.s.now args.at at.loop.i at.loop.invariant (omega arith)
 
 shared-slice-read-continues-name : tie.Need-shared-slice-read-continues-name invariant-loop decreases-loop
 shared-slice-read-continues-name c = omega arith
@@ -62,7 +62,7 @@ returns-4 c =
     let at = c.before.before.before.before.before in
     let args = at.before.before.before.before.before.before.args in
     let test = not-true c.before.continues-name.result c.if4.true in
-    naming-stop args.s.now args.at at.loop.i at.loop.invariant (cc)
+    naming_stop args.s.now args.at at.loop.i at.loop.invariant (cc)
 
 add-i-2 : tie.Need-overflow-add-i-2 invariant-loop decreases-loop
 add-i-2 c = omega arith
@@ -75,13 +75,13 @@ loop-again c =
     let at = c.before.before.before.before.before in
     let args = at.before.before.before.before.before.before.args in
     let test = not-false c.before.continues-name.result c.if4.false in
-    naming-more args.s.now args.at at.loop.i at.loop.invariant (omega arith) (omega arith) (cc)
+    naming_more args.s.now args.at at.loop.i at.loop.invariant (omega arith) (omega arith) (cc)
 
 returns-5 : tie.Need-returns-5 invariant-loop decreases-loop
 returns-5 c =
     let at = c.before in
     let args = at.before.before.before.before.before.before.args in
-    naming-all args.s.now args.at at.loop.i at.loop.invariant (omega arith)
+    naming_all args.s.now args.at at.loop.i at.loop.invariant (omega arith)
 
 pub name-end-spec : {M : Type 1} → statement M
 name-end-spec =

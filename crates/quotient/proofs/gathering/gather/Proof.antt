@@ -5,7 +5,7 @@ use Prim.Native.Nat.{ℕ, ◌-◌, ◌<◌}
 use native.Mathlib.Omega.{arith}
 use lib.ListN.{length, get_or}
 use Rattle.indexed.proofs.TreeArcs.{ArcHere, arc-here}
-use Rattle.quotient.proofs.ArcPass.{GatheredUpTo, gather_start, gathered-more, gather-end}
+use Rattle.quotient.proofs.ArcPass.{GatheredUpTo, gather_start, gathered-more, gather_end}
 use Rattle.quotient.proofs.gathering.gather.Statement.{statement}
 use Rattle.quotient.proofs.gathering.gather.Tie as tie
 
@@ -162,7 +162,7 @@ returns c =
     let head = c.before in
     let at = entry head in
     λ rows joined.
-    gather-end rows at.args.parents.now at.args.names.now at.args.groups.now joined head.loop.v
+    gather_end rows at.args.parents.now at.args.names.now at.args.groups.now joined head.loop.v
     head.loop.work head.loop.next c.loop-test.false head.loop.invariant.1.1.1
 
 pub gather-spec : {M : Type 1} → statement M

@@ -6,7 +6,7 @@ use Prim.Native.Nat.{ℕ, ◌^◌, ◌<◌, ◌≤◌}
 use native.Mathlib.Omega.{arith}
 use lib.ListN.{length}
 use Rattle.quotient.specs.Numbered.{Meeting}
-use Rattle.quotient.proofs.MetLaws.{meeting-name, meeting-more, meeting-done}
+use Rattle.quotient.proofs.MetLaws.{meeting_name, meeting_more, meeting_done}
 use Rattle.quotient.proofs.numbering.meet.Statement.{statement}
 use Rattle.quotient.proofs.numbering.meet.Tie as tie
 
@@ -36,7 +36,7 @@ cell-requires c κs =
     let at = entry head in
     let m = head.loop.invariant.1.1 at.pre.1.0 at.pre.1.1 at.pre.1.2 in (
       at.pre.0.1,
-      (meeting-name after-lowest.lowest.result m turn.loop-test.true after-lowest.lowest.ensures, at.pre.0.0),
+      (meeting_name after-lowest.lowest.result m turn.loop-test.true after-lowest.lowest.ensures, at.pre.0.0),
     )
 
 meet-one-requires : tie.Need-meet-one-requires invariant-loop decreases-loop
@@ -47,7 +47,7 @@ meet-one-requires c κs =
     let at = entry head in
     let m = head.loop.invariant.1.1 at.pre.1.0 at.pre.1.1 at.pre.1.2 in
     let t =
-    meeting-more after-lowest.lowest.result c.cell.result m turn.loop-test.true after-lowest.lowest.ensures
+    meeting_more after-lowest.lowest.result c.cell.result m turn.loop-test.true after-lowest.lowest.ensures
     c.cell.ensures.value in
     (at.pre.1.0, t.one, t.single)
 
@@ -58,7 +58,7 @@ only-requires c κs =
     let head = turn.before in
     let at = entry head in
     let m = head.loop.invariant.1.1 at.pre.1.0 at.pre.1.1 at.pre.1.2 in
-    meeting-name after-lowest.lowest.result m turn.loop-test.true after-lowest.lowest.ensures
+    meeting_name after-lowest.lowest.result m turn.loop-test.true after-lowest.lowest.ensures
 
 -- the lowest name is in the set, and its bit is some
 taken :
@@ -72,7 +72,7 @@ taken c =
     let at = entry head in
     let m = head.loop.invariant.1.1 at.pre.1.0 at.pre.1.1 at.pre.1.2 in
     let t =
-    meeting-more after-lowest.lowest.result after-cell.cell.result m turn.loop-test.true after-lowest.lowest.ensures
+    meeting_more after-lowest.lowest.result after-cell.cell.result m turn.loop-test.true after-lowest.lowest.ensures
     after-cell.cell.ensures.value in
     (t.in_set, omega (arith, t.some, c.only.ensures))
 
@@ -95,7 +95,7 @@ loop-again c =
         met.auto.1.0 ∙ head.loop.invariant.1.0,
         λ n after m.
             let t =
-            meeting-more after-lowest.lowest.result after-cell.cell.result (head.loop.invariant.1.1 n after m)
+            meeting_more after-lowest.lowest.result after-cell.cell.result (head.loop.invariant.1.1 n after m)
             turn.loop-test.true after-lowest.lowest.ensures after-cell.cell.ensures.value in
             t.then met.new.0 met.new.1.0 met.result c.only.result
             (met.ensures n t.one t.single) c.only.ensures,
@@ -109,7 +109,7 @@ same-length-2 : tie.Need-same-length-2 invariant-loop decreases-loop
 same-length-2 c = c.before.loop.invariant.1.0
 
 returns : tie.Need-returns invariant-loop decreases-loop
-returns c = λ n after m. meeting-done (c.before.loop.invariant.1.1 n after m) c.loop-test.false
+returns c = λ n after m. meeting_done (c.before.loop.invariant.1.1 n after m) c.loop-test.false
 
 pub meet-spec : {M : Type 1} → statement M
 meet-spec =

@@ -1,6 +1,6 @@
 -- `numbering::meet_one` meets its contract: a group with a number is met, and one without is new. Assumes nothing.
 use native.Mathlib.Omega.{arith}
-use Rattle.quotient.proofs.MetLaws.{meet-old, meet-room, meet-new}
+use Rattle.quotient.proofs.MetLaws.{meet_old, meet_room, meet_new}
 use borrow.Author.Rules.{rules}
 use Rattle.quotient.proofs.numbering.meet_one.Statement.{statement}
 use Rattle.quotient.proofs.numbering.meet_one.Tie as tie
@@ -12,7 +12,7 @@ slice-read-number : tie.Need-slice-read-number
 slice-read-number c = search rules
 
 returns : tie.Need-returns
-returns c = λ n after m. meet-old m c.if1.true
+returns c = λ n after m. meet_old m c.if1.true
 
 narrow16-requires : tie.Need-narrow16-requires
 narrow16-requires c κs = search rules
@@ -20,19 +20,19 @@ narrow16-requires c κs = search rules
 mul-met : tie.Need-overflow-mul-met
 mul-met c =
     let at = c.before.before.before.before.before in
-    let room = meet-room at.requires.2 c.before.if1.false in
+    let room = meet_room at.requires.2 c.before.if1.false in
     omega (arith, at.requires.2.so_far.few)
 
 slice-write-met : tie.Need-slice-write-met
 slice-write-met c =
     let at = c.before.before.before.before.before in
-    let room = meet-room at.requires.2 c.before.if1.false in
+    let room = meet_room at.requires.2 c.before.if1.false in
     omega (arith, at.requires.2.so_far.met_size)
 
 narrow16-requires-2 : tie.Need-narrow16-requires-2
 narrow16-requires-2 c κs =
     let at = c.before.before.before.before.before in
-    let room = meet-room at.requires.2 c.before.if1.false in
+    let room = meet_room at.requires.2 c.before.if1.false in
     omega (arith, at.requires.2.so_far.few)
 
 mul-numbers : tie.Need-overflow-mul-numbers
@@ -54,7 +54,7 @@ returns-2 : tie.Need-returns-2
 returns-2 c =
     let first = c.before in
     λ n after m.
-    meet-new m first.before.if1.false first.narrow16.result c.narrow162.result first.narrow16.ensures
+    meet_new m first.before.if1.false first.narrow16.result c.narrow162.result first.narrow16.ensures
     c.narrow162.ensures
 
 pub meet-one-spec : {M : Type 1} → statement M

@@ -16,12 +16,12 @@ use Rattle.quotient.proofs.MetLaws.{
   Numbering,
   Look,
   met-low,
-  root-meeting,
+  root_meeting,
   numbering_start,
-  numbering-few,
-  numbering-nth,
-  numbering-more,
-  numbering-end,
+  numbering_few,
+  numbering_nth,
+  numbering_more,
+  numbering_end,
 }
 use Rattle.quotient.proofs.StatePieces.{states_from, states_all, arcs_count_more, arcs_count_none}
 use Rattle.quotient.proofs.numbering.number.Statement.{statement}
@@ -70,7 +70,7 @@ room c =
     let gathered = at.pre.0.1 in
     let size = gathered.labels.size in
     let numbering = (promised c).numbering in (
-      numbering-few at.pre.0.0 at.args.groups.now at.args.work.now at.args.next.now gathered c.loop.met
+      numbering_few at.pre.0.0 at.args.groups.now at.args.work.now at.args.next.now gathered c.loop.met
           c.loop.numbers c.loop.i c.loop.count numbering,
       gathered.few,
       omega arith,
@@ -97,7 +97,7 @@ look :
 look c rows gathered =
     let head = (turn c).before in
     let at = entry head in
-    numbering-more rows at.args.groups.now at.args.work.now at.args.next.now gathered head.loop.met
+    numbering_more rows at.args.groups.now at.args.work.now at.args.next.now gathered head.loop.met
     head.loop.numbers head.loop.i head.loop.count c.wide162.result
     (get_or at.args.next.now c.wide162.result 0) (head.loop.inv.1.1.1 rows gathered).numbering
     (turn c).loop-test.true c.wide162.ensures refl
@@ -134,7 +134,7 @@ meet-one-requires c κs =
     let at = after-fill.before.before.before.before.before.before.before in
     let rows = at.requires.0.0 in
     let met =
-    root-meeting rows at.args.groups.now at.args.work.now at.args.next.now at.requires.0.1 at.args.met.now
+    root_meeting rows at.args.groups.now at.args.work.now at.args.next.now at.requires.0.1 at.args.met.now
     at.args.numbers.now after-fill.fill.new.0 c.wide16.result at.requires.1.0 at.requires.1.1
     after-fill.fill.ensures c.wide16.ensures in
     (length (tree_of rows), c.wide16.result ∷ [], met)
@@ -156,7 +156,7 @@ loop-holds c =
           omega arith,
           λ rows gathered.
               let met =
-              root-meeting rows groups work next gathered at.args.met.now at.args.numbers.now
+              root_meeting rows groups work next gathered at.args.met.now at.args.numbers.now
               after-fill.fill.new.0 after-wide16.wide16.result at.requires.1.0 at.requires.1.1
               after-fill.fill.ensures after-wide16.wide16.ensures in
               record {
@@ -228,7 +228,7 @@ loop-again c =
               let before = head.loop.inv.1.1.1 rows gathered in
               let meeting = look group rows gathered in
               let here =
-              numbering-nth rows groups work next gathered head.loop.met head.loop.numbers head.loop.i head.loop.count g
+              numbering_nth rows groups work next gathered head.loop.met head.loop.numbers head.loop.i head.loop.count g
               before.numbering (turn group).loop-test.taken group.wide162.ensures in
               let low = met-low before.numbering.seen before.numbering.so_far head.loop.i (turn group).loop-test.taken in
               record {
@@ -268,7 +268,7 @@ returns c =
     λ rows gathered.
     let counting = head.loop.invariant.1.1.1 rows gathered in
     let every =
-    numbering-end rows groups at.args.work.now at.args.next.now gathered head.loop.met head.loop.numbers
+    numbering_end rows groups at.args.work.now at.args.next.now gathered head.loop.met head.loop.numbers
     head.loop.i head.loop.count counting.numbering c.loop-test.false in
     record {
       numbered = every;

@@ -8,7 +8,7 @@ use lib.ListN.{length, get_or}
 use Rattle.writing.specs.Writing.{arc_part}
 use Rattle.quotient.specs.Ready.{ArcsToWrite}
 use Rattle.writing.proofs.BytesLeft.{BytesLeft, left-all, left-more, left-length, left-room, left-none}
-use Rattle.quotient.proofs.StatePieces.{arcs-write-name, arcs-write-more, arcs-write-done}
+use Rattle.quotient.proofs.StatePieces.{arcs_write_name, arcs_write_more, arcs_write_done}
 use Rattle.quotient.proofs.states.write_arcs.Statement.{statement}
 use Rattle.quotient.proofs.states.write_arcs.Tie as tie
 
@@ -40,7 +40,7 @@ cell-requires c κs =
     let at = entry head in
     let fits = at.pre.1.2 in
     let m = head.loop.invariant at.pre.1.0 at.pre.1.1 in
-    let named = arcs-write-name c.lowest.result m.1 turn.loop-test.true c.lowest.ensures in
+    let named = arcs_write_name c.lowest.result m.1 turn.loop-test.true c.lowest.ensures in
     (at.pre.0.1, (named, at.pre.0.0))
 
 number-of-requires : tie.Need-number-of-requires invariant-loop decreases-loop
@@ -52,7 +52,7 @@ number-of-requires c κs =
     let fits = at.pre.1.2 in
     let m = head.loop.invariant at.pre.1.0 at.pre.1.1 in
     let t =
-    arcs-write-more after-lowest.lowest.result c.cell.result m.1 turn.loop-test.true
+    arcs_write_more after-lowest.lowest.result c.cell.result m.1 turn.loop-test.true
     after-lowest.lowest.ensures c.cell.ensures.value in
     t.target_low
 
@@ -64,7 +64,7 @@ narrow8-requires c κs =
     let at = entry head in
     let fits = at.pre.1.2 in
     let m = head.loop.invariant at.pre.1.0 at.pre.1.1 in
-    let named = arcs-write-name after-lowest.lowest.result m.1 turn.loop-test.true after-lowest.lowest.ensures in
+    let named = arcs_write_name after-lowest.lowest.result m.1 turn.loop-test.true after-lowest.lowest.ensures in
     omega arith
 
 put-arc-requires : tie.Need-put-arc-requires invariant-loop decreases-loop
@@ -79,7 +79,7 @@ put-arc-requires c κs =
     let fits = at.requires.1.2 in
     let m = head.loop.invariant at.requires.1.0 at.requires.1.1 in
     let t =
-    arcs-write-more after-lowest.lowest.result after-cell.cell.result m.1 turn.loop-test.true
+    arcs_write_more after-lowest.lowest.result after-cell.cell.result m.1 turn.loop-test.true
     after-lowest.lowest.ensures after-cell.cell.ensures.value in
     let group = after-cell.cell.result in
     let number = get_or at.args.numbers.now group 0 in
@@ -94,7 +94,7 @@ only-requires c κs =
     let at = entry head in
     let fits = at.pre.1.2 in
     let m = head.loop.invariant at.pre.1.0 at.pre.1.1 in
-    let named = arcs-write-name after-lowest.lowest.result m.1 turn.loop-test.true after-lowest.lowest.ensures in
+    let named = arcs_write_name after-lowest.lowest.result m.1 turn.loop-test.true after-lowest.lowest.ensures in
     named
 
 sub-left : tie.Need-overflow-sub-left invariant-loop decreases-loop
@@ -107,7 +107,7 @@ sub-left c =
     let fits = at.pre.1.2 in
     let m = head.loop.invariant at.pre.1.0 at.pre.1.1 in
     let t =
-    arcs-write-more after-lowest.lowest.result after-cell.cell.result m.1 turn.loop-test.true
+    arcs_write_more after-lowest.lowest.result after-cell.cell.result m.1 turn.loop-test.true
     after-lowest.lowest.ensures after-cell.cell.ensures.value in
     omega (arith, t.in_set, c.only.ensures)
 
@@ -121,7 +121,7 @@ loop-less c =
     let fits = at.pre.1.2 in
     let m = head.loop.invariant at.pre.1.0 at.pre.1.1 in
     let t =
-    arcs-write-more after-lowest.lowest.result after-cell.cell.result m.1 turn.loop-test.true
+    arcs_write_more after-lowest.lowest.result after-cell.cell.result m.1 turn.loop-test.true
     after-lowest.lowest.ensures after-cell.cell.ensures.value in
     omega (arith, t.in_set, t.some, c.only.ensures)
 
@@ -143,7 +143,7 @@ loop-again c =
     λ bytes given.
     let m = head.loop.invariant bytes given in
     let t =
-    arcs-write-more after-lowest.lowest.result after-cell.cell.result m.1 turn.loop-test.true
+    arcs_write_more after-lowest.lowest.result after-cell.cell.result m.1 turn.loop-test.true
     after-lowest.lowest.ensures after-cell.cell.ensures.value in (
       t.rest,
       t.after c.only.result c.only.ensures,
@@ -161,7 +161,7 @@ returns : tie.Need-returns invariant-loop decreases-loop
 returns c =
     λ bytes given.
     let m = c.before.loop.invariant bytes given in
-    left-none m.2 (arcs-write-done m.1 c.loop-test.false)
+    left-none m.2 (arcs_write_done m.1 c.loop-test.false)
 
 pub write-arcs-spec : {M : Type 1} → statement M
 write-arcs-spec =

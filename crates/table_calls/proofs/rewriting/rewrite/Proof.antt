@@ -6,7 +6,7 @@ use lib.ListN.{length}
 use Rattle.model.specs.Claims.{AllBytes}
 use Rattle.model.proofs.CallLaws.{gives_as, table_sizes}
 use Rattle.tables.proofs.TableLaws.{TableOpened, opened_table, opened_refused}
-use Rattle.table_calls.proofs.CallLaws.{rewrite_refused, rewrite-short, rewrite-copied}
+use Rattle.table_calls.proofs.CallLaws.{rewrite_refused, rewrite_short, rewrite_copied}
 use borrow.Author.Rules.{rules}
 use Rattle.table_calls.proofs.rewriting.rewrite.Statement.{statement}
 use Rattle.table_calls.proofs.rewriting.rewrite.Tie as tie
@@ -52,7 +52,7 @@ returns : tie.Need-returns
 returns c =
     let at = c.before.before.before in
     gives_as _ _ c.not_rewritten.ensures
-    (rewrite-short (table at) (work at) (out at) (bytes at) (opened at).not_refused (omega arith))
+    (rewrite_short (table at) (work at) (out at) (bytes at) (opened at).not_refused (omega arith))
 
 copy-in-requires : tie.Need-copy-in-requires
 copy-in-requires c κs = search rules
@@ -83,7 +83,7 @@ returns-2 : tie.Need-returns-2
 returns-2 c =
     let at = c.before.before.before.before.before.before.before in
     let copied = c.before.before.before.copy-in in
-    rewrite-copied (table at) (work at) (out at) (bytes at) (opened at).not_refused copied.new.0 _ (omega arith)
+    rewrite_copied (table at) (work at) (out at) (bytes at) (opened at).not_refused copied.new.0 _ (omega arith)
     copied.ensures.written (opened at).kept.items_are
 
 same-length-4 : tie.Need-same-length-4

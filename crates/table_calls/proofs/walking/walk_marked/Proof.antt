@@ -5,7 +5,7 @@ use native.Mathlib.Omega.{arith}
 use lib.Count.{ones-le}
 use lib.ListN.{length}
 use Rattle.model.specs.Calls.{table_states}
-use Rattle.table_calls.proofs.EndLaws.{state-inside, field-reached, ends-over}
+use Rattle.table_calls.proofs.EndLaws.{state-inside, field_reached, ends-over}
 use borrow.Author.Rules.{rules}
 use Rattle.table_calls.proofs.walking.walk_marked.Statement.{statement}
 use Rattle.table_calls.proofs.walking.walk_marked.Tie as tie
@@ -35,7 +35,7 @@ accepts-requires : tie.Need-accepts-requires
 accepts-requires c κs =
     let at = start c.before.before in
     let walked = c.before.before.walk-all in
-    field-reached at.args.table.now at.args.work.now at.args.row.now walked.result at.pre.0 walked.ensures
+    field_reached at.args.table.now at.args.work.now at.args.row.now walked.result at.pre.0 walked.ensures
     c.field_at_lem.result c.field_at_lem.ensures.value
 
 outcome-of-requires : tie.Need-outcome-of-requires

@@ -3,7 +3,7 @@ use mathlib.Core.Path.{◌∙◌}
 use native.Mathlib.Omega.{arith}
 use borrow.Author.Rules.{rules}
 use Rattle.model.specs.Calls.{table_states}
-use Rattle.tables.proofs.ReadyLaws.{ready-same}
+use Rattle.tables.proofs.ReadyLaws.{ready_same}
 use Rattle.table_calls.proofs.EndLaws.{start-dead, start-live}
 use Rattle.table_calls.proofs.walking.walk_over.Statement.{statement}
 use Rattle.table_calls.proofs.walking.walk_over.Tie as tie
@@ -35,7 +35,7 @@ walk-marked-requires c κs =
     let marking = c.before.before.before.before.before in
     let at = marking.before.before.before.before.before.before in
     let same = marking.mark-live.ensures.0 in (
-      ready-same at.args.table.now at.args.work.now at.requires.0 same.same_length same.same_fields,
+      ready_same at.args.table.now at.args.work.now at.requires.0 same.same_length same.same_fields,
       (marking.mark-live.ensures.1, at.requires.1.1.1),
     )
 

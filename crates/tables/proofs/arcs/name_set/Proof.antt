@@ -11,7 +11,7 @@ use Rattle.base.specs.Lists.{filter_by}
 use Rattle.model.specs.Tables.{Arc, arc, state_in, name_set}
 use Rattle.tables.specs.Arcs.{TargetsBelow, target_at, marked_arcs}
 use Rattle.tables.proofs.ArcLaws.{Left, ArcHere, arcs_from, arcs_all, arcs_turn, arcs_end, left-begins, arc-here, state-some}
-use Rattle.tables.proofs.Marks.{targets_turn, with_marked, marked-goes, marked-small}
+use Rattle.tables.proofs.Marks.{targets_turn, with_marked, marked_goes, marked_small}
 use Rattle.tables.proofs.arcs.name_set.Statement.{statement}
 use Rattle.tables.proofs.arcs.name_set.Tie as tie
 
@@ -93,9 +93,9 @@ loop-again c =
     let low : loop.names < 2 ^ a = omega (arith, loop.invariant.1.2, pow_mono {i = loop.invariant.1.0} {j = a} at.up) in
     let is = c.with-marked.ensures ∙ ap (λ (t : ℕ). with_marked marks loop.names a t) found.target_at.ensures.is in (
       at.whole,
-      (a + 1, at.after, marked-small marks loop.names a to more low is),
+      (a + 1, at.after, marked_small marks loop.names a to more low is),
       (targets_turn (arc a to) more (subst (TargetsBelow state_limit) arcs_are loop.invariant.2)).1,
-      marked-goes marks loop.names a to more low is
+      marked_goes marks loop.names a to more low is
           ∙ ap (λ (arcs : List Arc). loop.names + name_set (marked_arcs marks arcs)) (sym arcs_are)
           ∙ loop.invariant.3,
     )

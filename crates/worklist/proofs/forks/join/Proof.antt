@@ -6,7 +6,7 @@ use lib.ListN.{length}
 use borrow.Author.Rules.{rules}
 use Rattle.partition.proofs.ForestLaws.{forest_again}
 use Rattle.worklist.proofs.SizeLaws.{roots_by_states}
-use Rattle.worklist.proofs.ForkLaws.{pair-skipped, pair-joined}
+use Rattle.worklist.proofs.ForkLaws.{pair-skipped, pair_joined}
 use Rattle.worklist.proofs.forks.join.Statement.{statement}
 use Rattle.worklist.proofs.forks.join.Tie as tie
 
@@ -73,7 +73,7 @@ returns-2 c =
     let two = two-of c.before in
     let joins = joins_of two.before in
     let at = entry joins.before in
-    pair-joined at.pre.0 at.pre.1.1.1.1.0 at.pre.1.1.1.1.1
+    pair_joined at.pre.0 at.pre.1.1.1.1.0 at.pre.1.1.1.1.1
     (roots_by_states at.pre.0 joins.join.ensures) (lower_of two) c.merge.ensures at.pre.1.0.1
 
 pub join-spec : {M : Type 1} → statement M

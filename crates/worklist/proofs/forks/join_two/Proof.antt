@@ -3,7 +3,7 @@ use mathlib.Core.Path.{sym, ◌∙◌}
 use native.Mathlib.Omega.{arith}
 use borrow.Author.Rules.{rules}
 use Rattle.worklist.proofs.SizeLaws.{own-size, sorted_by_keys}
-use Rattle.worklist.proofs.ForkRounds.{united, closing-two, two-closed}
+use Rattle.worklist.proofs.ForkRounds.{united, closing_two, two_closed}
 use Rattle.worklist.proofs.forks.join_two.Statement.{statement}
 use Rattle.worklist.proofs.forks.join_two.Tie as tie
 
@@ -41,7 +41,7 @@ settle-requires c κs =
       (
         kept.0,
         united at.args.groups.now at.args.v at.args.w,
-        closing-two at.pre.0 at.pre.1.1.0 at.pre.1.1.1 kept.1 kept.2 joins.join.ensures,
+        closing_two at.pre.0 at.pre.1.1.0 at.pre.1.1.1 kept.1 kept.2 joins.join.ensures,
       ),
     )
 
@@ -53,7 +53,7 @@ returns c parents ready kept =
     let settles = c.before.before in
     let joins = joins_of settles.before in
     let at = entry joins.before in
-    two-closed at.pre.0 at.pre.1.1.0 at.pre.1.1.1 ready kept joins.join.ensures settles.settle.ensures
+    two_closed at.pre.0 at.pre.1.1.0 at.pre.1.1.1 ready kept joins.join.ensures settles.settle.ensures
 
 pub join-two-spec : {M : Type 1} → statement M
 join-two-spec = tie.close (tie.spec join-requires settle-requires same_length returns)

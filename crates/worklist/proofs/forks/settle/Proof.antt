@@ -9,7 +9,7 @@ use Rattle.partition.specs.Forests.{roots_of}
 use Rattle.worklist.specs.Lists.{pair_limit}
 use Rattle.worklist.specs.Forks.{Closing, SettledForks}
 use Rattle.worklist.proofs.SizeLaws.{own-size}
-use Rattle.worklist.proofs.ForkRounds.{settled_none, settled-more, settled-all}
+use Rattle.worklist.proofs.ForkRounds.{settled_none, settled-more, settled_all}
 use Rattle.worklist.proofs.forks.settle.Statement.{statement}
 use Rattle.worklist.proofs.forks.settle.Tie as tie
 
@@ -107,7 +107,7 @@ same_length : tie.Need-same-length invariant-loop decreases-loop
 same_length c = c.before.loop.invariant.forest.size ∙ sym (entry c.before).pre.0.size
 
 returns : tie.Need-returns invariant-loop decreases-loop
-returns c = settled-all c.before.loop.invariant (omega arith) (now-closing c.before).reached.order
+returns c = settled_all c.before.loop.invariant (omega arith) (now-closing c.before).reached.order
 
 pub settle-spec : {M : Type 1} → statement M
 settle-spec =

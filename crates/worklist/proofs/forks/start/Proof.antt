@@ -5,7 +5,7 @@ use lib.ListN.{length}
 use borrow.Author.Rules.{rules}
 use Rattle.partition.proofs.ForestLaws.{forest_again}
 use Rattle.worklist.proofs.SizeLaws.{own-size, fill_asked, flat_by_states}
-use Rattle.worklist.proofs.ForkLaws.{closing-filled, closing-opened, kept-closed}
+use Rattle.worklist.proofs.ForkLaws.{closing_filled, closing-opened, kept-closed}
 use Rattle.worklist.proofs.ForkRounds.{flat_coarser, round_ended}
 use Rattle.worklist.proofs.forks.start.Statement.{statement}
 use Rattle.worklist.proofs.forks.start.Tie as tie
@@ -34,7 +34,7 @@ same_length c = search rules
 returns : tie.Need-returns
 returns c =
     let at = entry c.before.before in
-    kept-closed (closing-filled at.pre.0 at.pre.1.0 at.pre.1.1.1 c.before.fill.ensures)
+    kept-closed (closing_filled at.pre.0 at.pre.1.0 at.pre.1.1.1 c.before.fill.ensures)
     (omega (arith, c.if1.true)) (λ x y hx hy e. e)
 
 settle-requires : tie.Need-settle-requires
@@ -45,7 +45,7 @@ settle-requires c κs =
       (
         at.args.parents.now,
         at.args.groups.now,
-        closing-opened (closing-filled at.pre.0 at.pre.1.0 at.pre.1.1.1 fills.fill.ensures),
+        closing-opened (closing_filled at.pre.0 at.pre.1.0 at.pre.1.1.1 fills.fill.ensures),
       ),
     )
 
@@ -65,7 +65,7 @@ returns-2 c =
     let fills = fills_of settles.before in
     let at = entry fills.before in
     round_ended at.pre.0.names_size flat.flatten.ensures (flat_coarser at.pre.1.0)
-    (closing-opened (closing-filled at.pre.0 at.pre.1.0 at.pre.1.1.1 fills.fill.ensures))
+    (closing-opened (closing_filled at.pre.0 at.pre.1.0 at.pre.1.1.1 fills.fill.ensures))
     settles.settle.ensures
 
 pub start_spec : {M : Type 1} → statement M

@@ -14,7 +14,7 @@ use Rattle.base.proofs.Tests.{Tells, not_told, tells_and, tells_ltb}
 use Rattle.indexed.specs.Trees.{Arrays}
 use Rattle.indexed.specs.Partitions.{Share}
 use Rattle.partition.specs.Forests.{Forest, roots_of}
-use Rattle.partition.proofs.ForestLaws.{roots-labelled}
+use Rattle.partition.proofs.ForestLaws.{roots_labelled}
 use Rattle.worklist.specs.Forks.{ForkLists}
 use Rattle.worklist.proofs.ListLaws.{left}
 use Rattle.worklist.proofs.SearchLaws.{share_groups, share_none, Walking, walking_start, walking_on, walking-less}
@@ -57,7 +57,7 @@ root-again :
     (groups : List ℕ) (v r : ℕ) → Forest (length groups) groups → v < length groups → r ≡ get_or (roots_of groups) v 0 →
     get_or (roots_of groups) r 0 ≡ r
 root-again groups v r forest inside is =
-    ap (λ (g : ℕ). get_or (roots_of groups) g 0) is ∙ (roots-labelled (length groups) groups forest).own v inside ∙ sym is
+    ap (λ (g : ℕ). get_or (roots_of groups) g 0) is ∙ (roots_labelled (length groups) groups forest).own v inside ∙ sym is
 
 lead-after-shared-slice-read-if1 : (t : ℕ) → lead-after-lts.Need-shared-slice-read-if1 (
   root-reads.Asked,
