@@ -2,7 +2,7 @@
 -- answered; the same with the answer seen as another; what follows for callers; the sizes of what is lent; when a table is accepted, and
 -- by what a walk over it is judged. Assumes nothing.
 use mathlib.Core.Path.{◌≡◌, refl, sym, ap, ◌∙◌, subst}
-use mathlib.Core.Bool.{Bool, true, false, cond, ◌||◌, not, or_false}
+use mathlib.Core.Bool.{Bool, true, false, cond, ◌||◌, not, or-false}
 use mathlib.Core.List.{List, [], ◌∷◌}
 use Prim.Native.Nat.{ℕ, zero, suc, ◌≤◌, ◌<◌}
 use native.Mathlib.Omega.{arith}
@@ -205,7 +205,7 @@ module _ {A : Type 0} (c : Call A) (bytes out : List ℕ) (one : c.writes ≡ by
   -- whether the output is too short
   pub short_is : too_short c.writes (out ∷ []) ≡ ltb (length out) (length bytes)
   unfolding too_short
-  short_is = ap (λ (ws : List (List ℕ)). too_short ws (out ∷ [])) one ∙ or_false (ltb (length out) (length bytes))
+  short_is = ap (λ (ws : List (List ℕ)). too_short ws (out ∷ [])) one ∙ or-false (ltb (length out) (length bytes))
 
   pub call-one_short :
       c.refusal ≡ 0 → length out < length bytes → Gives c (out ∷ []) (out ∷ []) (c.none output_too_short)

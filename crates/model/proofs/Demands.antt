@@ -168,18 +168,18 @@ module _ (settings : Settings) (allowed : Allowed settings) where
           (Memᴰ.append_left b.0 (Memᴰ.append_right w (here refl)))
 
   -- the table of a book is read back: its names, its class and its states
-  pub read_table :
+  pub read_table_lem :
       (s : List ℕ) → Accepted settings s →
       read_table (book_table (book_of settings s))
       ≡ accepted_file (file 3 (book_of settings s).names (book_of settings s).class_is (map state_body (book_states (book_of settings s))))
   unfolding book_table
-  read_table s ok = reads-written settings allowed s (book_states (book_of settings s)) ok (book_writable s ok)
+  read_table_lem s ok = reads-written settings allowed s (book_states (book_of settings s)) ok (book_writable s ok)
 
   -- and its states are the book's
   read_states : (s : List ℕ) → Accepted settings s → table_states (book_table (book_of settings s)) ≡ book_states (book_of settings s)
   unfolding table_states table_of
   read_states s ok =
-      ap (λ (r : Read). states_in r.file_is.items) (read_table s ok)
+      ap (λ (r : Read). states_in r.file_is.items) (read_table_lem s ok)
       ∙ states_read_back (book_states (book_of settings s))
 
   -- it takes few bytes
@@ -193,7 +193,7 @@ module _ (settings : Settings) (allowed : Allowed settings) where
   read_no_fault s work ok long =
       table_accepted (book_table (book_of settings s)) work
       (record { input_fits = omega (arith, table_length s ok); work_fits = long })
-      (ap (λ (r : Read). r.number) (read_table s ok)) (ap is_first_met (read_states s ok) ∙ (book_writable s ok).first_met)
+      (ap (λ (r : Read). r.number) (read_table_lem s ok)) (ap is_first_met (read_states s ok) ∙ (book_writable s ok).first_met)
 
   -- tables read back as they were written
   pub reads_back : ReadsBack settings

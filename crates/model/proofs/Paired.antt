@@ -79,9 +79,9 @@ module _ {R : ℕ → ℕ → Type 0} (one-to-one : (g g' h h' : ℕ) → R g g'
       {met met' : List ℕ} {arcs arcs' : List Arc} → Paired R met met' → Paired (ArcsAgree R) arcs arcs' →
       Paired R (met_with met arcs) (met_with met' arcs')
   unfolding met_with
-  met_with-paired m none = m
+  met_with-paired {met} {met'} m none = m
   met_with-paired {met} {met'} m (pair {a = a} {b = b} s rest) =
-      met_with-paired
+      met_with-paired {met = cond (is_in a.to met) met (met ++ (a.to ∷ []))} {met' = cond (is_in b.to met') met' (met' ++ (b.to ∷ []))}
       (paired_cond (is_in a.to met) (is_in b.to met') (is_in-paired a.to b.to s.targets m) (λ e. m)
       (paired_append m (pair s.targets none)))
       rest
