@@ -74,13 +74,13 @@ module _ (settings : Settings) (allowed : Allowed settings) (s : List ℕ) (ok :
   built-ascend = ascending_at (built_states settings s) built-writable.ascending
 
   -- which the test tells
-  is_live : (q : ℕ) → q < length (built_states settings s) → is_live (built_states settings s) q ≡ true
-  is_live q low = (tells_live (built_states settings s) built-ascend q).test (built-live q low)
+  is_live_lem : (q : ℕ) → q < length (built_states settings s) → is_live (built_states settings s) q ≡ true
+  is_live_lem q low = (tells_live (built_states settings s) built-ascend q).test (built-live q low)
 
   arcs_live :
       (x : State) (a : Arc) → In x (built_states settings s) → In a x.arcs → is_live (built_states settings s) a.to ≡ true
-  arcs_live x a m n = is_live a.to (built-writable.targets_below x a m n)
+  arcs_live x a m n = is_live_lem a.to (built-writable.targets_below x a m n)
 
   -- so no arc goes, and every walk tells what the walk alone tells
   pub as_before : (row : Word) → live_walk (built_states settings s) row ≡ plain_walk (built_states settings s) row
-  as_before = walk_same (built_states settings s) arcs_live (is_live 0 (omega (arith, built-writable.some_state)))
+  as_before = walk_same (built_states settings s) arcs_live (is_live_lem 0 (omega (arith, built-writable.some_state)))
