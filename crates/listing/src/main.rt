@@ -1,27 +1,45 @@
 // The listing program (docs/SCOPE.md, section 8): reads a book from standard input and prints its listing,
 // or `refused` and the refusal's number. Given arguments, it says how it is used, and reads nothing.
-use base::limits::LISTING_BYTES;
-use libc::{STDERR_FILENO, STDIN_FILENO, STDOUT_FILENO};
-use plans::printing::print_book;
+// A read or a write that fails ends it with status 1, and so does memory that is refused.
+#![tactic(auto)]
 
-fn main() {
-    if 1 < os::arg_count() {
-        io::write_all(
-            STDERR_FILENO,
-            b"usage: listing < days.book (it takes no arguments; plans list days.txt reads texts too)\n",
+use base::limits::{INPUT_LIMIT, LISTING_BYTES, WORK_BYTES};
+use plans::printing::print_book;
+use std::alloc::Global;
+use std::env::{Env, FillError};
+use std::io;
+use std::io::{Input, Read};
+
+fn main(rt: HostRuntime) -> io::Result<()> {
+    if has_arguments(&rt) {
+        return eprintln!(rt;
+            "usage: listing < days.book (it takes no arguments; plans list days.txt reads texts too)"
         );
-        return;
     }
-    list_input();
+    list_input(&rt)
+}
+
+// Whether there is an argument after the program's name: one too long to be copied is one as well.
+fn has_arguments(rt: &impl Env) -> bool {
+    let mut first = [0u8; 1];
+    match rt.arg(1, &mut first) {
+        Err(FillError::NotPresent) => false,
+        _ => true,
+    }
+}
+
+// All of an input, or so much of it as shows that it is over the longest.
+fn read_book<R: Read + Drop>(alloc: Global, input: R) -> io::Result<Vec<u8>> {
+    let mut book = Vec::new(alloc);
+    input.take(INPUT_LIMIT as u64 + 1).read_to_end(&mut book)?;
+    Ok(book)
 }
 
 // The listing of the book on standard input.
-fn list_input() {
-    // 65,536 bytes show that an input is over 65,535.
-    let mut book = io::large_buffer();
-    let size = io::read_full(STDIN_FILENO, &mut book);
-    let mut work = io::large_buffer();
+fn list_input(rt: &(impl Input + Print + AllocGlobal)) -> io::Result<()> {
+    let book = read_book(rt.alloc(), rt.reader())?;
+    let mut work = [0u8; WORK_BYTES];
     let mut text = [0u8; LISTING_BYTES];
-    let length = print_book(&book[..size], &mut work, &mut text);
-    io::write_all(STDOUT_FILENO, &text[..length]);
+    let length = print_book(book.as_slice(), &mut work, &mut text);
+    rt.write_all(&text[..length])
 }

@@ -1,10 +1,10 @@
 // The edges of docs/SCOPE.md, section 10.1, for books, one line each: what was tried, and the first line of the listing that it comes to.
-ghost use Rattle.std.specs.Prelude.{◌≤◌};
-ghost use Rattle.io.specs.Counts.{IsPrefixLen};
+ghost use Rattle.std.specs.Prelude.{◌≤◌, length};
 
-use crate::parts::{NAME, ROOM, count, put, put_names, say};
+use crate::parts::{NAME, ROOM, buffer, count, large_buffer, put, put_names, say};
 use base::limits::LISTING_BYTES;
 use plans::printing::print_book;
+use std::io;
 
 // A row of one snack.
 const ROW: [u8; 4] = *b"\x03\x00\x01\x00";
@@ -14,42 +14,39 @@ const EXAMPLE: [u8; 19] = *b"\x01\x00\x05snack\x02\x00\x03\x00\x01\x01\x03\x00\x
 
 // Where the first line of a text ends.
 fn line_end(text: &[u8]) -> usize
-    ensures { IsPrefixLen result text.now }
+    ensures { result ≤ length text.now }
 {
-    let mut i = 0;
-    while i < text.len() {
-        if text[i] == b'\n' {
-            return i + 1;
-        }
-        i += 1;
+    match text.iter().position(|byte| *byte == b'\n') {
+        Some(i) => i + 1,
+        None => text.len(),
     }
-    i
 }
 
 // What was tried, and the first line of the text that came of it.
-fn say_line(tried: &[u8], text: &[u8]) {
+fn say_line(rt: &impl Print, tried: &str, text: &[u8]) -> io::Result<()> {
     let end = line_end(text);
-    say(tried, &text[..end]);
+    say(rt, tried, &text[..end])
 }
 
 // A book listed.
-fn book(tried: &[u8], bytes: &[u8]) {
-    let mut work = io::large_buffer();
+fn book(rt: &impl Print, tried: &str, bytes: &[u8]) -> io::Result<()> {
+    let mut work = large_buffer();
     let mut text = [0u8; LISTING_BYTES];
     let length = print_book(bytes, &mut work, &mut text);
-    say_line(tried, &text[..length]);
+    say_line(rt, tried, &text[..length])
 }
 
 // The book that stands before `end`.
-fn book_before(tried: &[u8], bytes: &[u8], end: usize) {
+fn book_before(rt: &impl Print, tried: &str, bytes: &[u8], end: usize) -> io::Result<()> {
     if end <= bytes.len() {
-        book(tried, &bytes[..end]);
+        return book(rt, tried, &bytes[..end]);
     }
+    Ok(())
 }
 
 // The same in a buffer. (Of an array behind a reference the prover lends only the whole.)
-fn book_in(tried: &[u8], buffer: &[u8; ROOM], end: usize) {
-    book_before(tried, buffer, end);
+fn book_in(rt: &impl Print, tried: &str, buffer: &[u8; ROOM], end: usize) -> io::Result<()> {
+    book_before(rt, tried, buffer, end)
 }
 
 // Appends so many rows of one snack.
@@ -58,10 +55,8 @@ fn put_rows(out: &mut [u8; ROOM], from: usize, count: usize) -> usize
     ensures { result ≤ 4096 }
 {
     let mut at = from;
-    let mut i = 0;
-    while i < count {
+    for _ in 0..count {
         at = put(out, at, &ROW);
-        i += 1;
     }
     at
 }
@@ -80,157 +75,173 @@ fn put_twelve(out: &mut [u8; ROOM]) -> usize
     ensures { result ≤ 4096 }
 {
     let mut at = put_names(out, 13);
-    let mut first: u8 = 0;
-    while first < 12 {
+    for first in 0..12u8 {
         at = put_long_row(out, at, first);
-        first += 1;
     }
     at
 }
 
 // The example built with what is lent: the refusal's number.
-fn build(tried: &[u8], work: &mut [u8], out: &mut [u8]) {
+fn build(rt: &impl Print, tried: &str, work: &mut [u8], out: &mut [u8]) -> io::Result<()> {
     let built = plans::build_table(&EXAMPLE, work, out);
-    count(tried, b"refused ", built.refusal as u64);
+    count(rt, tried, "refused ", built.refusal as u64)
 }
 
 // A book listed with what is lent: the refusal's number, or how many bytes were written.
-fn list(tried: &[u8], bytes: &[u8], work: &mut [u8], text: &mut [u8]) {
+fn list(
+    rt: &impl Print,
+    tried: &str,
+    bytes: &[u8],
+    work: &mut [u8],
+    text: &mut [u8],
+) -> io::Result<()> {
     let listed = plans::list_book(bytes, work, text);
     if listed.refusal != 0 {
-        count(tried, b"refused ", listed.refusal as u64);
+        count(rt, tried, "refused ", listed.refusal as u64)
     } else {
-        count(tried, b"bytes ", listed.length as u64);
+        count(rt, tried, "bytes ", listed.length as u64)
     }
 }
 
 // What is lent: 1 and 13.
-pub fn lent() {
-    let long = io::large_buffer();
-    book(b"an input of 65,536 bytes", &long);
-    let mut work = io::large_buffer();
-    let mut short = io::buffer();
-    let mut out = io::buffer();
+pub fn lent(rt: &impl Print) -> io::Result<()> {
+    let long = large_buffer();
+    book(rt, "an input of 65,536 bytes", &long)?;
+    let mut work = large_buffer();
+    let mut short = buffer();
+    let mut out = buffer();
     build(
-        b"a build with a working area of 4,096 bytes",
+        rt,
+        "a build with a working area of 4,096 bytes",
         &mut short,
         &mut out,
-    );
+    )?;
     let mut few = [0u8; 27];
     build(
-        b"a build with an output one byte shorter than the table",
+        rt,
+        "a build with an output one byte shorter than the table",
         &mut work,
         &mut few,
-    );
+    )
 }
 
 // The same of listings; and that a refused one leaves the text as it was.
-pub fn listings() {
-    let mut work = io::large_buffer();
-    let mut short = io::buffer();
+pub fn listings(rt: &impl Print) -> io::Result<()> {
+    let mut work = large_buffer();
+    let mut short = buffer();
     let mut text = [0u8; LISTING_BYTES];
     list(
-        b"a listing with enough lent",
+        rt,
+        "a listing with enough lent",
         &EXAMPLE,
         &mut work,
         &mut text,
-    );
+    )?;
     list(
-        b"a listing with a working area of 4,096 bytes",
+        rt,
+        "a listing with a working area of 4,096 bytes",
         &EXAMPLE,
         &mut short,
         &mut text,
-    );
+    )?;
     let mut just = [0u8; 52];
     list(
-        b"a listing with a text just as long",
+        rt,
+        "a listing with a text just as long",
         &EXAMPLE,
         &mut work,
         &mut just,
-    );
+    )?;
     let mut few = [0u8; 51];
     list(
-        b"a listing with a text one byte shorter",
+        rt,
+        "a listing with a text one byte shorter",
         &EXAMPLE,
         &mut work,
         &mut few,
-    );
+    )?;
     let mut kept = *b"as it was\n";
-    list(b"a listing of an empty book", b"", &mut work, &mut kept);
-    say(b"its text afterwards", &kept);
+    list(rt, "a listing of an empty book", b"", &mut work, &mut kept)?;
+    say(rt, "its text afterwards", &kept)
 }
 
 // The refusals of fields that short books show: 2 to 6.
-pub fn fields() {
-    book(b"a field that runs past the end", b"\x01\x00\x05snac");
-    book(b"a state in a book", b"\x01\x00\x05snack\x04\x00\x01\x01");
-    book(b"empty input", b"");
-    book(b"no rows", b"\x01\x00\x05snack\x02\x00\x03\x00\x01\x01");
-    book(b"a name that begins with a digit", b"\x01\x00\x055nack");
+pub fn fields(rt: &impl Print) -> io::Result<()> {
+    book(rt, "a field that runs past the end", b"\x01\x00\x05snac")?;
     book(
-        b"a name equal to the one before",
+        rt,
+        "a state in a book",
+        b"\x01\x00\x05snack\x04\x00\x01\x01",
+    )?;
+    book(rt, "empty input", b"")?;
+    book(rt, "no rows", b"\x01\x00\x05snack\x02\x00\x03\x00\x01\x01")?;
+    book(rt, "a name that begins with a digit", b"\x01\x00\x055nack")?;
+    book(
+        rt,
+        "a name equal to the one before",
         b"\x01\x00\x05snack\x01\x00\x05snack",
-    );
+    )
 }
 
 // Names: 7, and what just passes.
-pub fn names() {
-    let mut out = io::buffer();
+pub fn names(rt: &impl Print) -> io::Result<()> {
+    let mut out = buffer();
     let most = put_names(&mut out, 64);
     let end = put(&mut out, most, &ROW);
-    book_in(b"64 names", &out, end);
+    book_in(rt, "64 names", &out, end)?;
     let more = put_names(&mut out, 65);
-    book_in(b"65 names", &out, more);
+    book_in(rt, "65 names", &out, more)
 }
 
 // A book of one snack with this class.
-fn class(tried: &[u8], kind: u8, first: u8, second: u8) {
-    let mut out = io::buffer();
+fn class(rt: &impl Print, tried: &str, kind: u8, first: u8, second: u8) -> io::Result<()> {
+    let mut out = buffer();
     let name = put(&mut out, 0, &NAME);
     let settings = put(&mut out, name, &[2, 0, 3, kind, first, second]);
     let end = put(&mut out, settings, &ROW);
-    book_in(tried, &out, end);
+    book_in(rt, tried, &out, end)
 }
 
 // Classes: 8, and what just passes.
-pub fn classes() {
-    class(b"k = 8, h = 8", 0, 8, 8);
-    class(b"k = 9, h = 1", 0, 9, 1);
-    class(b"k = 2, h = 0", 0, 2, 0);
-    class(b"k = 2, h = 3", 0, 2, 3);
-    class(b"the last 8 names", 2, 8, 0);
-    class(b"the last 9 names", 2, 9, 0);
-    class(b"a seen set with a setting", 1, 1, 0);
-    class(b"a class of kind 3", 3, 0, 0);
+pub fn classes(rt: &impl Print) -> io::Result<()> {
+    class(rt, "k = 8, h = 8", 0, 8, 8)?;
+    class(rt, "k = 9, h = 1", 0, 9, 1)?;
+    class(rt, "k = 2, h = 0", 0, 2, 0)?;
+    class(rt, "k = 2, h = 3", 0, 2, 3)?;
+    class(rt, "the last 8 names", 2, 8, 0)?;
+    class(rt, "the last 9 names", 2, 9, 0)?;
+    class(rt, "a seen set with a setting", 1, 1, 0)?;
+    class(rt, "a class of kind 3", 3, 0, 0)
 }
 
 // Rows: 7 and 9, and what just passes.
-pub fn rows() {
-    let mut out = io::buffer();
+pub fn rows(rt: &impl Print) -> io::Result<()> {
+    let mut out = buffer();
     let name = put(&mut out, 0, &NAME);
     let most = put_rows(&mut out, name, 256);
-    book_in(b"256 rows", &out, most);
+    book_in(rt, "256 rows", &out, most)?;
     let more = put_rows(&mut out, name, 257);
-    book_in(b"257 rows", &out, more);
+    book_in(rt, "257 rows", &out, more)?;
     let long = put_long_row(&mut out, name, 0);
-    book_in(b"a row of 40", &out, long);
+    book_in(rt, "a row of 40", &out, long)?;
     let head = put(&mut out, name, &[3, 0, 41]);
     let longer = put(&mut out, head, &[0u8; 41]);
-    book_in(b"a row of 41", &out, longer);
+    book_in(rt, "a row of 41", &out, longer)?;
     book(
-        b"an entry that is no name's number",
+        rt,
+        "an entry that is no name's number",
         b"\x01\x00\x05snack\x03\x00\x01\x01",
-    );
+    )
 }
 
 // Prefix trees: 10, and what just passes. Thirteen rows with different first names, twelve of 40 and the last of 31 or 32.
-pub fn trees() {
-    let mut out = io::buffer();
+pub fn trees(rt: &impl Print) -> io::Result<()> {
+    let mut out = buffer();
     let twelve = put_twelve(&mut out);
     let head = put(&mut out, twelve, &[3, 0, 31, 12]);
     let fewer = put(&mut out, head, &[0u8; 30]);
-    book_in(b"a prefix tree of 512 states", &out, fewer);
+    book_in(rt, "a prefix tree of 512 states", &out, fewer)?;
     let longer = put(&mut out, twelve, &[3, 0, 32, 12]);
     let more = put(&mut out, longer, &[0u8; 31]);
-    book_in(b"a prefix tree of 513 states", &out, more);
+    book_in(rt, "a prefix tree of 513 states", &out, more)
 }

@@ -1,79 +1,89 @@
 // The worked days and the sources' examples, as files, each with its listing; then the edges of docs/SCOPE.md, of books each with the first
 // line that it comes to, of tables, walks and plans each with the refusal's number or 0. The file `stdout` has what docs/SCOPE.md gives,
-// and for the sources' examples the listings of examples/sources.
+// and for the sources' examples the listings of examples/sources. A read or a write that fails ends it with status 1.
+#![tactic(auto)]
+
 mod books;
 mod parts;
 mod reading;
 mod tables;
 
-use base::limits::LISTING_BYTES;
-use libc::STDOUT_FILENO;
+use base::limits::{INPUT_LIMIT, LISTING_BYTES};
+use parts::large_buffer;
 use plans::printing::print_book;
+use std::alloc::Global;
+use std::io::Read;
+use std::rt::Files;
+use std::{fs, io};
 
 // The days and the example of docs/SCOPE.md, and three days more. One more is a file in data/ and a line here.
-fn days() {
-    day(b"P1.book");
-    day(b"P2.book");
-    day(b"P3.book");
-    day(b"P4.book");
-    day(b"P5.book");
-    day(b"P6.book");
-    day(b"P7.book");
-    day(b"P8.book");
-    day(b"P9.book");
-    day(b"P10.book");
-    day(b"P11.book");
-    day(b"P12.book");
-    day(b"Q1.book");
-    day(b"Q2.book");
-    day(b"Q3.book");
-    day(b"example.book");
+fn days(rt: &(impl Files + Print + Eprint + AllocGlobal)) -> io::Result<()> {
+    day(rt, "P1.book")?;
+    day(rt, "P2.book")?;
+    day(rt, "P3.book")?;
+    day(rt, "P4.book")?;
+    day(rt, "P5.book")?;
+    day(rt, "P6.book")?;
+    day(rt, "P7.book")?;
+    day(rt, "P8.book")?;
+    day(rt, "P9.book")?;
+    day(rt, "P10.book")?;
+    day(rt, "P11.book")?;
+    day(rt, "P12.book")?;
+    day(rt, "Q1.book")?;
+    day(rt, "Q2.book")?;
+    day(rt, "Q3.book")?;
+    day(rt, "example.book")
 }
 
 // The sources' examples, from the surfaces of document 000 and the entries of document 002.
-fn sources() {
-    day(b"example_32.book");
-    day(b"surface_inventaris.book");
-    day(b"surface_boek.book");
-    day(b"surface_schrijver.book");
-    day(b"surface_text.book");
-    day(b"entry_2_2.book");
-    day(b"entry_2_1.book");
+fn sources(rt: &(impl Files + Print + Eprint + AllocGlobal)) -> io::Result<()> {
+    day(rt, "example_32.book")?;
+    day(rt, "surface_inventaris.book")?;
+    day(rt, "surface_boek.book")?;
+    day(rt, "surface_schrijver.book")?;
+    day(rt, "surface_text.book")?;
+    day(rt, "entry_2_2.book")?;
+    day(rt, "entry_2_1.book")
 }
 
-// The name of a file, and its book's listing.
-fn day(name: &[u8]) {
-    let file = os::open_read(name);
-    if file < 0 {
-        os::fail(name);
-        return;
+// The name of a file, and its book's listing; of a file that cannot be opened what is wrong with it, on standard error.
+fn day(rt: &(impl Files + Print + Eprint + AllocGlobal), name: &str) -> io::Result<()> {
+    match fs::open(rt, name) {
+        Ok(file) => {
+            let book = read_book(rt.alloc(), file)?;
+            println!(rt; "{name}")?;
+            list(rt, book.as_slice())
+        }
+        Err(problem) => eprintln!(rt; "{name}: {problem}"),
     }
-    let mut book = io::large_buffer();
-    let size = io::read_full(file, &mut book);
-    libc::close(file);
-    io::write_all(STDOUT_FILENO, name);
-    io::write_all(STDOUT_FILENO, b"\n");
-    list(&book[..size]);
+}
+
+// All of a file, or so much of it as shows that it is over the longest input.
+fn read_book<R: Read + Drop>(alloc: Global, file: R) -> io::Result<Vec<u8>> {
+    let mut book = Vec::new(alloc);
+    file.take(INPUT_LIMIT as u64 + 1).read_to_end(&mut book)?;
+    Ok(book)
 }
 
 // A book's listing.
-fn list(book: &[u8]) {
-    let mut work = io::large_buffer();
+fn list(rt: &impl Print, book: &[u8]) -> io::Result<()> {
+    let mut work = large_buffer();
     let mut text = [0u8; LISTING_BYTES];
     let length = print_book(book, &mut work, &mut text);
-    io::write_all(STDOUT_FILENO, &text[..length]);
+    rt.write_all(&text[..length])
 }
 
-fn main() {
-    days();
-    sources();
-    books::lent();
-    books::listings();
-    books::fields();
-    books::names();
-    books::classes();
-    books::rows();
-    books::trees();
-    tables::all();
-    reading::rows();
+fn main(rt: HostRuntime) -> io::Result<()> {
+    days(&rt)?;
+    sources(&rt)?;
+    books::lent(&rt)?;
+    books::listings(&rt)?;
+    books::fields(&rt)?;
+    books::names(&rt)?;
+    books::classes(&rt)?;
+    books::rows(&rt)?;
+    books::trees(&rt)?;
+    tables::all(&rt)?;
+    reading::rows(&rt)
 }

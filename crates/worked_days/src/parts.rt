@@ -1,7 +1,8 @@
-// What the edges of books and of tables share: a file put together in a buffer, and the line that says what came of it.
-ghost use Rattle.std.specs.Prelude.{◌≤◌};
+// What the edges of books and of tables share: memory to lend, a file put together in a buffer, and the line that says what came of it.
+ghost use Rattle.std.specs.Prelude.{◌≡◌, ◌≤◌, length};
 
-use libc::STDOUT_FILENO;
+use base::limits::WORK_BYTES;
+use std::io;
 use writing::copy_in;
 
 // The size of the buffer.
@@ -9,6 +10,20 @@ pub const ROOM: usize = 4096;
 
 // One name, snack.
 pub const NAME: [u8; 8] = *b"\x01\x00\x05snack";
+
+// A buffer of zeros.
+pub fn buffer() -> [u8; ROOM]
+    ensures { length result ≡ 4096 }
+{
+    [0; ROOM]
+}
+
+// 65,536 zeros: a working area, and an input that is too long.
+pub fn large_buffer() -> [u8; WORK_BYTES]
+    ensures { length result ≡ 65536 }
+{
+    [0; WORK_BYTES]
+}
 
 // Appends a part to what the buffer holds before `at`; a part that does not fit is left out.
 pub fn put(out: &mut [u8; ROOM], at: usize, part: &[u8]) -> usize
@@ -26,25 +41,20 @@ pub fn put_names(out: &mut [u8; ROOM], count: u8) -> usize
     ensures { result ≤ 4096 }
 {
     let mut at = 0;
-    let mut i: u8 = 0;
-    while i < count {
+    for i in 0..count {
         let name = [1, 0, 3, b'a', b'0' + i / 10, b'0' + i % 10];
         at = put(out, at, &name);
-        i += 1;
     }
     at
 }
 
 // What was tried, and what came of it.
-pub fn say(tried: &[u8], line: &[u8]) {
-    io::write_all(STDOUT_FILENO, tried);
-    io::write_all(STDOUT_FILENO, b": ");
-    io::write_all(STDOUT_FILENO, line);
+pub fn say(rt: &impl Print, tried: &str, line: &[u8]) -> io::Result<()> {
+    print!(rt; "{tried}: ")?;
+    rt.write_all(line)
 }
 
 // What was tried, and a number.
-pub fn count(tried: &[u8], word: &[u8], number: u64) {
-    say(tried, word);
-    io::print_decimal(STDOUT_FILENO, number);
-    io::write_all(STDOUT_FILENO, b"\n");
+pub fn count(rt: &impl Print, tried: &str, word: &str, number: u64) -> io::Result<()> {
+    println!(rt; "{tried}: {word}{number}")
 }

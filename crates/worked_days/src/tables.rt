@@ -1,7 +1,8 @@
 // The edges of docs/SCOPE.md, section 10.1, for tables and walks, one line each: what was tried, and the refusal's number, or 0.
 ghost use Rattle.std.specs.Prelude.{◌≤◌};
 
-use crate::parts::{NAME, ROOM, count, put, put_names};
+use crate::parts::{NAME, ROOM, buffer, count, large_buffer, put, put_names};
+use std::io;
 
 // A class field: context, k = 1, h = 1. Then the example table of docs/SCOPE.md, section 8.
 const CLASS: [u8; 6] = *b"\x02\x00\x03\x00\x01\x01";
@@ -22,140 +23,162 @@ fn put_chain(out: &mut [u8; ROOM], from: usize, count: usize) -> usize
     ensures { result ≤ 4096 }
 {
     let mut at = from;
-    let mut i = 0;
-    while i < count {
-        i += 1;
-        let state = [4, 0, 4, 0, 0, (i / 256 % 256) as u8, (i % 256) as u8];
+    for i in 0..count {
+        let next = i + 1;
+        let state = [4, 0, 4, 0, 0, (next / 256 % 256) as u8, (next % 256) as u8];
         at = put(out, at, &state);
     }
     at
 }
 
 // A table rewritten into an output that is long enough for it.
-fn table(tried: &[u8], bytes: &[u8]) {
-    let mut work = io::large_buffer();
-    let mut out = io::buffer();
+fn table(rt: &impl Print, tried: &str, bytes: &[u8]) -> io::Result<()> {
+    let mut work = large_buffer();
+    let mut out = buffer();
     let built = plans::rewrite_table(bytes, &mut work, &mut out);
-    count(tried, b"", built.refusal as u64);
+    count(rt, tried, "", built.refusal as u64)
 }
 
 // The table that stands before `end`.
-fn table_before(tried: &[u8], bytes: &[u8], end: usize) {
+fn table_before(rt: &impl Print, tried: &str, bytes: &[u8], end: usize) -> io::Result<()> {
     if end <= bytes.len() {
-        table(tried, &bytes[..end]);
+        return table(rt, tried, &bytes[..end]);
     }
+    Ok(())
 }
 
 // The same in a buffer. (Of an array behind a reference the prover lends only the whole.)
-fn table_in(tried: &[u8], buffer: &[u8; ROOM], end: usize) {
-    table_before(tried, buffer, end);
+fn table_in(rt: &impl Print, tried: &str, buffer: &[u8; ROOM], end: usize) -> io::Result<()> {
+    table_before(rt, tried, buffer, end)
 }
 
 // A row walked over the table of P2.
-fn row(tried: &[u8], names: &[u8]) {
-    let mut work = io::large_buffer();
+fn row(rt: &impl Print, tried: &str, names: &[u8]) -> io::Result<()> {
+    let mut work = large_buffer();
     let walked = plans::plans_walk(&P2, names, &mut work);
-    count(tried, b"", walked.refusal as u64);
+    count(rt, tried, "", walked.refusal as u64)
 }
 
 // Sizes: 1 and 13.
-fn sizes() {
-    let long = io::large_buffer();
-    table(b"an input of 65,536 bytes", &long);
-    let mut short = io::buffer();
-    let mut out = io::buffer();
+fn sizes(rt: &impl Print) -> io::Result<()> {
+    let long = large_buffer();
+    table(rt, "an input of 65,536 bytes", &long)?;
+    let mut short = buffer();
+    let mut out = buffer();
     let built = plans::rewrite_table(&GOOD, &mut short, &mut out);
-    count(b"a working area of 4,096 bytes", b"", built.refusal as u64);
-    let mut work = io::large_buffer();
+    count(
+        rt,
+        "a working area of 4,096 bytes",
+        "",
+        built.refusal as u64,
+    )?;
+    let mut work = large_buffer();
     let mut few = [0u8; 27];
     let cut = plans::rewrite_table(&GOOD, &mut work, &mut few);
     count(
-        b"an output one byte shorter than the table",
-        b"",
+        rt,
+        "an output one byte shorter than the table",
+        "",
         cut.refusal as u64,
-    );
+    )?;
     let mut enough = [0u8; 28];
     let whole = plans::rewrite_table(&GOOD, &mut work, &mut enough);
-    count(b"an output as long as the table", b"", whole.refusal as u64);
+    count(
+        rt,
+        "an output as long as the table",
+        "",
+        whole.refusal as u64,
+    )
 }
 
 // The fields' refusals that short tables show: 2 to 6, 8 and 11.
-fn fields() {
-    table(b"a field that runs past the end", b"\x01\x00\x05snac");
+fn fields(rt: &impl Print) -> io::Result<()> {
+    table(rt, "a field that runs past the end", b"\x01\x00\x05snac")?;
     table(
-        b"a row in a table",
+        rt,
+        "a row in a table",
         b"\x01\x00\x05snack\x02\x00\x03\x00\x01\x01\x03\x00\x00",
-    );
-    table(b"no states", b"\x01\x00\x05snack\x02\x00\x03\x00\x01\x01");
-    table(b"empty input", b"");
-    table(b"a name that begins with a digit", b"\x01\x00\x055nack");
+    )?;
     table(
-        b"a name equal to the one before",
+        rt,
+        "no states",
+        b"\x01\x00\x05snack\x02\x00\x03\x00\x01\x01",
+    )?;
+    table(rt, "empty input", b"")?;
+    table(rt, "a name that begins with a digit", b"\x01\x00\x055nack")?;
+    table(
+        rt,
+        "a name equal to the one before",
         b"\x01\x00\x05snack\x01\x00\x05snack",
-    );
+    )?;
     table(
-        b"a class with k = 9",
+        rt,
+        "a class with k = 9",
         b"\x01\x00\x05snack\x02\x00\x03\x00\x09\x01",
-    );
+    )?;
     table(
-        b"a state whose first byte is 2",
+        rt,
+        "a state whose first byte is 2",
         b"\x01\x00\x05snack\x02\x00\x03\x00\x01\x01\x04\x00\x01\x02",
-    );
+    )
 }
 
 // 12, three ways.
-fn numbering() {
+fn numbering(rt: &impl Print) -> io::Result<()> {
     table(
-        b"an arc to no state",
+        rt,
+        "an arc to no state",
         b"\x01\x00\x05snack\x02\x00\x03\x00\x01\x01\x04\x00\x04\x00\x00\x00\x01",
-    );
+    )?;
     table(
-        b"a state never met",
+        rt,
+        "a state never met",
         b"\x01\x00\x05snack\x02\x00\x03\x00\x01\x01\x04\x00\x01\x01\x04\x00\x01\x01",
-    );
+    )?;
     table(
-        b"states not numbered first-met",
+        rt,
+        "states not numbered first-met",
         b"\x01\x00\x01a\x01\x00\x01b\x02\x00\x03\x00\x01\x01\x04\x00\x07\x00\x00\x00\x02\x01\x00\x01\x04\x00\x01\x01\x04\x00\x01\x00",
-    );
+    )
 }
 
 // A table of a chain of states and one more, which accepts.
-fn states(tried: &[u8], chain: usize) {
-    let mut out = io::buffer();
+fn states(rt: &impl Print, tried: &str, chain: usize) -> io::Result<()> {
+    let mut out = buffer();
     let name = put(&mut out, 0, &NAME);
     let class = put(&mut out, name, &CLASS);
     let last = put_chain(&mut out, class, chain);
     let end = put(&mut out, last, &END);
-    table_in(tried, &out, end);
+    table_in(rt, tried, &out, end)
 }
 
 // The limits on names and states: 7, and what just passes.
-fn limits() {
-    let mut out = io::buffer();
+fn limits(rt: &impl Print) -> io::Result<()> {
+    let mut out = buffer();
     let names = put_names(&mut out, 64);
     let class = put(&mut out, names, &CLASS);
     let end = put(&mut out, class, &END);
-    table_in(b"64 names", &out, end);
+    table_in(rt, "64 names", &out, end)?;
     let more = put_names(&mut out, 65);
-    table_in(b"65 names", &out, more);
-    states(b"42 states, through which only a row of 41 leads", 41);
-    states(b"512 states", 511);
-    states(b"513 states", 512);
+    table_in(rt, "65 names", &out, more)?;
+    states(rt, "42 states, through which only a row of 41 leads", 41)?;
+    states(rt, "512 states", 511)?;
+    states(rt, "513 states", 512)
 }
 
 // Rows: 9, and what just passes.
-fn rows() {
-    row(b"a walk of 40 snacks", &[3u8; 40]);
-    row(b"a walk of 41 snacks", &[3u8; 41]);
-    row(b"a walk with an entry that is no name's number", &[3, 4]);
+fn rows(rt: &impl Print) -> io::Result<()> {
+    row(rt, "a walk of 40 snacks", &[3u8; 40])?;
+    row(rt, "a walk of 41 snacks", &[3u8; 41])?;
+    row(rt, "a walk with an entry that is no name's number", &[3, 4])
 }
 
 // A good table, then the edges.
-pub fn all() {
-    table(b"the example", &GOOD);
-    sizes();
-    fields();
-    numbering();
-    limits();
-    rows();
+pub fn all(rt: &impl Print) -> io::Result<()> {
+    table(rt, "the example", &GOOD)?;
+    sizes(rt)?;
+    fields(rt)?;
+    numbering(rt)?;
+    limits(rt)?;
+    rows(rt)
 }

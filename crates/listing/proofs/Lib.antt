@@ -1,1 +1,0 @@
--- The proof of the listing program: what it prints lies within the text. Assumes nothing.

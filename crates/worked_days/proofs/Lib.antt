@@ -1,1 +1,0 @@
--- The proofs of worked_days: its loops, and that what is printed lies within its text. Assumes nothing.
