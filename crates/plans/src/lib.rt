@@ -1,6 +1,6 @@
 // The public entries: a book's table built, alone or with its counts, a table rewritten, a row walked over a table, a book listed as
 // text, a plan's rows read. Any bytes may be lent; each call ends with a result or one numbered refusal, leaves every byte of the working
-// area zero, and leaves each output as it was where it refuses.
+// area zero, and leaves each output as it was where it refuses. Those named plans_.. are what C calls: the crate plans_c exports them.
 pub mod printing;
 
 ghost use Rattle.model.specs.Fields.{standard};
@@ -103,18 +103,16 @@ pub fn rows_of_plan(
     rows
 }
 
-// build_table for C.
-#[unsafe(no_mangle)]
-pub extern "C" fn plans_build(book: &[u8], work: &mut [u8], out: &mut [u8]) -> Built
+// build_table, as C calls it.
+pub fn plans_build(book: &[u8], work: &mut [u8], out: &mut [u8]) -> Built
     ensures { BuildSays standard book.now work.old work.new
         out.old out.new result }
 {
     build_table(book, work, out)
 }
 
-// build_counted for C.
-#[unsafe(no_mangle)]
-pub extern "C" fn plans_build_counted(
+// build_counted, as C calls it.
+pub fn plans_build_counted(
     book: &[u8],
     work: &mut [u8],
     out: &mut [u8],
@@ -126,34 +124,30 @@ pub extern "C" fn plans_build_counted(
     build_counted(book, work, out, counts)
 }
 
-// rewrite_table for C.
-#[unsafe(no_mangle)]
-pub extern "C" fn plans_rewrite(table: &[u8], work: &mut [u8], out: &mut [u8]) -> Rewritten
+// rewrite_table, as C calls it.
+pub fn plans_rewrite(table: &[u8], work: &mut [u8], out: &mut [u8]) -> Rewritten
     ensures { RewriteSays table.now work.old work.new out.old out.new result }
 {
     rewrite_table(table, work, out)
 }
 
-// walk_row for C: the beginning is told by its length.
-#[unsafe(no_mangle)]
-pub extern "C" fn plans_walk(table: &[u8], row: &[u8], work: &mut [u8]) -> Walked
+// walk_row, as C calls it: the beginning is told by its length.
+pub fn plans_walk(table: &[u8], row: &[u8], work: &mut [u8]) -> Walked
     ensures { WalkedSays table.now row.now work.old work.new result }
 {
     walk_and_clear(table, row, work)
 }
 
-// list_book for C.
-#[unsafe(no_mangle)]
-pub extern "C" fn plans_list(book: &[u8], work: &mut [u8], text: &mut [u8]) -> Written
+// list_book, as C calls it.
+pub fn plans_list(book: &[u8], work: &mut [u8], text: &mut [u8]) -> Written
     ensures { ListSays standard book.now work.old work.new
         text.old text.new result }
 {
     list_book(book, work, text)
 }
 
-// rows_of_plan for C.
-#[unsafe(no_mangle)]
-pub extern "C" fn plans_read_rows(
+// rows_of_plan, as C calls it.
+pub fn plans_read_rows(
     plan: &[u8],
     names: &[u8],
     chosen: u8,
