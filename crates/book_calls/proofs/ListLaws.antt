@@ -18,7 +18,7 @@ use Rattle.model.specs.Claims.{Accepted}
 use Rattle.model.proofs.FieldLaws.{first_of_lem}
 use Rattle.model.proofs.CallLaws.{call-refused, refusal_is, fault_roomy, sizes_fit}
 use Rattle.model.proofs.CallLaws.{short_is, call-one_short, call-one_wrote, FrontOf, front_of_lem}
-use Rattle.model.proofs.Demands.{demands, book_writable, read_table, table_length}
+use Rattle.model.proofs.Demands.{demands, book_writable, read_table_lem, table_length}
 use Rattle.writing.specs.Writing as writing
 use Rattle.writing.proofs.WritingLaws.{written-from_zero}
 use Rattle.writing.specs.Writing.{Put}
@@ -59,7 +59,7 @@ module _ (settings : Settings) (allowed : Allowed settings) where
   names_read :
       (book : List ℕ) → Accepted settings book → (table_of (book_table (book_of settings book))).names ≡ (book_of settings book).names
   unfolding table_of
-  names_read book ok = ap (λ (r : Read). r.file_is.names) (read_table settings allowed book ok)
+  names_read book ok = ap (λ (r : Read). r.file_is.names) (read_table_lem settings allowed book ok)
 
   pub listing-short : (book : List ℕ) → Accepted settings book → length (book_listing (book_of settings book)) ≤ listing_bytes
   listing-short book ok =
@@ -78,7 +78,7 @@ module _ (settings : Settings) (allowed : Allowed settings) where
       record {
         no_fault = none;
         work_fits = (sizes_fit book work parts.0).work_fits;
-        no_refusal = ap (λ (r : Read). r.number) (read_table settings allowed book ok);
+        no_refusal = ap (λ (r : Read). r.number) (read_table_lem settings allowed book ok);
         few_joins = omega (arith, joins_few settings book ok);
         few_distinct = omega (arith, distinct_few settings book ok);
         is =

@@ -1,7 +1,7 @@
 -- What is said of builds with counts holds: `counted-handed_over`. First of any such build, then of one that is not refused, then of two.
 -- Assumes nothing.
 use mathlib.Core.Path.{◌≡◌, refl, sym, ap, ◌∙◌}
-use mathlib.Core.Bool.{Bool, true, ◌||◌, or_false, or-true}
+use mathlib.Core.Bool.{Bool, true, ◌||◌, or-false, or-true}
 use mathlib.Core.List.{List, [], ◌∷◌}
 use Prim.Native.Nat.{ℕ, ◌≤◌, ◌<◌}
 use native.Mathlib.Omega.{arith}
@@ -67,7 +67,7 @@ module _ (b : CountedBuild) where
   unfolding building_counted too_short book_counts
   short_is =
       ap (λ (t : Bool). ltb (length b.out) (length (book_table (book_counted b))) || t)
-      (or_false (ltb (length b.counts) (length (book_counts (book_counted b)))))
+      (or-false (ltb (length b.counts) (length (book_counts (book_counted b)))))
 
   refused-short :
       fault ≡ 0 → length b.counts < length (book_counts (book_counted b)) → OnlyTooShort b

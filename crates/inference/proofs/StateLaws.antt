@@ -1,7 +1,7 @@
 -- From a joined partition to its states' fields and its counts: whether both fit, as it is known before anything is written, and both
 -- written. Assumes nothing.
 use mathlib.Core.Path.{◌≡◌, refl, sym, ap, ap₂, ◌∙◌}
-use mathlib.Core.Bool.{Bool, true, false, ◌||◌, cond, or_false}
+use mathlib.Core.Bool.{Bool, true, false, ◌||◌, cond, or-false}
 use mathlib.Core.List.{List, [], ◌∷◌}
 use Prim.Native.Nat.{ℕ, ◌+◌, ◌*◌, ◌≤◌}
 use native.Mathlib.Nat.{zero-add}
@@ -60,7 +60,7 @@ module _ (rows : List Word) (groups : List ℕ) (wanted : Bool) (states arcs siz
   unfolding too_short
   short_told =
       ap₂ (λ (m n : ℕ). ltb (length out) m || ltb (length counts) n) fields_size counts_size
-      ∙ ap (λ (b : Bool). ltb (length out) (length fields) || b) (sym (or_false (ltb (length counts) (length wanted_counts))))
+      ∙ ap (λ (b : Bool). ltb (length out) (length fields) || b) (sym (or-false (ltb (length counts) (length wanted_counts))))
 
   pub states-too_long :
       (ltb (length out) (4 * states + 3 * arcs) || ltb (length counts) size) ≡ true →

@@ -1,7 +1,7 @@
 -- What the listing program prints: with so much lent a listing is refused by the input alone, and the program prints the listing, or
 -- the text of the refusal; for callers, what is printed lies within the text. Assumes nothing.
 use mathlib.Core.Path.{◌≡◌, refl, sym, ap, ◌∙◌}
-use mathlib.Core.Bool.{false, or_false}
+use mathlib.Core.Bool.{false, or-false}
 use mathlib.Core.List.{List, [], ◌∷◌}
 use Prim.Native.Nat.{ℕ, ◌≤◌, ◌<◌}
 use native.Mathlib.Omega.{arith}
@@ -25,7 +25,7 @@ module _
     (work_fits : work_bytes ≤ length work) (text-fits : listing_bytes ≤ length text) where
   sizes-are : sizes_fault book work ≡ when (ltb input_limit (length book)) bad_sizes
   unfolding sizes_fault
-  sizes-are = rw (le-ltb (length work) work_bytes work_fits, or_false (ltb input_limit (length book)))
+  sizes-are = rw (le-ltb (length work) work_bytes work_fits, or-false (ltb input_limit (length book)))
 
   -- with so much lent neither the working area nor the text is refused
   fault_is : fault_with (listing_book settings book work) (text ∷ []) ≡ listing_fault settings book

@@ -1,0 +1,12 @@
+-- What is left from i on is ordered as the whole is.
+use mathlib.Core.Path.{◌≡◌}
+use Prim.Native.Nat.{◌≤◌, ◌-◌}
+use lib.ListN.{length, drop}
+use Rattle.base.specs.Lists.{before}
+use Rattle.judging.proofs.names.sorts_before.Given as goal
+
+abbrev pub invariant-loop-i : goal.invariant-loop-i
+invariant-loop-i l = (l.i ≤ length l.a) × (before (drop l.i l.a) (drop l.i l.b) ≡ before l.a l.b)
+
+abbrev pub decreases-loop-i : goal.decreases-loop-i
+decreases-loop-i l = length l.a - l.i
