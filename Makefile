@@ -46,7 +46,7 @@ export PREFIX DESTDIR
 # Every target that needs a tool or a setting asks for it here, so that a newcomer reads what is missing.
 .PHONY: kit python seconds before always
 kit:
-	@command -v rt >/dev/null || { echo "make: the command 'rt' is missing: it comes with the Rattle kit (rattle-kit-5)"; exit 1; }
+	@command -v rt >/dev/null || { echo "make: the command 'rt' is missing: it comes with the Rattle kit (rattle-kit-13f)"; exit 1; }
 seconds:
 	@[ -n "$(SECONDS)" ] || { echo "make: say for how long, as SECONDS=300"; exit 1; }
 before:
@@ -61,12 +61,12 @@ test: kit
 	@scripts/gate
 
 check: kit
-	@scripts/proving rt check
+	@scripts/proving . rt all check
 
 lib: $(LIBRARY) $(SHARED)
 
 $(LIBRARY): always
-	@scripts/anew $@ 'handed_over rows_handed_over' rt staticlib plans
+	@scripts/anew $@ scripts/archive
 
 $(SHARED): $(LIBRARY) VERSION scripts/plans.map
 	@command -v gcc >/dev/null || { echo "make: the command 'gcc' is missing: it is in Debian's package gcc"; exit 1; }
@@ -78,7 +78,7 @@ $(SHARED): $(LIBRARY) VERSION scripts/plans.map
 listing: $(LISTING)
 
 $(LISTING): always
-	@scripts/anew $@ listing
+	@scripts/anew $@ scripts/program listing
 
 install: python lib listing
 	@scripts/install put
@@ -98,7 +98,7 @@ images: python lib
 test-command: python lib listing
 	@scripts/test-command
 
-test-division: kit python lib
+test-division: python lib
 	@scripts/test-division
 
 test-outside: lib listing
@@ -126,4 +126,4 @@ bench-against: before lib
 	@scripts/bench against $(SHARED) "$(BEFORE)"
 
 fmt: kit
-	@rt fmt
+	@for crate in crates/*/; do (cd "$$crate" && rt fmt) || exit 1; done

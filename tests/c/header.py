@@ -32,7 +32,7 @@ def header_structs(text):
 
 def library_structs(text):
     structs = {}
-    for name, body in re.findall(r"#\[repr\(C\)\]\s*pub struct (\w+) \{(.*?)\}", text, re.S):
+    for name, body in re.findall(r"#\[repr\(C\)\]\s*(?:#\[derive\([^)]*\)\]\s*)?pub struct (\w+) \{(.*?)\}", text, re.S):
         structs[name] = re.findall(r"pub (\w+): (\w+),", body)
     return structs
 

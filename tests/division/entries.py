@@ -1,9 +1,12 @@
-"""What both checks share: where the library is, which entries build, and which may divide."""
+"""What both checks share: where the library and the compiler's reading of it are, which entries build, and which may divide."""
 import os
 from pathlib import Path
 
 ROOT = Path(__file__).resolve().parents[2]
 LIBRARY = Path(os.environ["PLANS_LIB"]) / "libplans.a"
+
+# What the compiler read in each crate of the library, which is written when that is built.
+READ = ROOT / "target" / "staticlib" / "mir"
 
 # Every entry of the library is held to it that nothing divides but by 256, also one that comes later, but for these, with what they
 # divide by: a listing has decimal numbers, and a plan's names are found by hashes and by halving a list. None of them is a build entry.

@@ -12,10 +12,12 @@ CLAUSE = re.compile(r"\b(?:(?:requires|ensures)\b(?:\s+\w+)?|ghost)\s*(?=\{)")
 # Not read: comments in comments, modules inside a file, functions named like types; and in a contract what may hide a brace.
 UNREAD = re.compile(r"/\*|\bmod\s+\w+\s*\{|\bfn\s+[A-Z]\w*")
 UNREAD_IN_CLAUSE = re.compile(r'"|--|\{-|//|/\*')
+# What asks for a proof's tactics is no code, also inside a function.
+TACTIC = re.compile(r"#!?\[\s*tactic\b[^\]]*\]")
 USE = re.compile(r"\b(ghost\s+|pub\s+)?use\s+([^;]*);")
 METHODS = re.compile(r"\bimpl\b[^{]*?(\w+)\s*(?:<[^{]*>\s*)?(?=\{)")
 FUNCTION = re.compile(r"\bfn\s+(\w+)(?:[^{;]|;[^{;\]]*\])*(?=\{)")
-EXPORTED = re.compile(r"#\[no_mangle\]\s*pub\s+extern\s+fn\s+(\w+)")
+EXPORTED = re.compile(r"#\[unsafe\(no_mangle\)\]\s*pub\s+extern\s+fn\s+(\w+)")
 # a path; a dot before it that makes it a field or a method; what makes it a call
 NAMED = re.compile(r"((?<!\.)\.\s*)?\b([^\W\d]\w*(?:\s*::\s*\w+)*)((?:\s*::\s*<[^()]*>)?[\s)]*\(|![(\[{])?")
 DIVISION = re.compile(r"[/%]=?\s*(\w*(?:\s+as\b|\.(?!\.))?)")
@@ -60,6 +62,18 @@ def closing(code: str, start: int) -> int:
     raise ValueError("a brace is not closed")
 
 
+def parted(names: str) -> List[str]:
+    """The names between commas, but for those inside braces; the last may have a comma after it."""
+    parts, depth = [""], 0
+    for letter in names:
+        depth += {"{": 1, "}": -1}.get(letter, 0)
+        if letter == "," and depth == 0:
+            parts.append("")
+        else:
+            parts[-1] += letter
+    return [part.strip() for part in parts if part.strip()]
+
+
 def refuse(file: str, found: Optional[re.Match]) -> None:
     if found:
         line = found.string.count("\n", 0, found.start()) + 1
@@ -72,6 +86,7 @@ def executable(file: str, text: str) -> str:
         end = closing(code, clause.end())
         refuse(file, UNREAD_IN_CLAUSE.search(text, clause.end(), end))
         code = code[: clause.start()] + blank(code[clause.start() : end]) + code[end:]
+    code = TACTIC.sub(lambda found: blank(found.group()), code)
     refuse(file, UNREAD.search(code))
     return code
 
@@ -91,9 +106,15 @@ class Module:
         self.functions = list(self.read_functions())
 
     def use(self, path: str) -> None:
+        """One name, or several in braces."""
+        several = re.fullmatch(r"((?:\w+::)*)\{(.*)\}", path, re.DOTALL)
+        if several:
+            for part in parted(several.group(2)):
+                self.use(several.group(1) + part)
+            return
         name = path.split("::")[-1]
-        if not re.fullmatch(r"(?!(?:self|super)\b)\w+(::\w+)*", path) or name in self.uses:
-            raise ValueError(f"{self.file}: 'use {path}' is not read: use one name at a time, by its own name, and no two alike")
+        if not re.fullmatch(r"(?!(?:self|super)\b)\w+(::(?!self\b)\w+)*", path) or name in self.uses:
+            raise ValueError(f"{self.file}: 'use {path}' is not read: use each name by its own name, and no two alike")
         self.uses[name] = re.sub(r"^crate\b", self.crate, path)
 
     def read_functions(self) -> Iterator[Function]:

@@ -1,11 +1,10 @@
 """Nothing that build reaches divides, but by 256 to split a number into its bytes: over the sources. How these are read is held against
-the compiler's own reading (rt mir), and divisions put into a copy are found."""
-import re
-import subprocess
+the compiler's own reading (mir/, beside the archive), and divisions put into a copy are found."""
+import json
 import unittest
-from typing import Dict, List, Set
+from typing import Any, Dict, Iterator, List, Set, Tuple
 
-from entries import BUILDS, DIVIDING, ROOT
+from entries import BUILDS, DIVIDING, READ, ROOT
 from sources import Module, Sources, divisions, findings, read_modules
 
 TREE = Sources(read_modules(ROOT))
@@ -59,7 +58,9 @@ NOT_FOUND = [
 ]
 NOT_READ = [
     "use writing::*;",
-    "use writing::{put_two};",
+    "use writing::{self};",
+    "use writing::{put_two as two};",
+    "use writing::{put_two, *};",
     "use writing::put_two as two;",
     "pub use writing::put_two;",
     "use super::put_two;",
@@ -67,29 +68,46 @@ NOT_READ = [
     "mod inner { fn third(x: usize) -> usize { x / 3 } }",
     "fn Third(x: usize) -> usize { x / 3 }",
     '/* /* */ " */ // "',
-    "fn third(x: usize) -> usize ensures { λ r. ⌜ r ⌝ -- } {\n } { x / 3 }",
-    "fn third(x: usize) -> usize ensures { λ r. {- } { -} ⌜ r ⌝ } { x / 3 }",
-    'fn third(x: usize) -> usize ensures { λ r. ⌜ r ≡ "} {" ⌝ } { x / 3 }',
+    "fn third(x: usize) -> usize ensures { result ≡ x -- } {\n } { x / 3 }",
+    "fn third(x: usize) -> usize ensures { result ≡ {- } { -} x } { x / 3 }",
+    'fn third(x: usize) -> usize ensures { result ≡ "} {" } { x / 3 }',
 ]
-# a division in what the compiler makes, and the number that it is by
-MADE = re.compile(r"(?:\((?:div|rem) \w+\)|float(?:Div|Rem)) (?:\((?:copy|move) \(place \d+ lnil\)\) \(int \d+ (\d+)\))?")
+# the divisions among what the compiler makes of two numbers
+DIVIDE = {"Div", "Rem", "FloatDiv", "FloatRem"}
 
 
-def compiled() -> Dict[str, str]:
+def compiled() -> Dict[str, Any]:
     """What the compiler makes of each function of the library before it optimises."""
-    text = subprocess.run(["rt", "mir", "plans"], cwd=ROOT, check=True, capture_output=True, text=True).stdout
-    definitions, _ = text.rsplit("(fnRef", 1)
-    parts = re.split(r'\(fn-def "(.+?)"', definitions)
-    return dict(zip(parts[1::2], parts[2::2]))
+    return {name: made["body"] for file in READ.glob("*.json") for name, made in json.loads(file.read_text())}
 
 
-def compiled_reach(functions: Dict[str, str], root: str) -> Set[str]:
+def parts(made: Any) -> Iterator[Tuple[str, Any]]:
+    """Everything that has a kind, with that, however deep."""
+    for kind, part in made.items() if isinstance(made, dict) else ():
+        yield kind, part
+    for part in made.values() if isinstance(made, dict) else made if isinstance(made, list) else ():
+        yield from parts(part)
+
+
+def divided_by(made: Any) -> List[str]:
+    """The number that each division is by, or nothing."""
+    found = []
+    for kind, part in parts(made):
+        if kind == "Op2" and DIVIDE & set([part[0]] if isinstance(part[0], str) else part[0]):
+            found.append(str(part[2].get("Int", {}).get("value", "")))
+    return found
+
+
+def compiled_reach(functions: Dict[str, Any], root: str) -> Set[str]:
+    """All functions that are named, as what is called or otherwise; a call of something else than a name is none of these sources'."""
     found = {root}
     todo = [root]
     while todo:
-        called = set(re.findall(r'\(fnRef "(.+?)"', functions[todo.pop()])) - found
+        made = functions.get(todo.pop(), [])
+        called = {part[0] for kind, part in parts(made) if kind == "Fn"}
+        called |= {f"a call of {list(part[0])}" for kind, part in parts(made) if kind == "Call" and "Fn" not in part[0]}
+        todo += called - found
         found |= called
-        todo += called
     return found
 
 
@@ -124,7 +142,7 @@ class Entries(unittest.TestCase):
                 followed = compiled_reach(functions, path)
                 self.assertEqual(followed - set(read), set())
                 for function in followed:
-                    made = MADE.findall(functions[function])
+                    made = divided_by(functions[function])
                     self.assertEqual(len(divisions(read[function])), len(made), function)
                     if name not in DIVIDING:
                         self.assertEqual(set(made) - {"256"}, set(), function)
@@ -149,10 +167,10 @@ class Seeds(unittest.TestCase):
                 self.assertEqual(found_with(DEEP.module.file, DEEP.body + 1, seed), [])
 
     def test_contract_is_not_executed(self):
-        self.assertEqual(found_with(DEEP.module.file, DEEP.body, "ensures thirds { λ r. ⌜ r ≡ row / 3 ⌝ }"), [])
+        self.assertEqual(found_with(DEEP.module.file, DEEP.body, "ensures thirds { result ≡ row / 3 }"), [])
 
     def test_body_after_a_contract(self):
-        for contract in ("requires { ⌜ x ⌝ }", "ensures same { λ r. ⌜ r ≡ row ⌝ }", "ghost { Nat }", "ghost /* { */ { Nat }"):
+        for contract in ("requires { row < 3 }", "ensures same { result ≡ row }", "ghost { Nat }", "ghost /* { */ { Nat }"):
             with self.subTest(contract):
                 found = found_with(DEEP.module.file, DEEP.body, f"{contract} {{ row / 3 }}\nfn rest()")
                 self.assertTrue(found and found[0].endswith("base::cells::cell divides by 3"), found)
@@ -168,6 +186,14 @@ class Seeds(unittest.TestCase):
             with self.subTest(call):
                 (found,) = findings(Sources([Module("crates/t/src/m.rt", text)]), "t::m::S::start")
                 self.assertTrue(found.endswith("deep divides by 3"), found)
+
+    def test_names_in_braces(self):
+        used = Module("crates/t/src/m.rt", "use a::{b, c::{d, e}, f::g,};\nuse crate::{\n    h,\n    i,\n};").uses
+        self.assertEqual(used, {"b": "a::b", "d": "a::c::d", "e": "a::c::e", "g": "a::f::g", "h": "t::h", "i": "t::i"})
+
+    def test_what_asks_for_tactics_is_no_code(self):
+        seed = "#[tactic(auto, using(crate::proofs::Laws::third))] let seed = row;"
+        self.assertEqual(found_with(DEEP.module.file, DEEP.body + 1, seed), [])
 
     def test_paths_of_files(self):
         paths = {"lib": "t", "main": "t", "m": "t::m", "m/k": "t::m::k", "m/lib": "t::m::lib"}
