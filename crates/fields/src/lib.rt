@@ -1,5 +1,7 @@
 // The reader of books, tables and lists of names: fields in file order, each judged by the refusals that concern it, nothing copied.
 // What is accepted stays where it is, and a Place says where: specs/Places has the file that a place stands for.
+#![tactic(auto)]
+
 ghost use Rattle.std.specs.Prelude.{◌≡◌, ◌≤◌, ◌<◌, length};
 ghost use Rattle.base.specs.Limits.{state_limit, names_met, class_met, name_mark, class_mark, row_mark, state_mark};
 ghost use Rattle.model.specs.Fields.{name_fault, class_fault, row_fault, state_fault, takes_class, takes_rows, takes_states, last_stage};
@@ -17,7 +19,7 @@ use judging::rows::row_fault;
 use judging::states::state_fault;
 
 // The kinds of file: a book of rows, a table of states, and a list of names with nothing else.
-#[derive(Drop)]
+#[derive(Clone, Copy)]
 pub enum FileKind {
     Book,
     Table,
@@ -25,7 +27,7 @@ pub enum FileKind {
 }
 
 // How far reading has come, and where what was read stands.
-#[derive(Drop)]
+#[derive(Clone, Copy)]
 pub struct Place {
     // where the next field begins
     pub at: usize,
@@ -46,7 +48,7 @@ pub struct Place {
 }
 
 // What books are read with: the class of a book that names none, by its kind and its two settings.
-#[derive(Drop)]
+#[derive(Clone, Copy)]
 pub struct Settings {
     pub kind: u8,
     pub first: u8,

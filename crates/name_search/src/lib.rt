@@ -1,5 +1,7 @@
 // The number of a name by its bytes: a search over the ascending names of a list of name fields, whose offsets are noted once; and, for a
 // caller that asks often, a guess before the search.
+#![tactic(auto)]
+
 ghost use Rattle.std.specs.Prelude.{◌≡◌, ◌≤◌, ◌<◌, length};
 ghost use Rattle.base.specs.Limits.{name_limit};
 ghost use Rattle.model.specs.Fields.{Ascends, name_number};

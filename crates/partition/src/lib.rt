@@ -1,5 +1,7 @@
 // Partitions of states by number. A partition is a slice that gives each state the number of its group, the lowest state of it;
 // joins are made in one that is kept as a forest.
+#![tactic(auto)]
+
 pub mod forest;
 
 ghost use Rattle.std.specs.Prelude.{◌≡◌, ◌≤◌, length};

@@ -1,5 +1,7 @@
 // The rows of a plan, made from the log of its tags: two bytes a tag, the number of its name and how many elements are around it. The row
 // of an element has the numbers of the tags one deeper, up to the first tag that is not inside it.
+#![tactic(auto)]
+
 ghost use Rattle.std.specs.Prelude.{◌≡◌, length, ◌≤◌, ◌<◌};
 ghost use Rattle.model.specs.Tables.{field_bytes, row_fields};
 ghost use Rattle.base.specs.Limits.{row_limit, row_mark};

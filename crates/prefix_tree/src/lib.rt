@@ -1,6 +1,8 @@
 // The prefix tree of a book's rows, in arrays that the caller lends: for each state, in the order met, its parent, its name and
 // how many rows end there. A child is found by its cell [state][name] of the working area, which counts only where the state that it
 // names has that parent and that name; so the area may hold anything at the start.
+#![tactic(auto)]
+
 ghost use Rattle.std.specs.Prelude.{◌≡◌, ◌+◌, ◌<◌, ◌≤◌, length, get_or};
 ghost use Rattle.base.specs.Limits.{name_limit, book_rows, state_limit};
 ghost use Rattle.judging.specs.Offsets.{offset_at, fields_at};

@@ -1,6 +1,8 @@
 // Classes of the states of a prefix tree by their last names, and the partition by them. A state's class is the first state with
 // the same last names. The last names of each state are one number, its code, seven bits a name; states are compared by their
 // codes. For passes against the arcs the name before the last ones is a state's key.
+#![tactic(auto)]
+
 ghost use Rattle.std.specs.Prelude.{◌≡◌, false, ℕ, suc, ◌+◌, ◌-◌, ◌*◌, ◌/◌, ◌%◌, ◌^◌, ◌<◌, ◌≤◌, length, get_or};
 ghost use Rattle.base.specs.Limits.{name_limit, setting_limit};
 ghost use Rattle.indexed.specs.Trees.{Arrays};

@@ -1,5 +1,8 @@
 // Tables read and walked without copying them: a table is accepted in one pass that keeps the offset of each state's field in the
 // lent area, and a walk finds its state's field by that offset.
+
+#![tactic(auto)]
+
 pub mod arcs;
 
 ghost use Rattle.std.specs.Prelude.{◌≡◌, ◌≤◌, ◌<◌, length, get_or};
@@ -144,7 +147,11 @@ pub fn walk_all(s: &[u8], row: &[u8], work: &[u8], marks: &[u16; STATE_LIMIT]) -
     let mut walk = Walk { state: 0, taken: 0 };
     let mut i = 0;
     while i < row.len() {
-        let step = walk.step(s, work, marks, row[i]);
+        let here = Walk {
+            state: walk.state,
+            taken: walk.taken,
+        };
+        let step = here.step(s, work, marks, row[i]);
         match step {
             Stepped::Moved(next) => {
                 walk = next;

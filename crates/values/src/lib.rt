@@ -2,6 +2,8 @@
 // array says for each state. Accepting states with one value are joined, each by the first of them, and every other state is by
 // itself; where all accept, these are the classes of equal values. The first accepting states of values are kept in 512 lists, each
 // value in the list of its bucket, so that a state is compared with few others.
+#![tactic(auto)]
+
 ghost use Rattle.std.specs.Prelude.{◌≡◌, false, ◌+◌, ◌<◌, ◌≤◌, length, get_or};
 ghost use Rattle.base.specs.Limits.{state_limit};
 ghost use Rattle.indexed.specs.Partitions.{Alone};

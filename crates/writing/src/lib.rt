@@ -1,5 +1,7 @@
 // The writer: bytes written once into a lent output, one writing after the other. Each function writes its bytes from offset `at`, or at
 // the front, leaves the rest of the output as it was, and returns the offset after them; the caller sees that they fit.
+#![tactic(auto)]
+
 pub mod decimals;
 
 ghost use Rattle.std.specs.Prelude.{◌≡◌, [], ◌∷◌, ◌+◌, ◌≤◌, ◌<◌, length};

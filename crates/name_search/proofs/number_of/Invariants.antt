@@ -1,0 +1,11 @@
+-- The name stands at no place below low, nor from high on.
+use Prim.Native.Nat.{◌-◌, ◌≤◌}
+use Rattle.judging.specs.Offsets.{fields_at}
+use Rattle.name_search.proofs.SearchLaws.{PlacesLeft}
+use Rattle.name_search.proofs.number_of.Given as goal
+
+abbrev pub invariant-loop-low : goal.invariant-loop-low
+invariant-loop-low l = (l.high ≤ l.count) × PlacesLeft (fields_at l.list 0 l.count) l.name l.low l.high
+
+abbrev pub decreases-loop-low : goal.decreases-loop-low
+decreases-loop-low l = l.high - l.low

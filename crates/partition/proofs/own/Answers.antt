@@ -1,0 +1,8 @@
+use Rattle.std.proofs.Common.{arith}
+use Rattle.partition.proofs.FillLaws.{own-all}
+use Rattle.partition.proofs.own.Goals as goal
+
+pub returns : goal.returns
+returns c =
+    own-all c.loop-v.v c.args.numbers.now c.loop-v.numbers (omega (arith, c.loop-v.invariant.1.size))
+    c.loop-v.invariant.1

@@ -1,0 +1,12 @@
+use Rattle.std.proofs.Common.{arith}
+use Rattle.base.proofs.Fills.{filled_none}
+use Rattle.values.proofs.BucketLaws.{buckets_none}
+use Rattle.values.proofs.by_ends.Goals as goal
+
+pub loop-v-init : goal.loop-v-init
+loop-v-init c = (
+  omega arith,
+  filled_none _ _,
+  buckets_none c.args.ends.now c.args.values.now,
+  λ none v h. absurd (omega arith),
+)
