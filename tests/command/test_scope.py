@@ -83,17 +83,17 @@ class Scope(unittest.TestCase):
 
     def test_limits(self):
         limits = "".join(path.read_text() for path in ROOT.glob("crates/*/specs/Limits.antt"))
-        shown = re.findall(r"^\| [^|]* \| ([\d,]+) \| `([a-z-]+)` \|$", section("9. Limits"), re.MULTILINE)
+        shown = re.findall(r"^\| [^|]* \| ([\d,]+) \| `([a-z_]+)` \|$", section("9. Limits"), re.MULTILINE)
         self.assertEqual([name for number, name in shown if f"\n{name} = {number.replace(',', '')}\n" not in limits], [])
         self.assertEqual(len(shown), 9)
         number_of = {name: int(number.replace(",", "")) for number, name in shown}
-        bounds = re.findall(r"([\d,]+)\s(?:bytes\s)?\(`([a-z-]+)`\)", section("9. Limits"))
-        self.assertEqual([name for _, name in bounds], ["table-bytes", "listing-bytes", "rows-bytes", "counts-bytes"])
+        bounds = re.findall(r"([\d,]+)\s(?:bytes\s)?\(`([a-z_]+)`\)", section("9. Limits"))
+        self.assertEqual([name for _, name in bounds], ["table_bytes", "listing_bytes", "rows_bytes", "counts_bytes"])
         self.assertEqual([name for number, name in bounds[:2] if f"\n{name} = {number.replace(',', '')}\n" not in limits], [])
-        self.assertIn("\nrows-bytes = book-rows * (3 + row-limit)\n", limits)
-        self.assertEqual(bounds[2][0], f"{number_of['book-rows'] * (3 + number_of['row-limit']):,}")
-        self.assertIn("\ncounts-bytes = 5 * state-limit + 2 * state-limit\n", limits)
-        self.assertEqual(bounds[3][0], f"{7 * number_of['state-limit']:,}")
+        self.assertIn("\nrows_bytes = book_rows * (3 + row_limit)\n", limits)
+        self.assertEqual(bounds[2][0], f"{number_of['book_rows'] * (3 + number_of['row_limit']):,}")
+        self.assertIn("\ncounts_bytes = 5 * state_limit + 2 * state_limit\n", limits)
+        self.assertEqual(bounds[3][0], f"{7 * number_of['state_limit']:,}")
 
     def test_refusals(self):
         numbers = re.findall(r"^\| (\d+) \|", section("4. What a call gives back"), re.MULTILINE)
