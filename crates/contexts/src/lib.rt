@@ -1,5 +1,7 @@
 // The joining of a book's prefix tree by the context rule: states with the same last h names out of whose groups k - h names lead
 // in common are in one group, and no group has arcs of one name to two groups.
+#![tactic(auto)]
+
 pub mod ahead;
 pub mod chains;
 pub mod distances;

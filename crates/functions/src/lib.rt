@@ -1,5 +1,7 @@
 // Partitions joined by the rule of f: last names and seen sets. Both start from accepting states with one value of f, and then
 // join along forks and against the arcs until no pass joins.
+#![tactic(auto)]
+
 pub mod keys;
 pub mod rounds;
 pub mod seen;

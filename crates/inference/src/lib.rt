@@ -1,5 +1,7 @@
 // From an accepted book to its table, and to its counts where they are wanted: the prefix tree of its rows, joined by its class's rule,
 // numbered first-met and written. Nothing is written before it is known that both fit.
+#![tactic(auto)]
+
 pub mod classes;
 
 ghost use Rattle.std.specs.Prelude.{◌≡◌, cond, List, [], ◌∷◌, ◌+◌, ◌*◌, ◌≤◌, length};

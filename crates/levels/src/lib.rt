@@ -1,5 +1,8 @@
 // How far each state of an accepted table is from an end: the arcs are sorted by their targets, and the states reached against them, from
 // the accepting ones on, nearest first. Linear in states and arcs.
+
+#![tactic(auto)]
+
 pub mod places;
 pub mod rising;
 pub mod sorting;

@@ -1,5 +1,7 @@
 // A plan read in one pass over its bytes, from tag to tag. Of each tag that begins an element two bytes are kept in the log, the number of
 // its name and how many elements are around it; of each open element where its name stands in the plan, and its number. Nothing is copied.
+#![tactic(auto)]
+
 pub mod log;
 pub mod pieces;
 pub mod scanning;
@@ -19,7 +21,7 @@ use base::numbers::wide8;
 use name_search::{INDEX, index_names, number_by_guess};
 
 // What is looked for: how many names the list has, and which of them is chosen.
-#[derive(Drop)]
+#[derive(Clone, Copy)]
 pub struct Sought {
     pub names: u8,
     pub chosen: u8,

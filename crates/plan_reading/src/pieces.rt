@@ -12,7 +12,7 @@ use base::limits::PLAN_DEPTH;
 pub const STACK: usize = 3 * PLAN_DEPTH;
 
 // How far reading has come, between tags: the offset, how many elements are open, and how many tags began one.
-#[derive(Drop)]
+#[derive(Clone, Copy)]
 pub struct Reached {
     pub at: usize,
     pub depth: usize,

@@ -1,5 +1,7 @@
 // The automaton of a partition of the prefix tree, its states numbered first-met and written as fields. The arcs out of a group are
 // kept as the set of their names, and as cells of the working area that have their targets.
+#![tactic(auto)]
+
 pub mod filling;
 pub mod gathering;
 pub mod numbering;

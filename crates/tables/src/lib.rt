@@ -29,7 +29,7 @@ pub enum Accepted {
 }
 
 // A walk: the number of the state reached, and the steps taken.
-#[derive(Drop)]
+#[derive(Clone, Copy)]
 pub struct Walk {
     pub state: usize,
     pub taken: usize,
@@ -147,11 +147,7 @@ pub fn walk_all(s: &[u8], row: &[u8], work: &[u8], marks: &[u16; STATE_LIMIT]) -
     let mut walk = Walk { state: 0, taken: 0 };
     let mut i = 0;
     while i < row.len() {
-        let here = Walk {
-            state: walk.state,
-            taken: walk.taken,
-        };
-        let step = here.step(s, work, marks, row[i]);
+        let step = walk.step(s, work, marks, row[i]);
         match step {
             Stepped::Moved(next) => {
                 walk = next;

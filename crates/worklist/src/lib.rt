@@ -2,6 +2,8 @@
 // two groups become one their lists are merged, and two arcs of one key put a pair into the queue. There are three kinds of arcs:
 // along the tree's arcs by their names, and two sets of keys against them, of which the second may have none; links1 and heads1
 // are the lists of the first kind, and so on.
+#![tactic(auto)]
+
 pub mod forks;
 pub mod lists;
 pub mod search;

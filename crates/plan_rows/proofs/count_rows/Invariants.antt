@@ -6,7 +6,8 @@ use Rattle.plan_rows.proofs.count_rows.Given as goal
 
 abbrev pub invariant-loop-i : goal.invariant-loop-i
 invariant-loop-i l =
-    (l.i ≤ l.count) × (l.rows ≤ l.i) × (l.rows + length (rows_in l.chosen (entries_from l.log l.count l.i)) ≡ length (log_rows l.log l.count l.chosen))
+    (l.i ≤ l.count) × (l.rows ≤ l.i)
+    × (l.rows + length (rows_in l.chosen (entries_from l.log l.count l.i)) ≡ length (log_rows l.log l.count l.chosen))
 
 abbrev pub decreases-loop-i : goal.decreases-loop-i
 decreases-loop-i l = l.count - l.i

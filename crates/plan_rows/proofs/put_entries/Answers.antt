@@ -14,7 +14,8 @@ use Rattle.plan_rows.proofs.put_entries.Goals.{then-around-depth-2, else-around-
 turn :
     (log : List ℕ) (count i j : ℕ) (out₀ : List ℕ) (at : ℕ) (out : List ℕ) (next : ℕ) →
     let depth = (entry_at log i).depth in
-    j < count → (entry_at log j).depth ≡ depth + 1 → Writing out₀ at (row_at log count i) out next (row_after depth (entries_from log count j)) →
+    j < count → (entry_at log j).depth ≡ depth + 1 →
+    Writing out₀ at (row_at log count i) out next (row_after depth (entries_from log count j)) →
     Writing out₀ at (row_at log count i) out next ((entry_at log j).number ∷ row_after depth (entries_from log count (j + 1)))
 turn log count i j out₀ at out next h e p =
     subst (Writing out₀ at (row_at log count i) out next) (row_takes log count j (entry_at log i).depth h e) p
@@ -37,8 +38,10 @@ pub put_byte-next-requires : goal.put_byte-next-requires
 put_byte-next-requires c =
     let args = c.args in
     let j = c.loop-j.j in
-    room ((entry_at args.log.now j).number ∷ []) (row_after (entry_at args.log.now args.i).depth (entries_from args.log.now args.count (j + 1)))
-    (turn args.log.now args.count args.i j args.out.now args.at c.loop-j.out c.loop-j.next (omega arith) (omega arith) c.loop-j.invariant.1)
+    room ((entry_at args.log.now j).number ∷ [])
+    (row_after (entry_at args.log.now args.i).depth (entries_from args.log.now args.count (j + 1)))
+    (turn args.log.now args.count args.i j args.out.now args.at c.loop-j.out c.loop-j.next (omega arith) (omega arith)
+    c.loop-j.invariant.1)
 
 pub loop-j-preserved : goal.loop-j-preserved
 loop-j-preserved c =
@@ -52,7 +55,8 @@ loop-j-preserved c =
         omega arith,
         rw (w.out-is, w.next-is)
             (goes (number ∷ []) (row_after depth (entries_from args.log.now args.count (j + 1)))
-            (turn args.log.now args.count args.i j args.out.now args.at c.loop-j.out c.loop-j.next (omega arith) (omega arith) c.loop-j.invariant.1)
+            (turn args.log.now args.count args.i j args.out.now args.at c.loop-j.out c.loop-j.next (omega arith) (omega arith)
+            c.loop-j.invariant.1)
             w.put_byte-next.ensures),
       )
       | else-around-depth-2 w ↦

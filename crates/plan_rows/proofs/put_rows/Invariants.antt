@@ -9,7 +9,8 @@ use Rattle.plan_rows.proofs.put_rows.Given as goal
 abbrev pub invariant-loop-i : goal.invariant-loop-i
 invariant-loop-i l =
     let left = rows_in l.chosen (entries_from l.log l.count l.i) in
-    (l.i ≤ l.count) × (rows_short left ≡ true) × Writing l.initial.out 0 (row_fields (log_rows l.log l.count l.chosen)) l.out l.at (row_fields left)
+    (l.i ≤ l.count) × (rows_short left ≡ true)
+    × Writing l.initial.out 0 (row_fields (log_rows l.log l.count l.chosen)) l.out l.at (row_fields left)
 
 abbrev pub decreases-loop-i : goal.decreases-loop-i
 decreases-loop-i l = l.count - l.i

@@ -1,3 +1,4 @@
+-- The classes of equal codes, those of short codes dropped.
 use Rattle.std.proofs.Common.{ℕ, length, subst}
 use mathlib.Core.Path.{subst₂}
 use Rattle.suffixes.specs.Codes.{Coded}

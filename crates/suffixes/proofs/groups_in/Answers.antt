@@ -1,3 +1,4 @@
+-- The classes of equal codes.
 use Rattle.std.proofs.Common.{ℕ, length, subst}
 use Rattle.suffixes.specs.Codes.{Coded}
 use Rattle.suffixes.proofs.ClassLaws.{coded_by_suffix}

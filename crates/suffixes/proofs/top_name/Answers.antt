@@ -1,3 +1,4 @@
+-- Seven bits are left.
 use Rattle.std.proofs.Common.{arith}
 use Rattle.suffixes.proofs.AboveLaws.{top_small}
 use Rattle.suffixes.proofs.top_name.Goals as goal

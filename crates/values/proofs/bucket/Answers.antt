@@ -1,3 +1,4 @@
+-- The bits are the definition's.
 use Rattle.std.proofs.Common.{refl}
 use Rattle.values.specs.Buckets.{bucket_of}
 use Rattle.values.proofs.bucket.Goals as goal

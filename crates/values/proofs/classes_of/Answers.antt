@@ -1,3 +1,4 @@
+-- Where all states accept, the groups are the classes.
 use Rattle.std.proofs.Common.{length, arith}
 use Rattle.base.proofs.Fills.{cut_at}
 use Rattle.values.proofs.EndLaws.{ends-classes}

@@ -1,3 +1,4 @@
+-- Where the state accepts, the lists are those of one state more.
 use Rattle.std.proofs.Common.{◌<◌, get_or, arith}
 use Rattle.values.specs.Buckets.{FirstEnd}
 use Rattle.values.proofs.BucketLaws.{buckets_more}

@@ -1,3 +1,4 @@
+-- Both roots are found, and where they are two, the higher is put below the lower.
 use Rattle.std.proofs.Common.{length}
 use Rattle.partition.proofs.RootLaws.{Both, both_found}
 use Rattle.partition.proofs.forest.join.Goals as goal

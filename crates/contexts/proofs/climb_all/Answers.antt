@@ -1,0 +1,49 @@
+use mathlib.Core.Path.{◌≡◌, subst}
+use Prim.Native.Nat.{ℕ}
+use native.Mathlib.Numerals.{add-one}
+use native.Mathlib.Omega.{arith}
+use lib.ListN.{length}
+use Rattle.partition.specs.Forests.{roots_of}
+use Rattle.partition.proofs.ForestLaws.{roots_labelled}
+use Rattle.contexts.specs.Climbs.{ClimbedAt, ByRoots}
+use Rattle.contexts.proofs.ClimbLaws.{Climbs, climbs-none, climbs-more, climbs-all}
+use Rattle.contexts.proofs.climb_all.Goals as goal
+
+pub loop-v-init : goal.loop-v-init
+loop-v-init c =
+    let groups = c.args.groups.now in
+    let n = length groups in
+    let none =
+    climbs-none n c.args.m c.args.parents.now c.requires.above c.args.starts.now c.requires.starts_labelled
+    (roots_of groups) (roots_labelled n groups c.requires.forest) in
+    (omega arith, record { forest = c.requires.forest; promised = none })
+
+pub loop-v-preserved : goal.loop-v-preserved
+loop-v-preserved c =
+    let loop = c.loop-v in
+    let done = c.climb_at in
+    let n = length c.args.groups.now in
+    let forest = loop.invariant.1.forest in
+    let climbed =
+    subst (λ (k : ℕ). ByRoots k (ClimbedAt k c.args.m c.args.parents.now c.args.starts.now loop.v) loop.groups
+    done.new.groups) forest.size done.ensures in
+    let after =
+    climbs-more n c.args.m c.args.parents.now c.requires.above c.args.starts.now c.requires.starts_labelled loop.v
+    (roots_of c.args.groups.now) (roots_of loop.groups) (roots_of done.new.groups) (omega (arith, forest.size))
+    loop.invariant.1.promised climbed.promised in
+    (omega (arith, forest.size), record { forest = climbed.forest; promised = rw add-one after })
+
+pub returns : goal.returns
+returns c =
+    let loop = c.loop-v in
+    let n = length c.args.groups.now in
+    let all : loop.v ≡ n = omega (arith, loop.invariant.1.forest.size) in
+    let done =
+    subst (λ (k : ℕ). ByRoots n (Climbs n k c.args.m c.args.parents.now c.args.starts.now) c.args.groups.now
+    loop.groups) all loop.invariant.1 in
+    record {
+      forest = done.forest;
+      promised =
+          climbs-all n c.args.m c.args.parents.now c.requires.above c.args.starts.now c.requires.starts_labelled
+          (roots_of c.args.groups.now) (roots_of loop.groups) c.requires.starts_joined done.promised;
+    }

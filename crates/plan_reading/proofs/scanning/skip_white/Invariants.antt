@@ -1,0 +1,11 @@
+-- The bytes up to i are white space.
+use Rattle.std.proofs.Common.{◌-◌, length}
+use Rattle.written_plans.specs.Written.{is_white}
+use Rattle.plan_reading.proofs.ScanLaws.{Passing}
+use Rattle.plan_reading.proofs.scanning.skip_white.Given as goal
+
+abbrev pub invariant-loop-i : goal.invariant-loop-i
+invariant-loop-i l = Passing is_white l.s l.at l.i
+
+abbrev pub decreases-loop-i : goal.decreases-loop-i
+decreases-loop-i l = length l.s - l.i

@@ -1,0 +1,182 @@
+use mathlib.Core.Path.{refl, ap, ◌∙◌}
+use mathlib.Core.List.{List, [], ◌∷◌}
+use Prim.Native.Nat.{ℕ, ◌≤◌}
+use native.Mathlib.Omega.{arith}
+use lib.Count.{ones-le}
+use lib.ListN.{length, get_or}
+use Rattle.model.specs.Classes.{Word}
+use Rattle.model.specs.Joinings.{tree_of}
+use Rattle.model.specs.Tables.{arc_count}
+use Rattle.indexed.proofs.TreeArcs.{tree_some}
+use Rattle.quotient.specs.Gathered.{Gathered}
+use Rattle.quotient.proofs.MetLaws.{Numbering, met-low, root_meeting, numbering_start, numbering_few, numbering_nth}
+use Rattle.quotient.proofs.MetLaws.{numbering_more, numbering_end}
+use Rattle.quotient.proofs.StatePieces.{states_all, arcs_count_more, arcs_count_none}
+use Rattle.quotient.proofs.numbering.number.Goals as goal
+
+-- no more groups are met than there are states, of which there are few
+room :
+    (rows : List Word) (groups work next : List ℕ) (gathered : Gathered rows groups work next) (met numbers : List ℕ) (i count : ℕ) →
+    Numbering rows groups met numbers i count → (count ≤ length groups) × (length groups ≤ 512)
+room rows groups work next gathered met numbers i count numbering =
+    let size = gathered.labels.size in
+    let few = numbering_few rows groups work next gathered met numbers i count numbering in
+    (omega arith, omega (arith, gathered.few))
+
+pub bounds-groups-0 : goal.bounds-groups-0
+bounds-groups-0 c =
+    let size = c.requires.gathered.1.labels.size in
+    omega (arith, tree_some c.requires.gathered.0)
+
+pub meet_one-count-requires : goal.meet_one-count-requires
+meet_one-count-requires c =
+    let args = c.args in
+    let rows = c.requires.gathered.0 in
+    let root = c.wide16.result in (
+      length (tree_of rows),
+      root ∷ [],
+      root_meeting rows args.groups.now args.work.now args.next.now c.requires.gathered.1 args.met.now args.numbers.now
+          c.fill.new.numbers root c.requires.groups_in_bounds.0 c.requires.groups_in_bounds.1 c.fill.ensures c.wide16.ensures,
+    )
+
+pub loop-i-init : goal.loop-i-init
+loop-i-init c =
+    let args = c.args in
+    let groups = args.groups.now in
+    let work = args.work.now in
+    let next = args.next.now in
+    let root = c.wide16.result in
+    let first = c.meet_one-count in (
+      refl,
+      (
+        refl,
+        (
+          omega arith,
+          λ rows gathered.
+              let met =
+              root_meeting rows groups work next gathered args.met.now args.numbers.now c.fill.new.numbers root
+              c.requires.groups_in_bounds.0 c.requires.groups_in_bounds.1 c.fill.ensures c.wide16.ensures in
+              record {
+                numbering =
+                    numbering_start rows groups work next gathered first.new.met first.new.numbers root first.result
+                    c.wide16.ensures
+                    (first.ensures (length (tree_of rows)) (root ∷ []) met);
+                counted = omega (arith, ap arc_count (states_all rows groups));
+              },
+        ),
+      ),
+    )
+
+-- the turn's group is one of the tree's states
+pub bounds-next-g : goal.bounds-next-g
+bounds-next-g c =
+    let gathered = c.requires.gathered.1 in
+    let so_far = (c.loop-i.invariant.1.1.1 c.requires.gathered.0 gathered).numbering in
+    let low = met-low so_far.seen so_far.so_far c.loop-i.i c.loop-i-test.true in
+    omega (arith, low, c.wide16-g.ensures, gathered.next_size)
+
+pub meet-count-requires-clause-work_bytes_in_bounds : goal.meet-count-requires-clause-work_bytes_in_bounds
+meet-count-requires-clause-work_bytes_in_bounds c =
+    let gathered = c.requires.gathered.1 in
+    let so_far = (c.loop-i.invariant.1.1.1 c.requires.gathered.0 gathered).numbering in
+    let low = met-low so_far.seen so_far.so_far c.loop-i.i c.loop-i-test.true in
+    (gathered.work_size, omega (arith, low, c.wide16-g.ensures, gathered.few))
+
+-- what is to be met from the turn's group
+pub meet-count-requires-clause-by_index : goal.meet-count-requires-clause-by_index
+meet-count-requires-clause-by_index c =
+    let args = c.args in
+    let at = c.loop-i in
+    let g = c.wide16-g.result in
+    let rows = c.requires.gathered.0 in
+    let gathered = c.requires.gathered.1 in
+    let meeting =
+    numbering_more rows args.groups.now args.work.now args.next.now gathered at.met at.numbers at.i at.count g
+    (get_or args.next.now g 0) (at.invariant.1.1.1 rows gathered).numbering c.loop-i-test.true c.wide16-g.ensures refl in
+    (length (tree_of rows), meeting.after, meeting.meeting)
+
+-- no group has more than 64 arcs, and few groups are met
+pub overflow_add-arcs : goal.overflow_add-arcs
+overflow_add-arcs c =
+    let args = c.args in
+    let at = c.loop-i in
+    let rows = c.requires.gathered.0 in
+    let gathered = c.requires.gathered.1 in
+    let few =
+    room rows args.groups.now args.work.now args.next.now gathered at.met at.numbers at.i at.count
+    (at.invariant.1.1.1 rows gathered).numbering in
+    let most = ones-le 64 (get_or args.next.now c.wide16-g.result 0) (c.type_inv.next c.wide16-g.result).fits in
+    omega (arith, c.how_many-arcs.ensures)
+
+pub loop-i-smaller : goal.loop-i-smaller
+loop-i-smaller c =
+    let args = c.args in
+    let at = c.loop-i in
+    let rows = c.requires.gathered.0 in
+    let gathered = c.requires.gathered.1 in
+    omega (
+      arith,
+      room rows args.groups.now args.work.now args.next.now gathered at.met at.numbers at.i at.count
+          (at.invariant.1.1.1 rows gathered).numbering,
+      c.loop-i-test.true,
+    )
+
+pub loop-i-preserved : goal.loop-i-preserved
+loop-i-preserved c =
+    let args = c.args in
+    let groups = args.groups.now in
+    let work = args.work.now in
+    let next = args.next.now in
+    let at = c.loop-i in
+    let g = c.wide16-g.result in
+    let met = c.meet-count in
+    let most = ones-le 64 (get_or next g 0) (c.type_inv.next g).fits in (
+      met.auto.met ∙ at.invariant.0,
+      (
+        met.auto.numbers ∙ at.invariant.1.0,
+        (
+          omega (arith, c.how_many-arcs.ensures, at.invariant.1.1.0),
+          λ rows gathered.
+              let before = at.invariant.1.1.1 rows gathered in
+              let meeting =
+              numbering_more rows groups work next gathered at.met at.numbers at.i at.count g (get_or next g 0)
+              before.numbering c.loop-i-test.true c.wide16-g.ensures refl in
+              let here =
+              numbering_nth rows groups work next gathered at.met at.numbers at.i at.count g before.numbering
+              c.loop-i-test.true c.wide16-g.ensures in
+              let low = met-low before.numbering.seen before.numbering.so_far at.i c.loop-i-test.true in
+              record {
+                numbering =
+                    meeting.then met.new.met met.new.numbers met.result
+                    (met.ensures (length (tree_of rows)) meeting.after meeting.meeting);
+                counted =
+                    omega (
+                      arith,
+                      before.counted,
+                      arcs_count_more rows groups work next gathered at.i g c.how_many-arcs.result here.0 here.1
+                          (omega (arith, low, c.wide16-g.ensures)) c.how_many-arcs.ensures,
+                    );
+              },
+        ),
+      ),
+    )
+
+pub returns : goal.returns
+returns c =
+    let args = c.args in
+    let groups = args.groups.now in
+    let at = c.loop-i in
+    λ rows gathered.
+    let counting = at.invariant.1.1.1 rows gathered in
+    let every =
+    numbering_end rows groups args.work.now args.next.now gathered at.met at.numbers at.i at.count counting.numbering
+    c.loop-i-test.false in
+    record {
+      numbered = every;
+      arcs_are =
+          omega (
+            arith,
+            counting.counted,
+            arcs_count_none rows groups at.i (omega (arith, every.counted, c.loop-i-test.false)),
+          );
+    }
