@@ -6,7 +6,7 @@
 mod books;
 mod parts;
 mod reading;
-mod tables;
+mod table_edges;
 
 use base::limits::{INPUT_LIMIT, LISTING_BYTES};
 use parts::large_buffer;
@@ -84,6 +84,6 @@ fn main(rt: HostRuntime) -> io::Result<()> {
     books::classes(&rt)?;
     books::rows(&rt)?;
     books::trees(&rt)?;
-    tables::all(&rt)?;
+    table_edges::all(&rt)?;
     reading::rows(&rt)
 }
