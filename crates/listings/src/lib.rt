@@ -1,6 +1,8 @@
 // The listing of a table as text, written once into a lent slice: a first line with the numbers of states, joins and different rows,
 // then a line for each state; and the text of a refusal. Each function writes its bytes from an offset on, or at the front, leaves the
 // rest of the slice as it was, and returns the offset after them.
+#![tactic(auto)]
+
 mod arcs;
 mod words;
 

@@ -1,6 +1,8 @@
 // The public entries: a book's table built, alone or with its counts, a table rewritten, a row walked over a table, a book listed as
 // text, a plan's rows read. Any bytes may be lent; each call ends with a result or one numbered refusal, leaves every byte of the working
 // area zero, and leaves each output as it was where it refuses. Those named plans_.. are what C calls: the crate plans_c exports them.
+#![tactic(auto)]
+
 pub mod printing;
 
 ghost use Rattle.model.specs.Fields.{standard};
