@@ -1,5 +1,5 @@
 // The edges of docs/SCOPE.md, section 10.1, for books, one line each: what was tried, and the first line of the listing that it comes to.
-ghost use Rattle.std.specs.Prelude.{◌≤◌, length};
+ghost use Rattle.std.specs.Prelude.{◌≡◌, ◌≤◌, length, take};
 
 use crate::parts::{NAME, ROOM, buffer, count, large_buffer, put, put_names, say};
 use base::limits::LISTING_BYTES;
@@ -14,7 +14,8 @@ const EXAMPLE: [u8; 19] = *b"\x01\x00\x05snack\x02\x00\x03\x00\x01\x01\x03\x00\x
 
 // Where the first line of a text ends.
 fn line_end(text: &[u8]) -> usize
-    ensures { result ≤ length text.now }
+    ensures inside { result ≤ length text.now }
+    ensures taken { result ≡ length (take result text.now) }
 {
     match text.iter().position(|byte| *byte == b'\n') {
         Some(i) => i + 1,
