@@ -73,7 +73,7 @@ $(SHARED): $(LIBRARY) VERSION scripts/plans.map
 	@mkdir -p $(@D)
 	@gcc -shared -nostartfiles -Wl,-soname,$(SONAME) -Wl,--version-script=scripts/plans.map -Wl,-z,defs -Wl,-z,now \
 		-Wl,--whole-archive $(LIBRARY) -Wl,--no-whole-archive -o $@
-	@ln -sf libplans.so $(@D)/$(SONAME)
+	@cp --remove-destination $@ $(@D)/$(SONAME)
 
 listing: $(LISTING)
 
