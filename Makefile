@@ -7,7 +7,7 @@
 
 help:
 	@echo "make run           lists a shipped book of forty days: the model that the library infers from it"
-	@echo "make test          the whole gate, from nothing; its last line is 'N passed, 0 failed'"
+	@echo "make test          the whole gate; its last line is 'N passed, 0 failed'"
 	@echo
 	@echo "scripts/plans --help   what the command plans does, over the library that 'make lib' builds"
 	@echo "make images        the drawings under docs/images, anew"
