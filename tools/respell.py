@@ -15,7 +15,6 @@ import re
 import sys
 
 WORD = r"[^\s(){}.;,@\"«»\[\]\\`]+"
-DECLARED = re.compile(r"^(?P<kind>(?:abbrev |unfoldable )?(?:pub )?(?:record |data )?)(?P<name>" + WORD + r")(?P<rest> [^=]*)", re.M)
 # Where two names would fall together, or a Rust name would hide one.
 OTHERS = {
     "book-of": "book_of_fields",
