@@ -5,5 +5,6 @@
 pub mod cells;
 pub mod limits;
 pub mod numbers;
+pub mod refusals;
 pub mod sets;
 pub mod slices;
