@@ -255,10 +255,9 @@ module _ (n : ℕ) (above₀ above : List ℕ) (v at up : ℕ) (finding : Findin
 
 -- root y put below root x
 pub put_below :
-    (n : ℕ) (above : List ℕ) (x y new : ℕ) → Forest n above → y < n → x < y → get_or above x 0 ≡ x → get_or above y 0 ≡ y → new ≡ x →
-    United n x y above (set above y new)
-put_below n above x y new forest inside lower own_x own-y is =
-    subst (λ (z : ℕ). United n x y above (set above y z)) (sym is) (record { forest = forest'; joined = joined })
+    (n : ℕ) (above : List ℕ) (x y : ℕ) → Forest n above → y < n → x < y → get_or above x 0 ≡ x → get_or above y 0 ≡ y →
+    United n x y above (set above y x)
+put_below n above x y forest inside lower own_x own-y = record { forest = forest'; joined = joined }
   where
     forest' : Forest n (set above y x)
     forest' = set-forest n above forest y x inside (omega arith)
