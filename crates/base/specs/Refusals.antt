@@ -28,3 +28,8 @@ number_of refusal.UnknownChild = unknown_child
 abbrev pub fault_of : {A : Type 0} → Result A Refusal → ℕ
 fault_of (Ok _) = 0
 fault_of (Err k) = number_of k
+
+-- what is given back: the answer itself, or with a refusal what goes with its number
+abbrev pub told : {A : Type 0} → (ℕ → A) → Result A Refusal → A
+told none (Ok answer) = answer
+told none (Err k) = none (number_of k)
