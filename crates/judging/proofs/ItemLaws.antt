@@ -21,3 +21,6 @@ module _ (limit : ℕ) (ok : ℕ → List ℕ → Bool) (bad names count : ℕ) 
   pub item_good : count < limit → ok names item ≡ true → ItemJudged (item_fault limit ok bad) names count item 0
   item_good h b =
       record { is = λ (f : File) (e : length f.names ≡ names) (g : length f.items ≡ count). rw (g, e, lt-leb limit count h, b) }
+
+-- what is said of an item by each test
+pub ruleset judged = (item_too_many, item_bad, item_good)

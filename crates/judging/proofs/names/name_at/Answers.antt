@@ -21,32 +21,30 @@ returns-then-count-n c =
     let few : length (fields_at list 0 c.args.count) ≤ c.args.n = omega (arith, length_fields list 0 c.args.count) in
     sym (get_or-eq_default (fields_at list 0 c.args.count) [] few)
 
-pub loop-i-init : goal.loop-i-init
+pub loop-init : goal.loop-init
 unfolding offset_at
-loop-i-init c = (omega arith, refl)
+loop-init c = refl
 
 pub next_field-at-requires : goal.next_field-at-requires
 next_field-at-requires c =
-    within c.args.list.now c.args.count c.args.n c.loop-i.at c.loop-i.i c.requires c.loop-i.invariant.1 (omega arith)
+    within c.args.list.now c.args.count c.args.n c.loop.at c.loop.counter c.requires c.loop.invariant (omega arith)
 
-pub loop-i-preserved : goal.loop-i-preserved
-loop-i-preserved c =
-    let list = c.args.list.now in (
-      omega arith,
-      c.next_field-at.ensures
-          ∙ ap (next_at list) c.loop-i.invariant.1
-          ∙ sym (offset_suc list 0 c.loop-i.i)
-          ∙ ap (offset_at list 0) (sym (add-one c.loop-i.i)),
-    )
+pub loop-preserved : goal.loop-preserved
+loop-preserved c =
+    let list = c.args.list.now in
+    c.next_field-at.ensures
+    ∙ ap (next_at list) c.loop.invariant
+    ∙ sym (offset_suc list 0 c.loop.counter)
+    ∙ ap (offset_at list 0) (sym (add-one c.loop.counter))
 
 pub body-requires : goal.body-requires
 body-requires c =
-    within c.args.list.now c.args.count c.args.n c.loop-i.at c.loop-i.i c.requires c.loop-i.invariant.1 (omega arith)
+    within c.args.list.now c.args.count c.args.n c.loop.at c.loop.counter c.requires c.loop.invariant (omega arith)
 
 pub returns : goal.returns
 returns c =
     let list = c.args.list.now in
-    let all : c.loop-i.i ≡ c.args.n = omega arith in
+    let all : c.loop.counter ≡ c.args.n = omega arith in
     c.body.ensures
-    ∙ ap (body_at list) (c.loop-i.invariant.1 ∙ ap (offset_at list 0) all)
+    ∙ ap (body_at list) (c.loop.invariant ∙ ap (offset_at list 0) all)
     ∙ sym (field_at_lem list 0 c.args.count c.args.n (omega arith))
