@@ -176,7 +176,7 @@ fn join_and_write(
     );
     match joined {
         Table::Written(bytes, states, size) => {
-            put_front(out, book, named, place.kind, place.first, place.second);
+            put_front(out, book, named, [place.kind, place.first, place.second]);
             Table::Written(front + bytes, states, size)
         }
         Table::TooLong => Table::TooLong,
