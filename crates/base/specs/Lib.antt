@@ -5,3 +5,4 @@ pub mod Lists
 pub mod Bits
 pub mod Cells
 pub mod Refusals
+pub mod Sets

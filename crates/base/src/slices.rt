@@ -6,9 +6,5 @@ pub fn copy(from: &[u16], to: &mut [u16])
     requires { length to.old ≡ length from.now }
     ensures { to.new ≡ from.now }
 {
-    let mut v = 0;
-    while v < to.len() {
-        to[v] = from[v];
-        v += 1;
-    }
+    to.copy_from_slice(from);
 }
