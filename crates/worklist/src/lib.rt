@@ -1,277 +1,142 @@
 // Joins until closed, by a queue of pairs of states. For each group one arc of each key is kept, in lists by ascending key; where
 // two groups become one their lists are merged, and two arcs of one key put a pair into the queue. There are three kinds of arcs:
-// along the tree's arcs by their names, and two sets of keys against them, of which the second may have none; links1 and heads1
-// are the lists of the first kind, and so on.
+// along the tree's arcs by their names, and two sets of keys against them, of which the second may be missing.
 #![tactic(auto)]
 
+pub mod arcs;
 pub mod forks;
+pub mod kinds;
 pub mod lists;
 pub mod search;
 
-ghost use Rattle.std.specs.Prelude.{◌≡◌, false, List, ℕ, ◌<◌, length};
+ghost use Rattle.std.specs.Prelude.{◌≡◌, List, ℕ, ◌<◌, length, option_copied};
 ghost use Rattle.base.specs.Limits.{state_limit};
 ghost use Rattle.partition.specs.Forests.{Forest, roots_of};
-ghost use Rattle.worklist.specs.Settling.{RoundReady, RoundClosed, JoinedUntil, NoKeys, NoLists, QueueRoom, FilledAll};
+ghost use Rattle.worklist.specs.Keys.{given_keys};
+ghost use Rattle.worklist.specs.Settling.{RoundReady, RoundClosed, JoinedUntil, NoLists, QueueRoom, FilledAll};
 ghost use Rattle.worklist.specs.Settling.{ListedAll, MergedAll, Settling, SettledAt, SettledAll};
 
-use crate::lists::PAIR_LIMIT;
-use base::limits::STATE_LIMIT;
-use base::numbers::wide16;
+use crate::arcs::Arcs;
+use crate::kinds::{Kinds, Rules};
+use indexed::Tree;
 use partition::forest;
 
-// Puts all arcs of three kinds into their lists, of two where the second set has no keys. Returns the queue's tail.
-fn fill_all(
-    both: bool,
-    parents: &[u16],
-    names: &[u8],
-    numbers: &[u16],
-    keys: &[u8],
-    more: &[u8],
-    groups: &[u16],
-    links1: &mut [u16; STATE_LIMIT],
-    heads1: &mut [u16; STATE_LIMIT],
-    links2: &mut [u16; STATE_LIMIT],
-    heads2: &mut [u16; STATE_LIMIT],
-    links3: &mut [u16; STATE_LIMIT],
-    heads3: &mut [u16; STATE_LIMIT],
-    firsts: &mut [u16; PAIR_LIMIT],
-    seconds: &mut [u16; PAIR_LIMIT],
-) -> usize
-    requires ready { RoundReady (length groups.now) parents.now names.now numbers.now keys.now more.now
-        groups.now }
-    requires no_forks { NoLists links1.old heads1.old }
-    requires no_backs { NoLists links2.old heads2.old }
-    requires no_others { NoLists links3.old heads3.old }
-    requires queue { QueueRoom firsts.old seconds.old }
-    requires one_set { both ≡ false → NoKeys (length groups.now) more.now }
-    ensures { FilledAll (length groups.now) parents.now names.now numbers.now
-        keys.now more.now groups.now links1.new heads1.new
-        links2.new heads2.new links3.new heads3.new firsts.old
-        seconds.old firsts.new seconds.new 0 result }
+// Puts all arcs of three kinds into their lists, of two where there is no second set of keys.
+fn fill_all(rules: Rules, groups: &[u16], kinds: &mut Kinds)
+    requires ready { RoundReady (length groups.now) rules.tree.parents.now rules.tree.names.now rules.numbers.now
+        rules.keys.now (given_keys (length groups.now) (option_copied rules.more)) groups.now }
+    requires no_forks { NoLists kinds.old.forks.links kinds.old.forks.heads }
+    requires no_backs { NoLists kinds.old.backs.links kinds.old.backs.heads }
+    requires no_others { NoLists kinds.old.others.links kinds.old.others.heads }
+    requires empty { kinds.old.queue.tail ≡ 0 }
+    ensures { FilledAll (length groups.now) rules.entry.tree.parents.now rules.entry.tree.names.now rules.entry.numbers.now
+        rules.entry.keys.now (given_keys (length groups.now) (option_copied rules.entry.more)) groups.now kinds.new.forks.links
+        kinds.new.forks.heads kinds.new.backs.links kinds.new.backs.heads kinds.new.others.links kinds.new.others.heads
+        kinds.old.queue.firsts kinds.old.queue.seconds kinds.new.queue.firsts kinds.new.queue.seconds 0
+        kinds.new.queue.tail }
 {
-    let forks = lists::fill(
-        parents, numbers, names, groups, links1, heads1, firsts, seconds, 0,
-    );
-    let backs = lists::fill(
-        numbers, parents, keys, groups, links2, heads2, firsts, seconds, forks,
-    );
-    if !both {
-        return backs;
+    let Rules { tree, numbers, keys, more } = rules;
+    let forks = Arcs { outs: numbers, keys: tree.names };
+    kinds.forks.fill(tree.parents, forks, groups, &mut kinds.queue);
+    let backs = Arcs { outs: tree.parents, keys };
+    kinds.backs.fill(numbers, backs, groups, &mut kinds.queue);
+    if let Some(keys) = more {
+        let others = Arcs { outs: tree.parents, keys };
+        kinds.others.fill(numbers, others, groups, &mut kinds.queue);
     }
-    lists::fill(
-        numbers, parents, more, groups, links3, heads3, firsts, seconds, backs,
-    )
 }
 
-// Merges the lists of two groups, of all three kinds. Returns the queue's tail.
-fn merge_all(
-    parents: &[u16],
-    names: &[u8],
-    numbers: &[u16],
-    keys: &[u8],
-    more: &[u8],
-    links1: &mut [u16; STATE_LIMIT],
-    heads1: &mut [u16; STATE_LIMIT],
-    links2: &mut [u16; STATE_LIMIT],
-    heads2: &mut [u16; STATE_LIMIT],
-    links3: &mut [u16; STATE_LIMIT],
-    heads3: &mut [u16; STATE_LIMIT],
-    firsts: &mut [u16; PAIR_LIMIT],
-    seconds: &mut [u16; PAIR_LIMIT],
-    tail: usize,
-    to: usize,
-    from: usize,
-) -> usize
+// Merges the lists of two groups, of all kinds.
+fn merge_all(rules: Rules, kinds: &mut Kinds, to: usize, from: usize)
     requires listed { (rows1 rows2 rows3 : List ℕ) ×
-        ListedAll (length parents.now) names.now keys.now more.now rows1 rows2 rows3 links1.old
-        heads1.old links2.old heads2.old links3.old heads3.old tail }
-    requires queue { QueueRoom firsts.old seconds.old }
-    requires numbers_size { length numbers.now ≡ length parents.now }
+        ListedAll (length rules.tree.parents.now) rules.tree.names.now rules.keys.now
+        (given_keys (length rules.tree.parents.now) (option_copied rules.more)) rows1 rows2 rows3 kinds.old.forks.links kinds.old.forks.heads
+        kinds.old.backs.links kinds.old.backs.heads kinds.old.others.links kinds.old.others.heads kinds.old.queue.tail }
+    requires numbers_size { length rules.numbers.now ≡ length rules.tree.parents.now }
     requires lower { to < from }
     requires inside { from < state_limit }
     ensures { (rows1 rows2 rows3 : List ℕ) →
-        ListedAll (length parents.now) names.now keys.now more.now rows1 rows2
-        rows3 links1.old heads1.old links2.old heads2.old
-        links3.old heads3.old tail →
-        MergedAll (length parents.now) parents.now names.now numbers.now
-        keys.now more.now rows1 rows2 rows3 to from links1.new
-        heads1.new links2.new heads2.new links3.new heads3.new
-        firsts.old seconds.old firsts.new seconds.new tail result }
+        ListedAll (length rules.entry.tree.parents.now) rules.entry.tree.names.now rules.entry.keys.now
+        (given_keys (length rules.entry.tree.parents.now) (option_copied rules.entry.more)) rows1 rows2 rows3 kinds.old.forks.links
+        kinds.old.forks.heads kinds.old.backs.links kinds.old.backs.heads kinds.old.others.links kinds.old.others.heads
+        kinds.old.queue.tail →
+        MergedAll (length rules.entry.tree.parents.now) rules.entry.tree.parents.now rules.entry.tree.names.now
+        rules.entry.numbers.now rules.entry.keys.now (given_keys (length rules.entry.tree.parents.now) (option_copied rules.entry.more)) rows1
+        rows2 rows3 to from kinds.new.forks.links kinds.new.forks.heads kinds.new.backs.links kinds.new.backs.heads
+        kinds.new.others.links kinds.new.others.heads kinds.old.queue.firsts kinds.old.queue.seconds
+        kinds.new.queue.firsts kinds.new.queue.seconds kinds.old.queue.tail kinds.new.queue.tail }
 {
-    let forks = lists::merge(
-        numbers, names, links1, heads1, firsts, seconds, tail, to, from,
-    );
-    let backs = lists::merge(
-        parents, keys, links2, heads2, firsts, seconds, forks, to, from,
-    );
-    lists::merge(
-        parents, more, links3, heads3, firsts, seconds, backs, to, from,
-    )
+    let Rules { tree, numbers, keys, more } = rules;
+    let forks = Arcs { outs: numbers, keys: tree.names };
+    kinds.forks.merge(forks, &mut kinds.queue, to, from);
+    let backs = Arcs { outs: tree.parents, keys };
+    kinds.backs.merge(backs, &mut kinds.queue, to, from);
+    if let Some(keys) = more {
+        let others = Arcs { outs: tree.parents, keys };
+        kinds.others.merge(others, &mut kinds.queue, to, from);
+    }
 }
 
-// Joins the pair at `done`, where its states are of two groups, and merges the lists of both. Returns the queue's tail.
-fn settle_at(
-    parents: &[u16],
-    names: &[u8],
-    numbers: &[u16],
-    keys: &[u8],
-    more: &[u8],
-    groups: &mut [u16],
-    links1: &mut [u16; STATE_LIMIT],
-    heads1: &mut [u16; STATE_LIMIT],
-    links2: &mut [u16; STATE_LIMIT],
-    heads2: &mut [u16; STATE_LIMIT],
-    links3: &mut [u16; STATE_LIMIT],
-    heads3: &mut [u16; STATE_LIMIT],
-    firsts: &mut [u16; PAIR_LIMIT],
-    seconds: &mut [u16; PAIR_LIMIT],
-    done: usize,
-    tail: usize,
-) -> usize
-    requires forest { Forest (length parents.now) groups.old }
+// Joins the pair at `done`, where its states are of two groups, and merges the lists of both.
+fn settle_at(rules: Rules, groups: &mut [u16], kinds: &mut Kinds, done: usize)
+    requires forest { Forest (length rules.tree.parents.now) groups.old }
     requires settling { (start : List ℕ) ×
-        Settling (length parents.now) parents.now names.now numbers.now keys.now more.now start (roots_of groups.old)
-        links1.old heads1.old links2.old heads2.old links3.old heads3.old firsts.old seconds.old done tail }
-    requires due { done < tail }
-    ensures { SettledAt (length parents.now) parents.now names.now numbers.now
-        keys.now more.now groups.old groups.new links1.old
-        heads1.old links2.old heads2.old links3.old heads3.old
-        links1.new heads1.new links2.new heads2.new links3.new
-        heads3.new firsts.old seconds.old firsts.new seconds.new done tail
-        result }
+        Settling (length rules.tree.parents.now) rules.tree.parents.now rules.tree.names.now rules.numbers.now rules.keys.now
+        (given_keys (length rules.tree.parents.now) (option_copied rules.more)) start (roots_of groups.old) kinds.old.forks.links
+        kinds.old.forks.heads kinds.old.backs.links kinds.old.backs.heads kinds.old.others.links kinds.old.others.heads
+        kinds.old.queue.firsts kinds.old.queue.seconds done kinds.old.queue.tail }
+    requires due { done < kinds.old.queue.tail }
+    ensures { SettledAt (length rules.entry.tree.parents.now) rules.entry.tree.parents.now rules.entry.tree.names.now
+        rules.entry.numbers.now rules.entry.keys.now (given_keys (length rules.entry.tree.parents.now) (option_copied rules.entry.more))
+        groups.old groups.new kinds.old.forks.links kinds.old.forks.heads kinds.old.backs.links kinds.old.backs.heads
+        kinds.old.others.links kinds.old.others.heads kinds.new.forks.links kinds.new.forks.heads kinds.new.backs.links
+        kinds.new.backs.heads kinds.new.others.links kinds.new.others.heads kinds.old.queue.firsts kinds.old.queue.seconds
+        kinds.new.queue.firsts kinds.new.queue.seconds done kinds.old.queue.tail kinds.new.queue.tail }
 {
-    let roots = forest::join(groups, wide16(firsts[done]), wide16(seconds[done]));
+    let v = kinds.queue.firsts[done] as usize;
+    let w = kinds.queue.seconds[done] as usize;
+    let roots = forest::join(groups, v, w);
     if roots.to == roots.from {
-        return tail;
+        return;
     }
-    merge_all(
-        parents, names, numbers, keys, more, links1, heads1, links2, heads2, links3, heads3,
-        firsts, seconds, tail, roots.to, roots.from,
-    )
+    merge_all(rules, kinds, roots.to, roots.from);
 }
 
 // Joins pair after pair, until none is left in the queue.
-fn settle(
-    parents: &[u16],
-    names: &[u8],
-    numbers: &[u16],
-    keys: &[u8],
-    more: &[u8],
-    groups: &mut [u16],
-    links1: &mut [u16; STATE_LIMIT],
-    heads1: &mut [u16; STATE_LIMIT],
-    links2: &mut [u16; STATE_LIMIT],
-    heads2: &mut [u16; STATE_LIMIT],
-    links3: &mut [u16; STATE_LIMIT],
-    heads3: &mut [u16; STATE_LIMIT],
-    firsts: &mut [u16; PAIR_LIMIT],
-    seconds: &mut [u16; PAIR_LIMIT],
-    tail: usize,
-)
-    requires forest { Forest (length parents.now) groups.old }
-    requires settling { Settling (length parents.now) parents.now names.now numbers.now keys.now more.now
-        (roots_of groups.old) (roots_of groups.old) links1.old heads1.old links2.old heads2.old links3.old
-        heads3.old firsts.old seconds.old 0 tail }
-    ensures { SettledAll (length parents.now) parents.now names.now numbers.now
-        keys.now more.now groups.old groups.new }
+fn settle(rules: Rules, groups: &mut [u16], kinds: &mut Kinds)
+    requires forest { Forest (length rules.tree.parents.now) groups.old }
+    requires settling { Settling (length rules.tree.parents.now) rules.tree.parents.now rules.tree.names.now
+        rules.numbers.now rules.keys.now (given_keys (length rules.tree.parents.now) (option_copied rules.more)) (roots_of groups.old)
+        (roots_of groups.old) kinds.old.forks.links kinds.old.forks.heads kinds.old.backs.links kinds.old.backs.heads
+        kinds.old.others.links kinds.old.others.heads kinds.old.queue.firsts kinds.old.queue.seconds 0
+        kinds.old.queue.tail }
+    ensures { SettledAll (length rules.entry.tree.parents.now) rules.entry.tree.parents.now rules.entry.tree.names.now
+        rules.entry.numbers.now rules.entry.keys.now (given_keys (length rules.entry.tree.parents.now) (option_copied rules.entry.more))
+        groups.old groups.new }
 {
     let mut done = 0;
-    let mut end = tail;
-    while done < end {
-        end = settle_at(
-            parents, names, numbers, keys, more, groups, links1, heads1, links2, heads2, links3,
-            heads3, firsts, seconds, done, end,
-        );
+    while done < kinds.queue.tail {
+        settle_at(rules, groups, kinds, done);
         done += 1;
     }
 }
 
-// What `close` does, with its arrays made. Where no pair is queued the partition is closed as it is, and is left.
-fn close_in(
-    both: bool,
-    parents: &[u16],
-    names: &[u8],
-    numbers: &[u16],
-    keys: &[u8],
-    more: &[u8],
-    groups: &mut [u16],
-    links1: &mut [u16; STATE_LIMIT],
-    heads1: &mut [u16; STATE_LIMIT],
-    links2: &mut [u16; STATE_LIMIT],
-    heads2: &mut [u16; STATE_LIMIT],
-    links3: &mut [u16; STATE_LIMIT],
-    heads3: &mut [u16; STATE_LIMIT],
-    firsts: &mut [u16; PAIR_LIMIT],
-    seconds: &mut [u16; PAIR_LIMIT],
-)
-    requires ready { RoundReady (length groups.old) parents.now names.now numbers.now keys.now more.now
-        groups.old }
-    requires no_forks { NoLists links1.old heads1.old }
-    requires no_backs { NoLists links2.old heads2.old }
-    requires no_others { NoLists links3.old heads3.old }
-    requires queue { QueueRoom firsts.old seconds.old }
-    requires one_set { both ≡ false → NoKeys (length groups.old) more.now }
+// Joins groups until the partition is closed under forks and under both sets of keys against the arcs, or under one where there is
+// no other. Where no pair is queued the partition is closed as it is, and is left.
+pub fn close(tree: Tree, numbers: &[u16], keys: &[u8], more: Option<&[u8]>, groups: &mut [u16])
+    requires ready { RoundReady (length groups.old) tree.parents.now tree.names.now numbers.now keys.now
+        (given_keys (length groups.old) (option_copied more)) groups.old }
     ensures { JoinedUntil
-        (RoundClosed (length groups.old) parents.now names.now numbers.now
-        keys.now more.now)
+        (RoundClosed (length groups.old) tree.entry.parents.now tree.entry.names.now numbers.now
+        keys.now (given_keys (length groups.old) (option_copied more.entry)))
         (length groups.old) groups.old groups.new }
 {
-    let tail = fill_all(
-        both, parents, names, numbers, keys, more, groups, links1, heads1, links2, heads2, links3,
-        heads3, firsts, seconds,
-    );
-    if tail == 0 {
+    let rules = Rules { tree, numbers, keys, more };
+    let mut kinds = Kinds::new();
+    fill_all(rules, groups, &mut kinds);
+    if kinds.queue.tail == 0 {
         return;
     }
-    settle(
-        parents, names, numbers, keys, more, groups, links1, heads1, links2, heads2, links3,
-        heads3, firsts, seconds, tail,
-    );
+    settle(rules, groups, &mut kinds);
     forest::flatten(groups);
-}
-
-// Joins groups until the partition is closed under forks and under both sets of keys against the arcs; `both` is false where the
-// second set has none.
-pub fn close(
-    both: bool,
-    parents: &[u16],
-    names: &[u8],
-    numbers: &[u16],
-    keys: &[u8],
-    more: &[u8],
-    groups: &mut [u16],
-)
-    requires ready { RoundReady (length groups.old) parents.now names.now numbers.now keys.now more.now
-        groups.old }
-    requires one_set { both ≡ false → NoKeys (length groups.old) more.now }
-    ensures { JoinedUntil
-        (RoundClosed (length groups.old) parents.now names.now numbers.now
-        keys.now more.now)
-        (length groups.old) groups.old groups.new }
-{
-    let mut links1 = [0u16; STATE_LIMIT];
-    let mut heads1 = [0u16; STATE_LIMIT];
-    let mut links2 = [0u16; STATE_LIMIT];
-    let mut heads2 = [0u16; STATE_LIMIT];
-    let mut links3 = [0u16; STATE_LIMIT];
-    let mut heads3 = [0u16; STATE_LIMIT];
-    let mut firsts = [0u16; PAIR_LIMIT];
-    let mut seconds = [0u16; PAIR_LIMIT];
-    close_in(
-        both,
-        parents,
-        names,
-        numbers,
-        keys,
-        more,
-        groups,
-        &mut links1,
-        &mut heads1,
-        &mut links2,
-        &mut heads2,
-        &mut links3,
-        &mut heads3,
-        &mut firsts,
-        &mut seconds,
-    );
 }
