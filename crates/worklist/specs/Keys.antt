@@ -1,5 +1,5 @@
 -- A set of keys that may be missing, as a list: where it is, no state has a key. Assumes nothing.
-use Rattle.std.specs.Prelude.{List, ℕ, replicate, Option, None, Some, option_copied}
+use Rattle.std.specs.Prelude.{List, ℕ, replicate, Option, None, Some}
 use Rattle.base.specs.Limits.{name_limit}
 
 -- the keys, or n numbers that are none

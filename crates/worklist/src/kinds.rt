@@ -1,6 +1,6 @@
 // The three kinds of arcs that `close` goes by, with their lists and the queue.
 ghost use Rattle.std.specs.Prelude.{◌≡◌};
-ghost use Rattle.worklist.specs.Settling.{NoLists, QueueRoom};
+ghost use Rattle.worklist.specs.Settling.{NoLists};
 
 use crate::lists::{Lists, Queue};
 use indexed::Tree;
@@ -30,7 +30,6 @@ impl Kinds {
         ensures no_forks { NoLists result.forks.links result.forks.heads }
         ensures no_backs { NoLists result.backs.links result.backs.heads }
         ensures no_others { NoLists result.others.links result.others.heads }
-        ensures queue { QueueRoom result.queue.firsts result.queue.seconds }
         ensures empty { result.queue.tail ≡ 0 }
     {
         Kinds {

@@ -5,7 +5,7 @@
 
 pub mod arcs;
 pub mod forks;
-pub mod kinds;
+mod kinds;
 pub mod lists;
 pub mod search;
 
@@ -13,7 +13,7 @@ ghost use Rattle.std.specs.Prelude.{◌≡◌, List, ℕ, ◌<◌, length, optio
 ghost use Rattle.base.specs.Limits.{state_limit};
 ghost use Rattle.partition.specs.Forests.{Forest, roots_of};
 ghost use Rattle.worklist.specs.Keys.{given_keys};
-ghost use Rattle.worklist.specs.Settling.{RoundReady, RoundClosed, JoinedUntil, NoLists, QueueRoom, FilledAll};
+ghost use Rattle.worklist.specs.Settling.{RoundReady, RoundClosed, JoinedUntil, NoLists, FilledAll};
 ghost use Rattle.worklist.specs.Settling.{ListedAll, MergedAll, Settling, SettledAt, SettledAll};
 
 use crate::arcs::Arcs;
@@ -35,13 +35,29 @@ fn fill_all(rules: Rules, groups: &[u16], kinds: &mut Kinds)
         kinds.old.queue.firsts kinds.old.queue.seconds kinds.new.queue.firsts kinds.new.queue.seconds 0
         kinds.new.queue.tail }
 {
-    let Rules { tree, numbers, keys, more } = rules;
-    let forks = Arcs { outs: numbers, keys: tree.names };
-    kinds.forks.fill(tree.parents, forks, groups, &mut kinds.queue);
-    let backs = Arcs { outs: tree.parents, keys };
+    let Rules {
+        tree,
+        numbers,
+        keys,
+        more,
+    } = rules;
+    let forks = Arcs {
+        outs: numbers,
+        keys: tree.names,
+    };
+    kinds
+        .forks
+        .fill(tree.parents, forks, groups, &mut kinds.queue);
+    let backs = Arcs {
+        outs: tree.parents,
+        keys,
+    };
     kinds.backs.fill(numbers, backs, groups, &mut kinds.queue);
     if let Some(keys) = more {
-        let others = Arcs { outs: tree.parents, keys };
+        let others = Arcs {
+            outs: tree.parents,
+            keys,
+        };
         kinds.others.fill(numbers, others, groups, &mut kinds.queue);
     }
 }
@@ -66,13 +82,27 @@ fn merge_all(rules: Rules, kinds: &mut Kinds, to: usize, from: usize)
         kinds.new.others.links kinds.new.others.heads kinds.old.queue.firsts kinds.old.queue.seconds
         kinds.new.queue.firsts kinds.new.queue.seconds kinds.old.queue.tail kinds.new.queue.tail }
 {
-    let Rules { tree, numbers, keys, more } = rules;
-    let forks = Arcs { outs: numbers, keys: tree.names };
+    let Rules {
+        tree,
+        numbers,
+        keys,
+        more,
+    } = rules;
+    let forks = Arcs {
+        outs: numbers,
+        keys: tree.names,
+    };
     kinds.forks.merge(forks, &mut kinds.queue, to, from);
-    let backs = Arcs { outs: tree.parents, keys };
+    let backs = Arcs {
+        outs: tree.parents,
+        keys,
+    };
     kinds.backs.merge(backs, &mut kinds.queue, to, from);
     if let Some(keys) = more {
-        let others = Arcs { outs: tree.parents, keys };
+        let others = Arcs {
+            outs: tree.parents,
+            keys,
+        };
         kinds.others.merge(others, &mut kinds.queue, to, from);
     }
 }
@@ -95,11 +125,10 @@ fn settle_at(rules: Rules, groups: &mut [u16], kinds: &mut Kinds, done: usize)
 {
     let v = kinds.queue.firsts[done] as usize;
     let w = kinds.queue.seconds[done] as usize;
-    let roots = forest::join(groups, v, w);
-    if roots.to == roots.from {
-        return;
+    match forest::join(groups, v, w) {
+        Some(roots) => merge_all(rules, kinds, roots.to, roots.from),
+        None => {}
     }
-    merge_all(rules, kinds, roots.to, roots.from);
 }
 
 // Joins pair after pair, until none is left in the queue.
@@ -131,7 +160,12 @@ pub fn close(tree: Tree, numbers: &[u16], keys: &[u8], more: Option<&[u8]>, grou
         keys.now (given_keys (length groups.old) (option_copied more.entry)))
         (length groups.old) groups.old groups.new }
 {
-    let rules = Rules { tree, numbers, keys, more };
+    let rules = Rules {
+        tree,
+        numbers,
+        keys,
+        more,
+    };
     let mut kinds = Kinds::new();
     fill_all(rules, groups, &mut kinds);
     if kinds.queue.tail == 0 {

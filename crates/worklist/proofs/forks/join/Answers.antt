@@ -1,0 +1,15 @@
+-- The groups of both states are made one, and where they were two, their lists are merged.
+use mathlib.Core.Path.{refl}
+use Rattle.worklist.proofs.SizeLaws.{roots_by_states}
+use Rattle.worklist.proofs.ForkLaws.{pair-skipped, pair_joined}
+use Rattle.worklist.proofs.forks.join.Goals as goal
+
+pub returns-in-None : goal.returns-in-None
+returns-in-None c =
+    pair-skipped c.requires.forest c.requires.v_inside c.requires.w_inside
+    (roots_by_states c.requires.forest c.in-None.ensures) refl
+
+pub returns-in-Some : goal.returns-in-Some
+returns-in-Some c =
+    pair_joined c.requires.forest c.requires.v_inside c.requires.w_inside
+    (roots_by_states c.requires.forest c.in-Some.ensures.1) c.in-Some.ensures.0 c.merge.ensures c.requires.sorted.1
