@@ -1,20 +1,41 @@
+use Prim.Native.Nat.{◌+◌}
 use native.Mathlib.Omega.{arith}
-use lib.ListN.{get_or}
-use Rattle.plan_reading.proofs.PieceLaws.{piece_after, tag-cut, end-begins, tag-slash, tag-named}
+use Rattle.std.proofs.lemmas.Result.{err_from_is_err_and}
+use Rattle.plan_reading.proofs.PieceLaws.{name-behind, tag_ends, tag_unended, tag-named}
 use Rattle.plan_reading.proofs.pieces.tag_at.Goals as goal
+use Rattle.plan_reading.proofs.pieces.tag_at.Goals.{in_default-via-in-Some+then-r-plan+else-plan-r-eq47, in_default-via-in-Some+else-r-plan, in_default-via-in_default}
 
-pub returns-then-plan-at : goal.returns-then-plan-at
-returns-then-plan-at c = tag-cut c.args.plan.now c.args.stack.now c.args.r c.if-plan-at.true
+pub returns-in_err-at-in-Some : goal.returns-in_err-at-in-Some
+returns-in_err-at-in-Some c =
+    let p = err_from_is_err_and c.from_residual.result c.from_residual.ensures.1 in
+    let inner = c.in-Some.ensures in
+    rw (p.1, p.2)
+    (tag_unended c.args.plan.now c.args.stack.now.opens c.args.stack.now.depth c.args.r c.in-Some.innermost inner.1 inner.0
+    c.if-r-plan.true c.if-plan-r-eq47.true _ c.in_err-at-in-Some.ensures)
 
-pub returns-then-plan-at-2 : goal.returns-then-plan-at-2
-returns-then-plan-at-2 c =
-    let s = c.args.plan.now in
-    let stack = c.args.stack.now in
-    let r = c.args.r in
-    let begins = end-begins r.depth (get_or s r.at 0) c.if-plan-at-2.true in
-    let first = tag-slash s stack r c.if-plan-at.false begins.0 begins.1 in
-    piece_after s stack _ r.at r _ _ first (omega arith) c.end_tag.result c.end_tag.ensures
+pub returns-in_ok-at-in-Some : goal.returns-in_ok-at-in-Some
+returns-in_ok-at-in-Some c =
+    let inner = c.in-Some.ensures in
+    tag_ends c.args.plan.now c.args.stack.now.opens c.args.stack.now.depth c.args.r c.in-Some.innermost inner.1 inner.0
+    c.if-r-plan.true c.if-plan-r-eq47.true c.requires c.in_ok-at-in-Some.at c.in_ok-at-in-Some.ensures
 
-pub returns : goal.returns
-returns c =
-    tag-named c.args.plan.now c.args.stack.now c.args.r c.if-plan-at-2.false c.tag_name.result c.tag_name.ensures
+pub returns-in_default : goal.returns-in_default
+returns-in_default c =
+    tag-named c.args.plan.now c.args.stack.now.opens c.args.stack.now.depth c.args.r
+    (λ deep h e.
+    elim c.in_default.branch [
+      | in_default-via-in-Some+then-r-plan+else-plan-r-eq47 w ↦ w.if-plan-r-eq47.false e
+      | in_default-via-in-Some+else-r-plan w ↦ omega arith
+      | in_default-via-in_default w ↦ omega (arith, w.in_default.ensures)
+    ])
+    c.tag_name.result c.tag_name.ensures
+
+pub end_tag-requires : goal.end_tag-requires
+end_tag-requires c =
+    let inner = c.in-Some.ensures in
+    record {
+      name_behind =
+          name-behind c.args.plan.now c.args.stack.now.opens c.args.stack.now.depth c.args.r c.in-Some.innermost (c.args.r.at + 1) c.requires
+          inner.0 inner.1 (omega arith);
+      at_in_bounds = omega arith;
+    }
