@@ -20,6 +20,7 @@ const HASHES: usize = 256;
 
 // The first `count` fields of a list, which are its names: where each begins; and guesses, for a hash the number of a name that has it.
 // Nothing is promised of the guesses.
+#[derive(Drop)]
 pub struct Index<'a> {
     pub list: &'a [u8],
     pub count: u8,
