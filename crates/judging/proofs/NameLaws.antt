@@ -42,12 +42,15 @@ name_start [] h = refl
 name_start (b ∷ s) h = rw (h, and-false)
 
 pub name_rest : (s : List ℕ) → 0 < length s → length s ≤ name_bytes → starts_name (get_or s 0 0) ≡ true
-    → list_all continues_name (take (length s - 1) (drop 1 s)) ≡ name_ok s
+    → all continues_name (take (length s - 1) (drop 1 s)) ≡ name_ok s
 unfolding name_ok
 name_rest [] g h e = let z : ⊥ = omega arith in absurd z
 name_rest (b ∷ s) g h e =
     let q : length (b ∷ s) - 1 ≡ length s = omega arith in
-    rw (q, take-length s, all_is continues_name s, le-leb (length (b ∷ s)) name_bytes h, e)
+    rw (q, take-length s, le-leb (length (b ∷ s)) name_bytes h, e)
+
+-- what is known of a name by each test
+pub ruleset tested = (name_empty, name_long, name_start, name_rest)
 
 -- the order of slices in std is this order
 pub before_less : (a b : List ℕ) (r : Bool) → r ≡ partial_lt (slice_partial_cmp (λ x y. Some (nat_cmp x y))) a b → r ≡ before a b

@@ -1,6 +1,6 @@
 // Names: which bytes they have, their order, and the refusals 5, 6 and 7; and the n-th of them, by its number.
 ghost use Rattle.std.specs.Prelude.{◌≡◌, ◌≤◌, length};
-ghost use Rattle.base.specs.Lists.{before};
+ghost use Rattle.base.specs.Lists.{all, before};
 ghost use Rattle.base.specs.Refusals.{fault_of};
 ghost use Rattle.model.specs.Fields.{starts_name, continues_name, name_ok};
 ghost use Rattle.judging.specs.Judged.{NameJudged};
@@ -24,17 +24,26 @@ pub fn continues_name(b: u8) -> bool
     starts_name(b) || matches!(b, b'0'..=b'9' | b'.' | b'-')
 }
 
+// Whether these bytes may all stand in a name after its first.
+fn all_continue(bytes: &[u8]) -> bool
+    ensures { result ≡ all continues_name bytes.now }
+{
+    bytes.iter().all(|b| continues_name(*b))
+}
+
 // Whether the bytes are an allowed name.
+#[tactic(auto, using(crate::proofs::NameLaws::tested))]
 pub fn name_ok(name: &[u8]) -> bool
     ensures { result ≡ name_ok name.now }
 {
     let [first, rest @ ..] = name else {
         return false;
     };
-    name.len() <= NAME_BYTES && starts_name(*first) && rest.iter().all(|b| continues_name(*b))
+    name.len() <= NAME_BYTES && starts_name(*first) && all_continue(rest)
 }
 
 // Whether a stands strictly before b in ascending byte order.
+#[tactic(auto, using(crate::proofs::NameLaws::before_less))]
 pub fn sorts_before(a: &[u8], b: &[u8]) -> bool
     ensures { result ≡ before a.now b.now }
 {
