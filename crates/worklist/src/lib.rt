@@ -14,12 +14,12 @@ ghost use Rattle.base.specs.Limits.{state_limit};
 ghost use Rattle.partition.specs.Forests.{Forest, roots_of};
 ghost use Rattle.worklist.specs.Keys.{given_keys};
 ghost use Rattle.worklist.specs.Settling.{RoundReady, RoundClosed, JoinedUntil, NoLists, FilledAll};
-ghost use Rattle.worklist.specs.Settling.{ListedAll, MergedAll, Settling, SettledAt, SettledAll};
+ghost use Rattle.worklist.specs.Settling.{ListedAll, MergedAll, Settling, SettledAll};
 
 use crate::arcs::Arcs;
 use crate::kinds::{Kinds, Rules};
 use indexed::Tree;
-use partition::forest;
+use partition::forest::{self, Roots};
 
 // Puts all arcs of three kinds into their lists, of two where there is no second set of keys.
 fn fill_all(rules: Rules, groups: &[u16], kinds: &mut Kinds)
@@ -107,30 +107,6 @@ fn merge_all(rules: Rules, kinds: &mut Kinds, to: usize, from: usize)
     }
 }
 
-// Joins the pair at `done`, where its states are of two groups, and merges the lists of both.
-fn settle_at(rules: Rules, groups: &mut [u16], kinds: &mut Kinds, done: usize)
-    requires forest { Forest (length rules.tree.parents.now) groups.old }
-    requires settling { (start : List ℕ) ×
-        Settling (length rules.tree.parents.now) rules.tree.parents.now rules.tree.names.now rules.numbers.now rules.keys.now
-        (given_keys (length rules.tree.parents.now) (option_copied rules.more)) start (roots_of groups.old) kinds.old.forks.links
-        kinds.old.forks.heads kinds.old.backs.links kinds.old.backs.heads kinds.old.others.links kinds.old.others.heads
-        kinds.old.queue.firsts kinds.old.queue.seconds done kinds.old.queue.tail }
-    requires due { done < kinds.old.queue.tail }
-    ensures { SettledAt (length rules.entry.tree.parents.now) rules.entry.tree.parents.now rules.entry.tree.names.now
-        rules.entry.numbers.now rules.entry.keys.now (given_keys (length rules.entry.tree.parents.now) (option_copied rules.entry.more))
-        groups.old groups.new kinds.old.forks.links kinds.old.forks.heads kinds.old.backs.links kinds.old.backs.heads
-        kinds.old.others.links kinds.old.others.heads kinds.new.forks.links kinds.new.forks.heads kinds.new.backs.links
-        kinds.new.backs.heads kinds.new.others.links kinds.new.others.heads kinds.old.queue.firsts kinds.old.queue.seconds
-        kinds.new.queue.firsts kinds.new.queue.seconds done kinds.old.queue.tail kinds.new.queue.tail }
-{
-    let v = kinds.queue.firsts[done] as usize;
-    let w = kinds.queue.seconds[done] as usize;
-    match forest::join(groups, v, w) {
-        Some(roots) => merge_all(rules, kinds, roots.to, roots.from),
-        None => {}
-    }
-}
-
 // Joins pair after pair, until none is left in the queue.
 fn settle(rules: Rules, groups: &mut [u16], kinds: &mut Kinds)
     requires forest { Forest (length rules.tree.parents.now) groups.old }
@@ -144,8 +120,10 @@ fn settle(rules: Rules, groups: &mut [u16], kinds: &mut Kinds)
         groups.old groups.new }
 {
     let mut done = 0;
-    while done < kinds.queue.tail {
-        settle_at(rules, groups, kinds, done);
+    while let Some((v, w)) = kinds.queue.pair(done) {
+        if let Some(Roots { to, from }) = forest::join(groups, v, w) {
+            merge_all(rules, kinds, to, from);
+        }
         done += 1;
     }
 }

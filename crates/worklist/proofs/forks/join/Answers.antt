@@ -4,10 +4,10 @@ use Rattle.worklist.proofs.SizeLaws.{roots_by_states}
 use Rattle.worklist.proofs.ForkLaws.{pair-skipped, pair_joined}
 use Rattle.worklist.proofs.forks.join.Goals as goal
 
-pub returns-in-None : goal.returns-in-None
-returns-in-None c =
+pub returns-in_default : goal.returns-in_default
+returns-in_default c =
     pair-skipped c.requires.forest c.requires.v_inside c.requires.w_inside
-    (roots_by_states c.requires.forest c.in-None.ensures) refl
+    (roots_by_states c.requires.forest c.in_default.ensures) refl
 
 pub returns-in-Some : goal.returns-in-Some
 returns-in-Some c =
