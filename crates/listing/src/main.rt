@@ -22,10 +22,7 @@ fn main(rt: HostRuntime) -> io::Result<()> {
 // Whether there is an argument after the program's name: one too long to be copied is one as well.
 fn has_arguments(rt: &impl Env) -> bool {
     let mut first = [0u8; 1];
-    match rt.arg(1, &mut first) {
-        Err(FillError::NotPresent) => false,
-        _ => true,
-    }
+    !matches!(rt.arg(1, &mut first), Err(FillError::NotPresent))
 }
 
 // All of an input, or so much of it as shows that it is over the longest.
