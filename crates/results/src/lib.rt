@@ -3,7 +3,7 @@
 
 ghost use Rattle.std.specs.Prelude.{◌≡◌};
 ghost use Rattle.base.specs.Refusals.{number_of};
-ghost use Rattle.results.specs.Says.{not_counted, uncounted, not_rewritten, not_walked, not_written, plan_rows_of};
+ghost use Rattle.results.specs.Says.{not_built, not_counted, uncounted, not_rewritten, not_walked, not_written, plan_rows_of};
 
 use base::refusals::Refusal;
 
@@ -72,7 +72,19 @@ pub struct PlanRows {
     pub at: u32,
 }
 
-// A refused build: no table, no states, no joins, no rows, no counts.
+// A refused build: no table, no states, no joins, no rows.
+impl From<Refusal> for Built {
+    ghost from_gives = { λ refusal built. built ≡ not_built (number_of refusal) };
+
+    fn from(refusal: Refusal) -> Built {
+        Built {
+            refusal: refusal.into(),
+            ..Built::default()
+        }
+    }
+}
+
+// A refused build with counts: the same, and no counts.
 impl From<Refusal> for Counted {
     ghost from_gives = { λ refusal counted. counted ≡ not_counted (number_of refusal) };
 
