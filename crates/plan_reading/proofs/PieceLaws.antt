@@ -3,13 +3,13 @@
 use Rattle.std.proofs.Common.{Result, Ok, Err}
 use mathlib.Core.Path.{◌≡◌, refl, sym, ap, ◌∙◌, subst}
 use mathlib.Core.Logic.{⊎_elim}
-use mathlib.Core.Bool.{Bool, true, false, ◌&&◌, ◌||◌, cond, true≢false, false≢true, and-eq-true_iff}
+use mathlib.Core.Bool.{Bool, true, false, ◌||◌, cond, true≢false, false≢true}
 use mathlib.Core.List.{List, [], ◌∷◌, ◌++◌}
-use Prim.Native.Nat.{ℕ, zero, suc, ◌+◌, ◌-◌, ◌*◌, ◌≤◌, ◌<◌}
+use Prim.Native.Nat.{ℕ, zero, suc, ◌+◌, ◌-◌, ◌≤◌, ◌<◌}
 use native.Mathlib.Omega.{arith}
-use lib.Dec.{eqb, ltb, eqb-suc-zero}
+use lib.Dec.{eqb, eqb-suc-zero}
 use lib.ListN.{length, get_or, drop}
-use borrow.Author.Tests.{eqb-true, eq-eqb, ne_eqb, lt-ltb, ltb-true, ltb-false, not-true}
+use borrow.Author.Tests.{eq-eqb, ne_eqb, not-true}
 use Rattle.base.specs.Limits.{bad_plan}
 use Rattle.base.proofs.Tests.{le_or_lt, false_or}
 use Rattle.written_plans.specs.Written.{is_white, is_text, less, slash, greater, ampersand}
@@ -18,7 +18,7 @@ use Rattle.written_plans.specs.Reading.{stop, go, after_name, after_end, end_beg
 use Rattle.written_plans.proofs.WrittenRuns.{slash-ends}
 use Rattle.plan_reading.specs.Scanning.{part, Skipped, NameEnds, Agrees}
 use Rattle.plan_reading.specs.Pieces.{open_at, open_name, open_names, between, place_of, reads, ReadsOn, Stops, Stacked, NameBehind}
-use Rattle.plan_reading.specs.Pieces.{ByteAt, BeforeTag, follows_name, Passed, Met, PieceFrom, AfterLess, NameFrom, EndFrom, CloseFrom}
+use Rattle.plan_reading.specs.Pieces.{ByteAt, BeforeTag, follows_name, Met, PieceFrom, AfterLess, NameFrom, EndFrom, CloseFrom}
 use Rattle.plan_reading.specs.declared.opens.Open.{Open}
 use Rattle.plan_reading.specs.declared.pieces.Reached.{Reached}
 use Rattle.plan_reading.specs.declared.pieces.BadByte.{BadByte}
@@ -26,7 +26,7 @@ use Rattle.plan_reading.specs.declared.pieces.Piece.{Piece}
 use Rattle.plan_reading.specs.declared.pieces.Piece.TheVariants as piece
 use Rattle.plan_reading.specs.declared.pieces.Close.TheVariants as close
 use Rattle.plan_reading.proofs.ScanLaws.{part_none}
-use Rattle.plan_reading.proofs.StepLaws.{reads_end, reads-stop, reads-bad, reads_go}
+use Rattle.plan_reading.proofs.StepLaws.{reads-stop, reads-bad, reads_go}
 use Rattle.plan_reading.proofs.RunLaws.{skipped_reads, name-read, part-cons, agrees_reads}
 
 -- ---- one byte
@@ -59,8 +59,7 @@ module _ (s : List ℕ) (at next : ℕ) (white : Skipped is_white s at next) whe
   unfolding step met after_name
   end-full e there =
       let onward : at ≤ next = white.onward in
-      subst (λ (z : ℕ). CloseFrom s at (Ok (close.Full z))) (sym there.0)
-      (
+      subst (λ (z : ℕ). CloseFrom s at (Ok (close.Full z))) (sym there.0) (
         λ around n judge.
             past_white around n judge
             ∙ read_byte s (named around n) (inside n around) next there.1 (rw (there.2)) (λ b rest. refl) judge,
@@ -99,8 +98,7 @@ module _ (s : List ℕ) (at next : ℕ) (white : Skipped is_white s at next) whe
     unfolding step met
     end_empty last there =
         let onward : at ≤ next = white.onward in
-        subst (λ (z : ℕ). CloseFrom s at (Ok (close.Empty z))) (sym there.0)
-        (
+        subst (λ (z : ℕ). CloseFrom s at (Ok (close.Empty z))) (sym there.0) (
           λ around n judge.
               past_slash around n judge
               ∙ read_byte s (emptied around) (leave around) (next + 1) there.1 (rw (there.2)) (λ b rest. refl) judge,
@@ -267,8 +265,7 @@ module _ (s : List ℕ) (element : Open) (at : ℕ) (behind : NameBehind element
       end_due (Ok e) there =
           let onward : at ≤ last = run.onward in
           let more : last ≤ next = white.onward in
-          subst (λ (z : ℕ). EndFrom s element at (Ok z)) (sym there.0)
-          (
+          subst (λ (z : ℕ). EndFrom s element at (Ok z)) (sym there.0) (
             λ around judge.
                 past-name around judge
                 ∙ read_byte s (closing [] around) (leave around) next there.1 (rw (there.2)) (λ b rest. refl) judge,

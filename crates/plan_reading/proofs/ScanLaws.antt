@@ -13,7 +13,7 @@ use Rattle.base.proofs.Tests.{eq_dec}
 use Rattle.model.specs.Fields.{name_ok, starts_name, continues_name}
 use Rattle.written_plans.specs.Reading.{begins_name}
 use Rattle.written_plans.proofs.NameRule.{name_begun, name_first, name_not_first, name_more, name_not_more, name_full}
-use Rattle.plan_reading.specs.Scanning.{part, Skipped, NameEnds, Agrees}
+use Rattle.plan_reading.specs.Scanning.{part, NameEnds, Agrees}
 
 -- ---- parts
 

@@ -5,7 +5,7 @@ use mathlib.Core.Logic.{◌≢◌, ⊎_elim}
 use mathlib.Core.Bool.{Bool, true, false, ◌&&◌, not}
 use mathlib.Core.List.{List, ◌∷◌}
 use Rattle.std.proofs.Common.{Some}
-use Prim.Native.Nat.{ℕ, zero, suc, ◌+◌, ◌*◌, ◌-◌, ◌≤◌, ◌<◌}
+use Prim.Native.Nat.{ℕ, zero, suc, ◌-◌, ◌≤◌, ◌<◌}
 use native.Mathlib.Omega.{arith}
 use lib.Dec.{eqb, ltb, leb}
 use lib.ListN.{length, set}
@@ -20,8 +20,8 @@ use Rattle.written_plans.specs.Written.{tag}
 use Rattle.written_plans.specs.Reading.{is_child, tag_fault}
 use Rattle.plan_reading.specs.Scanning.{part}
 use Rattle.plan_reading.specs.Pieces.{open_at, open_name, open_names, IsInnermost}
-use Rattle.plan_reading.specs.Turns.{sought_names, sought_name, SoughtIn, Numbered, TagJudged}
-use Rattle.plan_reading.specs.declared.Sought.{Sought}
+use Rattle.plan_reading.specs.Turns.{sought_names, sought_name, Numbered, TagJudged}
+use Rattle.plan_reading.specs.declared.sought.Sought.{Sought}
 use Rattle.plan_reading.specs.declared.opens.Open.{Open}
 
 -- ---- the names of the open elements
@@ -75,15 +75,15 @@ known_passes false = refl
 
 -- the innermost open element is a chosen one by its number on the stack
 child_test :
-    (list : List ℕ) (sought : Sought) (s : List ℕ) (opens : List Open) (depth : ℕ)
-    → SoughtIn list sought → Numbered (sought_names list sought) s opens depth → 0 < depth
-    → is_child (sought_name list sought) (open_names s opens depth) ≡ eqb (open_at opens (depth - 1)).number sought.chosen
+    (sought : Sought) (s : List ℕ) (opens : List Open) (depth : ℕ) → Numbered (sought_names sought) s opens depth → 0 < depth
+    → is_child (sought_name sought) (open_names s opens depth) ≡ eqb (open_at opens (depth - 1)).number sought.chosen
 unfolding open_names is_child
-child_test list sought s opens zero named numbered inner = let z : ⊥ = omega arith in absurd z
-child_test list sought s opens (suc d) named numbered inner =
-    let some : sought.chosen < length (sought_names list sought) = omega (arith, named.some, length_fields list 0 sought.names) in
+child_test sought s opens zero numbered inner = let z : ⊥ = omega arith in absurd z
+child_test sought s opens (suc d) numbered inner =
+    let some : sought.chosen < length (sought_names sought) =
+    omega (arith, sought.some, length_fields sought.names.list.now 0 sought.names.count) in
     let place : d ≡ suc d - 1 = omega arith in
-    sym (number-only (sought_names list sought) named.ascends sought.chosen some (open_name s opens d))
+    sym (number-only (sought_names sought) sought.ascends sought.chosen some (open_name s opens d))
     ∙ ap (λ (k : ℕ). eqb k sought.chosen) (sym (numbered d (omega arith)))
     ∙ ap (λ (i : ℕ). eqb (open_at opens i).number sought.chosen) place
 
@@ -116,43 +116,43 @@ module _ (opens : List Open) (depth number : ℕ) (sought : Sought) where
       ap (leb plan_depth) (open_count s opens depth) ∙ told-false (tells_leb plan_depth depth) shallow
 
   -- a name is known by its number
-  known_by : (list name : List ℕ) → number ≡ name_number (sought_names list sought) name
-      → has_row name (sought_names list sought) ≡ ltb number sought.names
-  known_by list name e =
-      known_test (sought_names list sought) name ∙ ap₂ ltb (sym e) (length_fields list 0 sought.names)
+  known_by : (name : List ℕ) → number ≡ name_number (sought_names sought) name
+      → has_row name (sought_names sought) ≡ ltb number sought.names.count
+  known_by name e =
+      known_test (sought_names sought) name ∙ ap₂ ltb (sym e) (length_fields sought.names.list.now 0 sought.names.count)
 
   -- it stands inside too many others
   pub judged-deep : plan_depth ≤ depth → TagJudged opens depth number sought too_deep
   judged-deep h =
       record {
-        is = λ list s name onward named numbered e.
-            fault_is (sought_names list sought) (sought_name list sought) (around s) name onward
+        is = λ s name onward numbered e.
+            fault_is (sought_names sought) (sought_name sought) (around s) name onward
             (ap (leb plan_depth) (open_count s opens depth) ∙ (tells_leb plan_depth depth).test h) refl refl;
       }
 
   module _ (shallow : plan_depth ≤ depth → ⊥) where
     -- its name is known
-    pub judged-known : number < sought.names → TagJudged opens depth number sought 0
+    pub judged-known : number < sought.names.count → TagJudged opens depth number sought 0
     judged-known low =
         record {
-          is = λ list s name onward named numbered e.
-              let child = is_child (sought_name list sought) (around s) in
-              fault_is (sought_names list sought) (sought_name list sought) (around s) name onward (not_too_deep s shallow) refl
-              (known_by list name e ∙ (tells_ltb number sought.names).test low)
+          is = λ s name onward numbered e.
+              let child = is_child (sought_name sought) (around s) in
+              fault_is (sought_names sought) (sought_name sought) (around s) name onward (not_too_deep s shallow) refl
+              (known_by name e ∙ (tells_ltb number sought.names.count).test low)
               ∙ known_passes child;
         }
 
     -- its name is unknown, and it is a child of the chosen element
-    pub judged-unknown : (number < sought.names → ⊥) → (element : Open) → IsInnermost opens depth (Some element)
+    pub judged-unknown : (number < sought.names.count → ⊥) → (element : Open) → IsInnermost opens depth (Some element)
         → element.number ≡ sought.chosen → TagJudged opens depth number sought unknown_child
     judged-unknown high element inner child =
         record {
-          is = λ list s name onward named numbered e.
-              fault_is (sought_names list sought) (sought_name list sought) (around s) name onward (not_too_deep s shallow)
-              (child_test list sought s opens depth named numbered inner.0
+          is = λ s name onward numbered e.
+              fault_is (sought_names sought) (sought_name sought) (around s) name onward (not_too_deep s shallow)
+              (child_test sought s opens depth numbered inner.0
               ∙ ap (λ (o : Open). eqb o.number sought.chosen) (sym inner.1)
               ∙ (tells_eqb element.number sought.chosen).test child)
-              (known_by list name e ∙ told-false (tells_ltb number sought.names) high);
+              (known_by name e ∙ told-false (tells_ltb number sought.names.count) high);
         }
 
     -- or it is a child of another element
@@ -160,9 +160,9 @@ module _ (opens : List Open) (depth number : ℕ) (sought : Sought) where
         → TagJudged opens depth number sought 0
     judged-other element inner other =
         record {
-          is = λ list s name onward named numbered e.
-              fault_is (sought_names list sought) (sought_name list sought) (around s) name onward (not_too_deep s shallow)
-              (child_test list sought s opens depth named numbered inner.0
+          is = λ s name onward numbered e.
+              fault_is (sought_names sought) (sought_name sought) (around s) name onward (not_too_deep s shallow)
+              (child_test sought s opens depth numbered inner.0
               ∙ ap (λ (o : Open). eqb o.number sought.chosen) (sym inner.1)
               ∙ told-false (tells_eqb element.number sought.chosen) other)
               refl;
@@ -172,8 +172,8 @@ module _ (opens : List Open) (depth number : ℕ) (sought : Sought) where
     pub judged-outermost : depth ≡ 0 → TagJudged opens depth number sought 0
     judged-outermost none =
         record {
-          is = λ list s name onward named numbered e.
-              fault_is (sought_names list sought) (sought_name list sought) (around s) name onward (not_too_deep s shallow)
-              (child_of_none (sought_name list sought) s opens depth none)
+          is = λ s name onward numbered e.
+              fault_is (sought_names sought) (sought_name sought) (around s) name onward (not_too_deep s shallow)
+              (child_of_none (sought_name sought) s opens depth none)
               refl;
         }

@@ -2,14 +2,13 @@
 -- Assumes nothing.
 use mathlib.Core.Path.{◌≡◌, refl, sym, ap, ap₂, ◌∙◌, subst}
 use mathlib.Core.Logic.{⊎_elim}
-use mathlib.Core.Bool.{Bool, true, false, ◌&&◌, cond}
+use mathlib.Core.Bool.{Bool, false, cond}
 use mathlib.Core.List.{List, [], ◌∷◌, ◌++◌, map, map-append, append-nil, append_assoc}
-use Prim.Native.Nat.{ℕ, zero, suc, ◌+◌, ◌*◌, ◌≤◌, ◌<◌}
+use Prim.Native.Nat.{ℕ, zero, suc, ◌+◌, ◌≤◌, ◌<◌}
 use native.Mathlib.Omega.{arith}
-use lib.Dec.{eqb, ltb}
+use lib.Dec.{eqb}
 use lib.ListN.{length, drop, set, length-set}
 use lib.Seq.{get_or-set_same}
-use Rattle.std.proofs.Common.{Result, Ok, Err}
 use Rattle.base.specs.Limits.{plan_depth, bad_plan}
 use Rattle.base.specs.Refusals.{number_of}
 use Rattle.base.specs.declared.refusals.Refusal.{Refusal}
@@ -21,14 +20,14 @@ use Rattle.written_plans.specs.Reading.{Place, before, inside, named, after, lea
 use Rattle.written_plans.specs.Reading.{read_plan, Entry, entry_of}
 use Rattle.written_plans.specs.Logs.{entries_at}
 use Rattle.plan_reading.specs.Scanning.{part}
-use Rattle.plan_reading.specs.Pieces.{open_at, open_name, open_names, between, place_of, reads, ReadsOn, Stops, NameHere, Passed, Met}
+use Rattle.plan_reading.specs.Pieces.{open_at, open_names, between, place_of, reads, ReadsOn, Stops, NameHere, Passed, Met}
 use Rattle.plan_reading.specs.Turns.{Numbered, Standing, Begun, after_name_of, entry, ReadFurther, RefusedAs, Logged}
 use Rattle.plan_reading.specs.declared.opens.Open.{Open}
 use Rattle.plan_reading.specs.declared.opens.Stack.{Stack}
 use Rattle.plan_reading.specs.declared.pieces.Reached.{Reached}
 use Rattle.plan_reading.proofs.StepLaws.{reads_end, name-reads, name-refused}
 use Rattle.plan_reading.proofs.PieceLaws.{leave-between}
-use Rattle.plan_reading.proofs.StackLaws.{open_count, name_kept, names_kept, pushed-below}
+use Rattle.plan_reading.proofs.StackLaws.{open_count, names_kept, pushed-below}
 
 -- ---- an element from the end of its name on
 

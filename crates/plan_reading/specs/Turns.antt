@@ -1,17 +1,17 @@
 -- Reading from tag to tag: what is looked for, what holds between two tags, and what a turn of the reader and a whole plan answer. Assumes
 -- nothing.
 use Rattle.std.specs.Prelude.{◌≡◌, List, [], ◌++◌, map, ℕ, ◌+◌, ◌*◌, ◌≤◌, ◌<◌, length, get_or, Result, Ok, Err}
-use Rattle.base.specs.Limits.{input_limit, work_bytes, bad_plan}
+use Rattle.base.specs.Limits.{input_limit, work_bytes}
 use Rattle.base.specs.Refusals.{number_of}
 use Rattle.base.specs.declared.refusals.Refusal.TheVariants as refusal
-use Rattle.model.specs.Fields.{Ascends, name_number}
+use Rattle.model.specs.Fields.{name_number}
 use Rattle.judging.specs.Offsets.{fields_at}
 use Rattle.written_plans.specs.Written.{Tag, tag}
 use Rattle.written_plans.specs.Reading.{Place, named, tag_fault, Reading, with_tags, read_plan, Entry, entry_of}
 use Rattle.written_plans.specs.Logs.{entries_at}
 use Rattle.plan_reading.specs.Scanning.{part}
 use Rattle.plan_reading.specs.Pieces.{open_at, open_name, open_names, place_of, reads, ReadsOn, Stops, Stacked}
-use Rattle.plan_reading.specs.declared.Sought.{Sought}
+use Rattle.plan_reading.specs.declared.sought.Sought.{Sought}
 use Rattle.plan_reading.specs.declared.Fault.{Fault}
 use Rattle.plan_reading.specs.declared.opens.Open.{Open}
 use Rattle.plan_reading.specs.declared.opens.Stack.{Stack}
@@ -21,21 +21,16 @@ use Rattle.plan_reading.specs.declared.pieces.Reached.{Reached}
 -- ---- what is looked for
 
 -- the names of the list
-abbrev pub sought_names : List ℕ → Sought → List (List ℕ)
-sought_names list sought = fields_at list 0 sought.names
+abbrev pub sought_names : Sought → List (List ℕ)
+sought_names sought = fields_at sought.names.list.now 0 sought.names.count
 
 -- the chosen one
-abbrev pub sought_name : List ℕ → Sought → List ℕ
-sought_name list sought = get_or (sought_names list sought) sought.chosen []
+abbrev pub sought_name : Sought → List ℕ
+sought_name sought = get_or (sought_names sought) sought.chosen []
 
 -- how a tag is judged
-abbrev pub judge_of : List ℕ → Sought → Tag → ℕ
-judge_of list sought = tag_fault (sought_names list sought) (sought_name list sought)
-
--- the list's names ascend, and the chosen number is one of theirs
-pub record SoughtIn (list : List ℕ) (sought : Sought) : Type 0 where
-  pub ascends : Ascends (sought_names list sought)
-  pub some : sought.chosen < sought.names
+abbrev pub judge_of : Sought → Tag → ℕ
+judge_of sought = tag_fault (sought_names sought) (sought_name sought)
 
 -- ---- between two tags
 
@@ -53,11 +48,10 @@ pub record Standing (names : List (List ℕ)) (s : List ℕ) (opens : List Open)
   pub stacked : Stacked s opens depth r
   pub numbered : Numbered names s opens depth
 
--- what refuses a tag whose name has this number, for all names among which the open elements' numbers stand on the stack
+-- what refuses a tag whose name has this number among those sought, as the open elements' numbers on the stack
 pub record TagJudged (opens : List Open) (depth number : ℕ) (sought : Sought) (fault : ℕ) : Type 0 where
-  pub is : (list s name onward : List ℕ) → SoughtIn list sought → Numbered (sought_names list sought) s opens depth
-      → number ≡ name_number (sought_names list sought) name
-      → judge_of list sought (tag (open_names s opens depth) name onward) ≡ fault
+  pub is : (s name onward : List ℕ) → Numbered (sought_names sought) s opens depth → number ≡ name_number (sought_names sought) name
+      → judge_of sought (tag (open_names s opens depth) name onward) ≡ fault
 
 -- an element from the end of its name on: reading goes on between two tags; where it has a start tag, it is open there
 pub record Begun (names : List (List ℕ)) (s : List ℕ) (stack' : Stack) (q : Place) (i : ℕ) (r t : Reached) : Type 0 where

@@ -6,29 +6,21 @@ pub mod log;
 pub mod opens;
 pub mod pieces;
 pub mod scanning;
+pub mod sought;
 
-ghost use Rattle.std.specs.Prelude.{◌≡◌, ◌*◌, ◌≤◌, ◌<◌, length};
-ghost use Rattle.base.specs.Limits.{name_limit, plan_depth};
+ghost use Rattle.std.specs.Prelude.{◌≡◌, ◌<◌, length};
+ghost use Rattle.base.specs.Limits.{plan_depth};
 ghost use Rattle.base.specs.Refusals.{fault_of};
-ghost use Rattle.judging.specs.Offsets.{offset_at};
-ghost use Rattle.name_search.specs.Search.{Indexed};
 ghost use Rattle.plan_reading.specs.Pieces.{NameHere, Stacked};
-ghost use Rattle.plan_reading.specs.Turns.{sought_names, sought_name, judge_of, bad_byte, SoughtIn, Room, Standing, TagJudged, ElementAs};
+ghost use Rattle.plan_reading.specs.Turns.{sought_names, sought_name, judge_of, bad_byte, Room, Standing, TagJudged, ElementAs};
 ghost use Rattle.plan_reading.specs.Turns.{TurnFrom, PlanReadAs};
 
 use crate::log::put_entry;
 use crate::opens::{Open, Stack};
 use crate::pieces::{BadByte, Close, Piece, Reached, next_piece, tag_end};
+use crate::sought::Sought;
 use base::limits::PLAN_DEPTH;
 use base::refusals::Refusal;
-use name_search::{INDEX, index_names, number_by_guess};
-
-// What is looked for: how many names the list has, and which of them is chosen.
-#[derive(Clone, Copy)]
-pub struct Sought {
-    pub names: u8,
-    pub chosen: u8,
-}
 
 // Why a plan is refused, and the offset of that.
 #[derive(Clone, Copy, Debug, PartialEq, Eq)]
@@ -50,13 +42,13 @@ impl From<BadByte> for Fault {
 }
 
 // What refuses an element whose name has this number, inside those that are open.
-fn tag_fault(stack: &Stack, number: u8, sought: Sought) -> Result<(), Refusal>
-    ensures { TagJudged stack.now.opens stack.now.depth number sought (fault_of result) }
+fn tag_fault(stack: &Stack, number: u8, sought: &Sought) -> Result<(), Refusal>
+    ensures { TagJudged stack.now.opens stack.now.depth number sought.now (fault_of result) }
 {
     if PLAN_DEPTH <= stack.depth {
         return Err(Refusal::TooDeep);
     }
-    if number < sought.names {
+    if number < sought.names.count {
         return Ok(());
     }
     match stack.innermost() {
@@ -66,7 +58,12 @@ fn tag_fault(stack: &Stack, number: u8, sought: Sought) -> Result<(), Refusal>
 }
 
 // An element from the end of its name on: one with a start tag is opened.
-fn begin_element(plan: &[u8], element: Open, stack: &mut Stack, r: Reached) -> Result<Reached, BadByte>
+fn begin_element(
+    plan: &[u8],
+    element: Open,
+    stack: &mut Stack,
+    r: Reached,
+) -> Result<Reached, BadByte>
     requires name_here { NameHere plan.now element.from element.end }
     requires at_lt_from { r.at < element.from }
     requires depth_lt_plan_depth { stack.old.depth < plan_depth }
@@ -86,19 +83,15 @@ fn begin_element(plan: &[u8], element: Open, stack: &mut Stack, r: Reached) -> R
 // What stands next, up to the end of a tag: text, white space, and one tag.
 fn read_piece(
     plan: &[u8],
-    list: &[u8],
-    index: &[usize; INDEX],
-    sought: Sought,
+    sought: &Sought,
     stack: &mut Stack,
     log: &mut [u8],
     r: Reached,
 ) -> Result<Reached, Fault>
-    requires indexed { Indexed list.now sought.names index.now }
-    requires sought_in { SoughtIn list.now sought }
     requires room { Room plan.now log.old }
-    requires standing { Standing (sought_names list.now sought) plan.now stack.old.opens stack.old.depth r }
+    requires standing { Standing (sought_names sought.now) plan.now stack.old.opens stack.old.depth r }
     requires at_in_bounds { r.at < length plan.now }
-    ensures { TurnFrom (sought_names list.now sought) (judge_of list.now sought) plan.now
+    ensures { TurnFrom (sought_names sought.now) (judge_of sought.now) plan.now
         stack.old stack.new log.old log.new r result }
 {
     match next_piece(plan, stack, r)? {
@@ -108,7 +101,7 @@ fn read_piece(
             Ok(Reached { at, ..r })
         }
         Piece::Name(from, end) => {
-            let number = number_by_guess(list, index, sought.names, &plan[from..end]);
+            let number = sought.names.number_by_guess(&plan[from..end]);
             if let Err(refusal) = tag_fault(stack, number, sought) {
                 return Err(Fault { refusal, at: end });
             }
@@ -121,21 +114,15 @@ fn read_piece(
 }
 
 // A whole plan: so many tags are in the log, or what refuses it.
-pub fn read_plan(plan: &[u8], list: &[u8], sought: Sought, log: &mut [u8]) -> Result<usize, Fault>
-    requires names_le_name_limit { sought.names ≤ name_limit }
-    requires names_in_bounds { offset_at list.now 0 sought.names ≤ length list.now }
-    requires sought_in { SoughtIn list.now sought }
-    requires room { Room plan.now log.old }
-    ensures plan_read_as { PlanReadAs (sought_names list.now sought) (sought_name list.now sought)
-        plan.now log.new result }
+pub fn read_plan(plan: &[u8], sought: &Sought, log: &mut [u8]) -> Result<usize, Fault>
+    requires { Room plan.now log.old }
+    ensures plan_read_as { PlanReadAs (sought_names sought.now) (sought_name sought.now) plan.now log.new result }
     ensures log_len_unchanged { length log.new ≡ length log.old }
 {
-    let mut index = [0usize; INDEX];
-    index_names(list, sought.names, &mut index);
     let mut stack = Stack::new();
     let mut r = Reached { at: 0, tags: 0 };
     while r.at < plan.len() {
-        r = read_piece(plan, list, &index, sought, &mut stack, log, r)?;
+        r = read_piece(plan, sought, &mut stack, log, r)?;
     }
     if stack.depth == 0 && 0 < r.tags {
         return Ok(r.tags);

@@ -5,9 +5,9 @@ use Rattle.plan_reading.proofs.pieces.end_tag.Goals as goal
 pub returns-then-stop-at : goal.returns-then-stop-at
 returns-then-stop-at c =
     end-unlike c.args.plan.now c.args.innermost c.args.at c.requires.name_behind c.requires.at_in_bounds c.agree-stop.result
-    c.agree-stop.ensures c.if-stop-at.true
+    c.agree-stop.ensures (omega arith)
 
 pub returns : goal.returns
 returns c =
     end_due c.args.plan.now c.args.innermost c.args.at c.requires.name_behind c.requires.at_in_bounds c.agree-stop.result
-    c.agree-stop.ensures c.if-stop-at.false c.skip.result c.skip.ensures c.expect.result c.expect.ensures
+    c.agree-stop.ensures (omega arith) c.skip.result c.skip.ensures c.expect.result c.expect.ensures
