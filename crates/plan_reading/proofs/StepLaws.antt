@@ -75,8 +75,10 @@ module _ (judge : Tag → ℕ) (s : List ℕ) (q : Place) (i : ℕ) where
         reads-judged t (tg ∷ []) e m k f ∙ rw (apart, judged)
 
   -- no plan ends there, or goes on with the byte
-  pub reads-bad : ended q i ≡ refused_at bad_plan i → (i < length s → step q (get_or s i 0) ≡ stop) → reads judge s q i ≡ refused_at bad_plan i
-  reads-bad ends stops = ⊎_elim (λ (h : length s ≤ i). reads_end h ∙ ends) (λ (h : i < length s). reads-stop h (stops h)) (le_or_lt (length s) i)
+  pub reads-bad : ended q i ≡ refused_at bad_plan i → (i < length s → step q (get_or s i 0) ≡ stop)
+      → reads judge s q i ≡ refused_at bad_plan i
+  reads-bad ends stops =
+      ⊎_elim (λ (h : length s ≤ i). reads_end h ∙ ends) (λ (h : i < length s). reads-stop h (stops h)) (le_or_lt (length s) i)
 
 -- ---- the byte after the name of a tag that begins an element
 

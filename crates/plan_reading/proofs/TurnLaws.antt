@@ -106,7 +106,8 @@ module _ (names : List (List ℕ)) (s : List ℕ) (stack : Stack) (r : Reached) 
         (subst P (sym pushed_at) top) d (omega arith)
 
     -- a start tag: the element is open
-    pub element-opened : ReadsOn s after_name element.end (inside (part s element.from element.end) (open_names s stack.opens stack.depth)) at
+    pub element-opened :
+        ReadsOn s after_name element.end (inside (part s element.from element.end) (open_names s stack.opens stack.depth)) at
         → Begun names s stack' after_name element.end r after_tag
     element-opened on =
         let was = stands.stacked in
@@ -241,7 +242,8 @@ module _ (names : List (List ℕ)) (judge : Tag → ℕ) (s : List ℕ) (stack :
 -- the plan is read up to what is reached, and the tags met are in the log
 pub record ReadSoFar (names : List (List ℕ)) (chosen s : List ℕ) (stack : Stack) (log : List ℕ) (r : Reached) : Type 0 where
   pub met_tags : List Tag
-  pub reads_on : read_plan names chosen s ≡ with_tags met_tags (reads (tag_fault names chosen) s (place_of s stack.opens stack.depth r) r.at)
+  pub reads_on : read_plan names chosen s
+      ≡ with_tags met_tags (reads (tag_fault names chosen) s (place_of s stack.opens stack.depth r) r.at)
   pub logged : entries_at log 0 r.tags ≡ map (entry_of names) met_tags
   pub standing : Standing names s stack.opens stack.depth r
 

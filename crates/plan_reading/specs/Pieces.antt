@@ -1,6 +1,7 @@
 -- Where reading stands between tags, with the open elements by where their names stand in the plan; and what the pieces of a plan say of
 -- reading on. Assumes nothing.
-use Rattle.std.specs.Prelude.{◌≡◌, Bool, true, false, ◌||◌, cond, List, [], ◌∷◌, ◌++◌, ℕ, zero, suc, ◌+◌, ◌*◌, ◌-◌, ◌≤◌, ◌<◌, eqb, length, get_or, drop, Option, None, Some, Result, Ok, Err}
+use Rattle.std.specs.Prelude.{◌≡◌, Bool, true, false, ◌||◌, cond, List, [], ◌∷◌, ◌++◌, ℕ, zero, suc, ◌+◌, ◌*◌, ◌-◌, ◌≤◌, ◌<◌, eqb, length}
+use Rattle.std.specs.Prelude.{get_or, drop, Option, None, Some, Result, Ok, Err}
 use Rattle.base.specs.Limits.{plan_depth, bad_plan}
 use Rattle.model.specs.Fields.{name_ok}
 use Rattle.written_plans.specs.Written.{Tag, is_white, is_text, slash, greater}

@@ -3,6 +3,7 @@
 use Rattle.std.specs.Prelude.{◌≡◌, List, [], ◌++◌, map, ℕ, ◌+◌, ◌*◌, ◌≤◌, ◌<◌, length, get_or, Result, Ok, Err}
 use Rattle.base.specs.Limits.{input_limit, work_bytes}
 use Rattle.base.specs.Refusals.{number_of}
+use Rattle.base.specs.declared.refusals.Refusal.{Refusal}
 use Rattle.base.specs.declared.refusals.Refusal.TheVariants as refusal
 use Rattle.model.specs.Fields.{name_number}
 use Rattle.judging.specs.Offsets.{fields_at}
@@ -81,7 +82,8 @@ abbrev pub entry : ℕ → ℕ → Entry
 entry number depth = record { number = number; depth = depth }
 
 -- what was reached before comes to what is reached after, with the tags met between, which are in the log
-pub record ReadFurther (names : List (List ℕ)) (judge : Tag → ℕ) (s : List ℕ) (stack stack' : Stack) (log log' : List ℕ) (r t : Reached) : Type 0 where
+pub record ReadFurther (names : List (List ℕ)) (judge : Tag → ℕ) (s : List ℕ) (stack stack' : Stack) (log log' : List ℕ)
+    (r t : Reached) : Type 0 where
   pub met_tags : List Tag
   pub reads_on : reads judge s (place_of s stack.opens stack.depth r) r.at
       ≡ with_tags met_tags (reads judge s (place_of s stack'.opens stack'.depth t) t.at)
@@ -96,6 +98,10 @@ pub record RefusedAs (reading : Reading) (number place : ℕ) : Type 0 where
   pub place_is : reading.place ≡ place
   pub some : 0 < number
 
+-- a refusal that has no place in the plan, as a fault
+abbrev pub placeless : Refusal → Fault
+placeless k = record { refusal = k; at = 0 }
+
 -- a byte that no plan can have, as a fault
 abbrev pub bad_byte : BadByte → Fault
 bad_byte bad = record { refusal = refusal.BadPlan; at = bad.at }
@@ -104,7 +110,8 @@ bad_byte bad = record { refusal = refusal.BadPlan; at = bad.at }
 abbrev pub TurnFrom :
     List (List ℕ) → (Tag → ℕ) → List ℕ → Stack → Stack → List ℕ → List ℕ → Reached → Result Reached Fault → Type 0
 TurnFrom names judge s stack stack' log log' r (Ok t) = ReadFurther names judge s stack stack' log log' r t
-TurnFrom names judge s stack stack' log log' r (Err f) = RefusedAs (reads judge s (place_of s stack.opens stack.depth r) r.at) (number_of f.refusal) f.at
+TurnFrom names judge s stack stack' log log' r (Err f) =
+    RefusedAs (reads judge s (place_of s stack.opens stack.depth r) r.at) (number_of f.refusal) f.at
 
 -- a plan without a refusal: its tags are in the log, so many
 pub record Logged (names : List (List ℕ)) (reading : Reading) (s log : List ℕ) (count : ℕ) : Type 0 where

@@ -12,7 +12,7 @@ ghost use Rattle.std.specs.Prelude.{◌≡◌, ◌<◌, length};
 ghost use Rattle.base.specs.Limits.{plan_depth};
 ghost use Rattle.base.specs.Refusals.{fault_of};
 ghost use Rattle.plan_reading.specs.Pieces.{NameHere, Stacked};
-ghost use Rattle.plan_reading.specs.Turns.{sought_names, sought_name, judge_of, bad_byte, Room, Standing, TagJudged, ElementAs};
+ghost use Rattle.plan_reading.specs.Turns.{sought_names, sought_name, judge_of, placeless, bad_byte, Room, Standing, TagJudged, ElementAs};
 ghost use Rattle.plan_reading.specs.Turns.{TurnFrom, PlanReadAs};
 
 use crate::log::put_entry;
@@ -27,6 +27,15 @@ use base::refusals::Refusal;
 pub struct Fault {
     pub refusal: Refusal,
     pub at: usize,
+}
+
+// A refusal that has no place in the plan.
+impl From<Refusal> for Fault {
+    ghost from_gives = { λ refusal fault. fault ≡ placeless refusal };
+
+    fn from(refusal: Refusal) -> Fault {
+        Fault { refusal, at: 0 }
+    }
 }
 
 // A byte that no plan can have.

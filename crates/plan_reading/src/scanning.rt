@@ -1,4 +1,5 @@
-// Runs of a plan's bytes: bytes that pass a test, a name, an end tag's name beside the start tag's. Each function answers where the run ends.
+// Runs of a plan's bytes: bytes that pass a test, a name, an end tag's name beside the start tag's. Each function answers where the run
+// ends.
 ghost use Rattle.std.specs.Prelude.{◌≡◌, ◌≤◌, ℕ, Bool, length};
 ghost use Rattle.written_plans.specs.Written.{is_white, is_text};
 ghost use Rattle.plan_reading.specs.Scanning.{Skipped, NameEnds, Agrees};

@@ -1,6 +1,6 @@
 -- The entries of a log from number i on, and what they come to one entry later: the rows in them, where the entry has the chosen number
 -- and where not, and the row of an element at a given depth, where the entry ends it, is in it, or stands deeper. Assumes nothing.
-use mathlib.Core.Path.{◌≡◌, ap, ◌∙◌}
+use mathlib.Core.Path.{◌≡◌, sym, ap, ◌∙◌}
 use mathlib.Core.List.{List, [], ◌∷◌}
 use Prim.Native.Nat.{ℕ, suc, ◌+◌, ◌-◌, ◌≤◌, ◌<◌}
 use native.Mathlib.Numerals.{add-one}
@@ -51,6 +51,10 @@ module _ (log : List ℕ) (count i : ℕ) where
   rows_end chosen h = ap (rows_in chosen) (entries_end h)
 
   -- ---- the row of an element at this depth
+
+  pub row_from : (depth : ℕ) → depth ≡ (entry_at log i).depth → row_at log count i ≡ row_after depth (entries_from log count (i + 1))
+  unfolding row_at
+  row_from depth e = ap (λ (d : ℕ). row_after d (entries_from log count (i + 1))) (sym e)
 
   pub row_stops : (depth : ℕ) → i < count → (entry_at log i).depth ≤ depth → row_after depth (entries_from log count i) ≡ []
   unfolding row_after

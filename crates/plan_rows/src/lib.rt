@@ -6,132 +6,144 @@ ghost use Rattle.std.specs.Prelude.{◌≡◌, length, ◌≤◌, ◌<◌};
 ghost use Rattle.model.specs.Tables.{field_bytes, row_fields};
 ghost use Rattle.base.specs.Limits.{row_limit, row_mark};
 ghost use Rattle.written_plans.specs.Reading.{rows_fault};
+ghost use Rattle.written_plans.specs.Logs.{entry_at};
 ghost use Rattle.writing.specs.Writing.{Fits, Put};
 ghost use Rattle.plan_rows.specs.LoggedRows.{Held, row_at, log_rows, Measures};
 
-use base::limits::{BAD_ROW, BOOK_ROWS, ROW_LIMIT, ROW_MARK, TOO_MANY};
+use base::limits::{BOOK_ROWS, ROW_LIMIT, ROW_MARK};
+use base::refusals::Refusal;
 use writing::{put_byte, put_head};
 
-// The rows measured: how many there are and how many bytes their fields have, or their refusal.
-#[derive(Drop)]
-pub enum Measured {
-    Fits(usize, usize),
-    Refused(u8),
+// The log of a plan's tags, of which so many are in it.
+#[derive(Clone, Copy)]
+pub struct Log<'a> {
+    pub bytes: &'a [u8],
+    pub count: usize,
+    pub ghost held: { Held bytes.now count },
 }
 
-// How many of the entries have the chosen number.
-fn count_rows(log: &[u8], count: usize, chosen: u8) -> usize
-    requires { Held log.now count }
-    ensures { result ≡ length (log_rows log.now count chosen) }
-{
-    let mut rows = 0;
-    let mut i = 0;
-    while i < count {
-        if log[2 * i] == chosen {
-            rows += 1;
-        }
-        i += 1;
-    }
-    rows
+// Rows measured: how many there are, and how many bytes their fields have.
+#[derive(Clone, Copy)]
+pub struct Size {
+    pub rows: usize,
+    pub bytes: usize,
 }
 
-// How many entries the row of the element at entry i has.
-fn row_len(log: &[u8], count: usize, i: usize) -> usize
-    requires held { Held log.now count }
-    requires i_lt_count { i < count }
-    ensures { result ≡ length (row_at log.now count i) }
-{
-    let depth = log[2 * i + 1];
-    let mut length = 0;
-    let mut j = i + 1;
-    while j < count {
-        let deep = log[2 * j + 1];
-        if deep <= depth {
-            return length;
-        }
-        if deep == depth + 1 {
-            length += 1;
-        }
-        j += 1;
+impl Log<'_> {
+    // The number of the name of the tag at entry i.
+    fn number(self, i: usize) -> u8
+        requires { i < self.count }
+        ensures { result ≡ (entry_at self.entry.bytes.now i).number }
+    {
+        self.bytes[2 * i]
     }
-    length
-}
 
-// The rows in the log, measured: refusals 7, then 9.
-pub fn measure_rows(log: &[u8], count: usize, chosen: u8) -> Measured
-    requires { Held log.now count }
-    ensures { Measures (log_rows log.now count chosen) result }
-{
-    let rows = count_rows(log, count, chosen);
-    if BOOK_ROWS < rows {
-        return Measured::Refused(TOO_MANY);
+    // How many elements are around it.
+    fn depth(self, i: usize) -> u8
+        requires { i < self.count }
+        ensures { result ≡ (entry_at self.entry.bytes.now i).depth }
+    {
+        self.bytes[2 * i + 1]
     }
-    let mut bytes = 0;
-    let mut i = 0;
-    while i < count {
-        if log[2 * i] == chosen {
-            let length = row_len(log, count, i);
-            if ROW_LIMIT < length {
-                return Measured::Refused(BAD_ROW);
+
+    // How many of the entries have the chosen number.
+    fn count_rows(self, chosen: u8) -> usize
+        ensures { result ≡ length (log_rows self.entry.bytes.now self.entry.count chosen) }
+    {
+        let mut rows = 0;
+        for i in 0..self.count {
+            if self.number(i) == chosen {
+                rows += 1;
             }
-            bytes += 3 + length;
         }
-        i += 1;
+        rows
     }
-    Measured::Fits(rows, bytes)
-}
 
-// The entries of the row of the element at entry i.
-fn put_entries(log: &[u8], count: usize, i: usize, out: &mut [u8], at: usize) -> usize
-    requires held { Held log.now count }
-    requires i_lt_count { i < count }
-    requires fits { Fits out.old at (row_at log.now count i) }
-    ensures { Put out.old out.new at (row_at log.now count i) result }
-{
-    let depth = log[2 * i + 1];
-    let mut next = at;
-    let mut j = i + 1;
-    while j < count {
-        let around = log[2 * j + 1];
-        if around <= depth {
-            return next;
+    // How many entries the row of the element at entry i has.
+    fn row_len(self, i: usize) -> usize
+        requires { i < self.count }
+        ensures { result ≡ length (row_at self.entry.bytes.now self.entry.count i) }
+    {
+        let depth = self.depth(i);
+        let mut length = 0;
+        for j in i + 1..self.count {
+            let deep = self.depth(j);
+            if deep <= depth {
+                return length;
+            }
+            if deep == depth + 1 {
+                length += 1;
+            }
         }
-        if around == depth + 1 {
-            next = put_byte(out, next, log[2 * j]);
-        }
-        j += 1;
+        length
     }
-    next
-}
 
-// The row field of the element at entry i: the entries, and then the head in front of them, whose length is known from where they end.
-fn put_row(log: &[u8], count: usize, i: usize, out: &mut [u8], at: usize) -> usize
-    requires held { Held log.now count }
-    requires i_lt_count { i < count }
-    requires i_len_bound { length (row_at log.now count i) ≤ row_limit }
-    requires fits { Fits out.old at (field_bytes row_mark (row_at log.now count i)) }
-    ensures { Put out.old out.new at (field_bytes row_mark (row_at log.now count i)) result }
-{
-    let start = at + 3;
-    let end = put_entries(log, count, i, out, start);
-    put_head(out, at, ROW_MARK, end - start);
-    end
-}
-
-// The row fields of the chosen number, at the front of the output.
-pub fn put_rows(log: &[u8], count: usize, chosen: u8, out: &mut [u8]) -> usize
-    requires held { Held log.now count }
-    requires chosen_value { rows_fault (log_rows log.now count chosen) ≡ 0 }
-    requires fits { Fits out.old 0 (row_fields (log_rows log.now count chosen)) }
-    ensures { Put out.old out.new 0 (row_fields (log_rows log.now count chosen)) result }
-{
-    let mut at = 0;
-    let mut i = 0;
-    while i < count {
-        if log[2 * i] == chosen {
-            at = put_row(log, count, i, out, at);
+    // The rows in the log, measured: refusals 7, then 9.
+    pub fn measure_rows(self, chosen: u8) -> Result<Size, Refusal>
+        ensures { Measures (log_rows self.entry.bytes.now self.entry.count chosen) result }
+    {
+        let rows = self.count_rows(chosen);
+        if BOOK_ROWS < rows {
+            return Err(Refusal::TooMany);
         }
-        i += 1;
+        let mut bytes = 0;
+        for i in 0..self.count {
+            if self.number(i) == chosen {
+                let length = self.row_len(i);
+                if ROW_LIMIT < length {
+                    return Err(Refusal::BadRow);
+                }
+                bytes += 3 + length;
+            }
+        }
+        Ok(Size { rows, bytes })
     }
-    at
+
+    // The entries of the row of the element at entry i.
+    fn put_entries(self, i: usize, out: &mut [u8], at: usize) -> usize
+        requires i_lt_count { i < self.count }
+        requires fits { Fits out.old at (row_at self.bytes.now self.count i) }
+        ensures { Put out.old out.new at (row_at self.entry.bytes.now self.entry.count i) result }
+    {
+        let depth = self.depth(i);
+        let mut next = at;
+        for j in i + 1..self.count {
+            let around = self.depth(j);
+            if around <= depth {
+                return next;
+            }
+            if around == depth + 1 {
+                next = put_byte(out, next, self.number(j));
+            }
+        }
+        next
+    }
+
+    // The row field of the element at entry i: the entries, and then the head in front of them, whose length is known from where they end.
+    fn put_row(self, i: usize, out: &mut [u8], at: usize) -> usize
+        requires i_lt_count { i < self.count }
+        requires i_len_bound { length (row_at self.bytes.now self.count i) ≤ row_limit }
+        requires fits { Fits out.old at (field_bytes row_mark (row_at self.bytes.now self.count i)) }
+        ensures { Put out.old out.new at (field_bytes row_mark (row_at self.entry.bytes.now self.entry.count i)) result }
+    {
+        let start = at + 3;
+        let end = self.put_entries(i, out, start);
+        put_head(out, at, ROW_MARK, end - start);
+        end
+    }
+
+    // The row fields of the chosen number, at the front of the output.
+    pub fn put_rows(self, chosen: u8, out: &mut [u8]) -> usize
+        requires chosen_value { rows_fault (log_rows self.bytes.now self.count chosen) ≡ 0 }
+        requires fits { Fits out.old 0 (row_fields (log_rows self.bytes.now self.count chosen)) }
+        ensures { Put out.old out.new 0 (row_fields (log_rows self.entry.bytes.now self.entry.count chosen)) result }
+    {
+        let mut at = 0;
+        for i in 0..self.count {
+            if self.number(i) == chosen {
+                at = self.put_row(i, out, at);
+            }
+        }
+        at
+    }
 }

@@ -24,7 +24,8 @@ returns-in-Err c =
     let met = rw c.in-Name.is at c.in_ok-at.ensures.piece_from in
     turn-fault (sought_names a.sought.now) (judge_of a.sought.now) s a.stack.now a.log.now a.r c.requires.standing
     c.in-Name.from c.in-Name.end met (number_of c.in-Err.refusal)
-    (c.in-Err.ensures.is s (part s c.in-Name.from c.in-Name.end) (drop c.in-Name.end s) c.requires.standing.numbered c.number_by_guess-number.ensures)
+    (c.in-Err.ensures.is s (part s c.in-Name.from c.in-Name.end) (drop c.in-Name.end s) c.requires.standing.numbered
+    c.number_by_guess-number.ensures)
     (some_number c.in-Err.refusal)
 
 -- the tag is not refused, so there is room on the stack for its element

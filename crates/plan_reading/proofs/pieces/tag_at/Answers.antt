@@ -3,7 +3,8 @@ use native.Mathlib.Omega.{arith}
 use Rattle.std.proofs.lemmas.Result.{err_from_is_err_and}
 use Rattle.plan_reading.proofs.PieceLaws.{name-behind, tag_ends, tag_unended, tag-named}
 use Rattle.plan_reading.proofs.pieces.tag_at.Goals as goal
-use Rattle.plan_reading.proofs.pieces.tag_at.Goals.{in_default-via-in-Some+then-r-plan+else-plan-r-eq47, in_default-via-in-Some+else-r-plan, in_default-via-in_default}
+use Rattle.plan_reading.proofs.pieces.tag_at.Goals.{in_default-via-in-Some+then-r-plan+else-plan-r-eq47, in_default-via-in-Some+else-r-plan}
+use Rattle.plan_reading.proofs.pieces.tag_at.Goals.{in_default-via-in_default}
 
 pub returns-in_err-at-in-Some : goal.returns-in_err-at-in-Some
 returns-in_err-at-in-Some c =
@@ -35,7 +36,7 @@ end_tag-requires c =
     let inner = c.in-Some.ensures in
     record {
       name_behind =
-          name-behind c.args.plan.now c.args.stack.now.opens c.args.stack.now.depth c.args.r c.in-Some.innermost (c.args.r.at + 1) c.requires
-          inner.0 inner.1 (omega arith);
+          name-behind c.args.plan.now c.args.stack.now.opens c.args.stack.now.depth c.args.r c.in-Some.innermost (c.args.r.at + 1)
+          c.requires inner.0 inner.1 (omega arith);
       at_in_bounds = omega arith;
     }

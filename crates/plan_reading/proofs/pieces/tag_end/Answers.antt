@@ -2,7 +2,8 @@ use native.Mathlib.Omega.{arith}
 use Rattle.std.proofs.lemmas.Result.{err_from_is_err_and}
 use Rattle.plan_reading.proofs.PieceLaws.{end-full, end_bad, empty_bad, end_empty}
 use Rattle.plan_reading.proofs.pieces.tag_end.Goals as goal
-use Rattle.plan_reading.proofs.pieces.tag_end.Goals.{else-next-plan-via-then-next-plan+else-plan-next-eq47, else-next-plan-via-else-next-plan}
+use Rattle.plan_reading.proofs.pieces.tag_end.Goals.{else-next-plan-via-then-next-plan+else-plan-next-eq47}
+use Rattle.plan_reading.proofs.pieces.tag_end.Goals.{else-next-plan-via-else-next-plan}
 
 pub returns-in_err-last : goal.returns-in_err-last
 returns-in_err-last c =

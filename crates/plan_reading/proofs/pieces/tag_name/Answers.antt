@@ -4,7 +4,8 @@ use native.Mathlib.Omega.{arith}
 use lib.ListN.{length}
 use Rattle.plan_reading.proofs.PieceLaws.{name_bad, name-found}
 use Rattle.plan_reading.proofs.pieces.tag_name.Goals as goal
-use Rattle.plan_reading.proofs.pieces.tag_name.Goals.{else-at-end-via-then-at-end+then-end-plan+else-follows_name, else-at-end-via-then-at-end+else-end-plan, else-at-end-via-else-at-end}
+use Rattle.plan_reading.proofs.pieces.tag_name.Goals.{else-at-end-via-then-at-end+then-end-plan+else-follows_name}
+use Rattle.plan_reading.proofs.pieces.tag_name.Goals.{else-at-end-via-then-at-end+else-end-plan, else-at-end-via-else-at-end}
 
 pub returns-then-follows_name : goal.returns-then-follows_name
 returns-then-follows_name c =

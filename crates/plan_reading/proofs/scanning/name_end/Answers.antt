@@ -10,7 +10,8 @@ use Rattle.plan_reading.proofs.scanning.name_end.Goals.{then-s-at-via-then-s-at,
 pub returns-then-s-at : goal.returns-then-s-at
 returns-then-s-at c =
     elim c.then-s-at.branch [
-      | then-s-at-via-then-s-at w ↦ naming_none c.args.s.now c.args.at c.requires (λ (h : c.args.at < length c.args.s.now). absurd (omega arith))
+      | then-s-at-via-then-s-at w ↦
+          naming_none c.args.s.now c.args.at c.requires (λ (h : c.args.at < length c.args.s.now). absurd (omega arith))
       | then-s-at-via-else-s-at+then-not-starts_name w ↦
           let test = w.if-not-starts_name.true in
           let e = w.starts_name.ensures in
