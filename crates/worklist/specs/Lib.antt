@@ -4,4 +4,5 @@ pub mod Lists
 pub mod Keys
 pub mod Settling
 pub mod Forks
+pub mod Kinds
 pub mod Searches

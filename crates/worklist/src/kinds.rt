@@ -1,7 +1,4 @@
 // The three kinds of arcs that `close` goes by, with their lists and the queue.
-ghost use Rattle.std.specs.Prelude.{◌≡◌};
-ghost use Rattle.worklist.specs.Settling.{NoLists};
-
 use crate::lists::{Lists, Queue};
 use indexed::Tree;
 
@@ -25,12 +22,11 @@ pub struct Kinds {
 }
 
 impl Kinds {
+    ghost use Rattle.worklist.specs.Kinds.{NoArcs};
+
     // Lists with no arc, and a queue with no pair.
     pub fn new() -> Kinds
-        ensures no_forks { NoLists result.forks.links result.forks.heads }
-        ensures no_backs { NoLists result.backs.links result.backs.heads }
-        ensures no_others { NoLists result.others.links result.others.heads }
-        ensures empty { result.queue.tail ≡ 0 }
+        ensures { NoArcs result }
     {
         Kinds {
             forks: Lists::new(),

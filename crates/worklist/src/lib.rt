@@ -13,8 +13,8 @@ ghost use Rattle.std.specs.Prelude.{◌≡◌, List, ℕ, ◌<◌, length, optio
 ghost use Rattle.base.specs.Limits.{state_limit};
 ghost use Rattle.partition.specs.Forests.{Forest, roots_of};
 ghost use Rattle.worklist.specs.Keys.{given_keys};
-ghost use Rattle.worklist.specs.Settling.{RoundReady, RoundClosed, JoinedUntil, NoLists, FilledAll};
-ghost use Rattle.worklist.specs.Settling.{ListedAll, MergedAll, Settling, SettledAll};
+ghost use Rattle.worklist.specs.Settling.{RoundReady, RoundClosed, JoinedUntil};
+ghost use Rattle.worklist.specs.Kinds.{ReadyBy, NoArcs, FilledBy, ListedBy, MergedBy, SettlingBy, SettledBy};
 
 use crate::arcs::Arcs;
 use crate::kinds::{Kinds, Rules};
@@ -23,17 +23,9 @@ use partition::forest::{self, Roots};
 
 // Puts all arcs of three kinds into their lists, of two where there is no second set of keys.
 fn fill_all(rules: Rules, groups: &[u16], kinds: &mut Kinds)
-    requires ready { RoundReady (length groups.now) rules.tree.parents.now rules.tree.names.now rules.numbers.now
-        rules.keys.now (given_keys (length groups.now) (option_copied rules.more)) groups.now }
-    requires no_forks { NoLists kinds.old.forks.links kinds.old.forks.heads }
-    requires no_backs { NoLists kinds.old.backs.links kinds.old.backs.heads }
-    requires no_others { NoLists kinds.old.others.links kinds.old.others.heads }
-    requires empty { kinds.old.queue.tail ≡ 0 }
-    ensures { FilledAll (length groups.now) rules.entry.tree.parents.now rules.entry.tree.names.now rules.entry.numbers.now
-        rules.entry.keys.now (given_keys (length groups.now) (option_copied rules.entry.more)) groups.now kinds.new.forks.links
-        kinds.new.forks.heads kinds.new.backs.links kinds.new.backs.heads kinds.new.others.links kinds.new.others.heads
-        kinds.old.queue.firsts kinds.old.queue.seconds kinds.new.queue.firsts kinds.new.queue.seconds 0
-        kinds.new.queue.tail }
+    requires ready { ReadyBy (length groups.now) rules groups.now }
+    requires empty { NoArcs kinds.old }
+    ensures { FilledBy (length groups.now) rules.entry groups.now kinds.old kinds.new }
 {
     let Rules {
         tree,
@@ -65,22 +57,13 @@ fn fill_all(rules: Rules, groups: &[u16], kinds: &mut Kinds)
 // Merges the lists of two groups, of all kinds.
 fn merge_all(rules: Rules, kinds: &mut Kinds, to: usize, from: usize)
     requires listed { (rows1 rows2 rows3 : List ℕ) ×
-        ListedAll (length rules.tree.parents.now) rules.tree.names.now rules.keys.now
-        (given_keys (length rules.tree.parents.now) (option_copied rules.more)) rows1 rows2 rows3 kinds.old.forks.links kinds.old.forks.heads
-        kinds.old.backs.links kinds.old.backs.heads kinds.old.others.links kinds.old.others.heads kinds.old.queue.tail }
+        ListedBy (length rules.tree.parents.now) rules rows1 rows2 rows3 kinds.old }
     requires numbers_size { length rules.numbers.now ≡ length rules.tree.parents.now }
     requires lower { to < from }
     requires inside { from < state_limit }
     ensures { (rows1 rows2 rows3 : List ℕ) →
-        ListedAll (length rules.entry.tree.parents.now) rules.entry.tree.names.now rules.entry.keys.now
-        (given_keys (length rules.entry.tree.parents.now) (option_copied rules.entry.more)) rows1 rows2 rows3 kinds.old.forks.links
-        kinds.old.forks.heads kinds.old.backs.links kinds.old.backs.heads kinds.old.others.links kinds.old.others.heads
-        kinds.old.queue.tail →
-        MergedAll (length rules.entry.tree.parents.now) rules.entry.tree.parents.now rules.entry.tree.names.now
-        rules.entry.numbers.now rules.entry.keys.now (given_keys (length rules.entry.tree.parents.now) (option_copied rules.entry.more)) rows1
-        rows2 rows3 to from kinds.new.forks.links kinds.new.forks.heads kinds.new.backs.links kinds.new.backs.heads
-        kinds.new.others.links kinds.new.others.heads kinds.old.queue.firsts kinds.old.queue.seconds
-        kinds.new.queue.firsts kinds.new.queue.seconds kinds.old.queue.tail kinds.new.queue.tail }
+        ListedBy (length rules.entry.tree.parents.now) rules.entry rows1 rows2 rows3 kinds.old →
+        MergedBy (length rules.entry.tree.parents.now) rules.entry rows1 rows2 rows3 to from kinds.old kinds.new }
 {
     let Rules {
         tree,
@@ -110,14 +93,8 @@ fn merge_all(rules: Rules, kinds: &mut Kinds, to: usize, from: usize)
 // Joins pair after pair, until none is left in the queue.
 fn settle(rules: Rules, groups: &mut [u16], kinds: &mut Kinds)
     requires forest { Forest (length rules.tree.parents.now) groups.old }
-    requires settling { Settling (length rules.tree.parents.now) rules.tree.parents.now rules.tree.names.now
-        rules.numbers.now rules.keys.now (given_keys (length rules.tree.parents.now) (option_copied rules.more)) (roots_of groups.old)
-        (roots_of groups.old) kinds.old.forks.links kinds.old.forks.heads kinds.old.backs.links kinds.old.backs.heads
-        kinds.old.others.links kinds.old.others.heads kinds.old.queue.firsts kinds.old.queue.seconds 0
-        kinds.old.queue.tail }
-    ensures { SettledAll (length rules.entry.tree.parents.now) rules.entry.tree.parents.now rules.entry.tree.names.now
-        rules.entry.numbers.now rules.entry.keys.now (given_keys (length rules.entry.tree.parents.now) (option_copied rules.entry.more))
-        groups.old groups.new }
+    requires settling { SettlingBy (length rules.tree.parents.now) rules (roots_of groups.old) (roots_of groups.old) kinds.old 0 }
+    ensures { SettledBy (length rules.entry.tree.parents.now) rules.entry groups.old groups.new }
 {
     let mut done = 0;
     while let Some((v, w)) = kinds.queue.pair(done) {

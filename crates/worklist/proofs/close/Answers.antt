@@ -8,13 +8,13 @@ use Rattle.worklist.proofs.close.Goals as goal
 
 pub returns-then-kinds-eq0 : goal.returns-then-kinds-eq0
 returns-then-kinds-eq0 c =
-    settling-done (settling_filled c.requires.ready c.new-kinds.result.queue.room c.fill_all.ensures) (omega arith)
+    settling-done (settling_filled c.requires.ready c.new-kinds.result.queue.room (rw c.new-kinds.ensures.pairs at c.fill_all.ensures)) (omega arith)
 
 pub settle-requires-clause-settling : goal.settle-requires-clause-settling
 settle-requires-clause-settling c =
     let groups = c.args.groups.now in
     rw (c.requires.ready.parents_size, flat_roots (length groups) groups c.requires.ready.labelled)
-    (settling_filled c.requires.ready c.new-kinds.result.queue.room c.fill_all.ensures)
+    (settling_filled c.requires.ready c.new-kinds.result.queue.room (rw c.new-kinds.ensures.pairs at c.fill_all.ensures))
 
 pub returns : goal.returns
 returns c =

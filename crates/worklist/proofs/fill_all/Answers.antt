@@ -27,12 +27,12 @@ returns-in_default c =
       firsts₂ = c.fill-2.new.queue.firsts;
       seconds₂ = c.fill-2.new.queue.seconds;
       tail₂ = c.fill-2.new.queue.tail;
-      forks = rw c.requires.empty at c.fill.ensures;
+      forks = c.fill.ensures;
       backs = c.fill-2.ensures;
       others =
           rw c.in_default.is
           (filled_none n c.args.rules.numbers.now c.args.rules.tree.parents.now (replicate n name_limit) c.args.groups.now
           c.args.kinds.now.others.links c.args.kinds.now.others.heads c.fill-2.new.queue.firsts c.fill-2.new.queue.seconds
-          c.fill-2.new.queue.tail c.requires.ready.few (length-replicate {A = ℕ} n name_limit) c.requires.no_others
+          c.fill-2.new.queue.tail c.requires.ready.few (length-replicate {A = ℕ} n name_limit) c.requires.empty.others
           (given_none n));
     }
