@@ -90,16 +90,6 @@ record StandsFor (n : ℕ) (names groups rows : List ℕ) (g v : ℕ) : Type 0 w
 module _
     {n : ℕ} {parents names groups links heads : List ℕ} (lists : ForkLists n parents names groups links heads) (i : ℕ)
     {x y : ℕ} (x-low : x < state_limit) (y-low : y < state_limit) where
-  pub walking_start :
-      (p q : ℕ) → p ≡ get_or heads x 0 → q ≡ get_or heads y 0 → Walking n parents names groups lists.rows i x y p q
-  walking_start p q p-is q-is =
-      record {
-        from = 0;
-        first = subst (Next n names lists.rows x 0) (sym p-is) (lists.kind.sorted.head x x-low);
-        second = subst (Next n names lists.rows y 0) (sym q-is) (lists.kind.sorted.head y y-low);
-        rest = λ c d hc hd in-x in-y after. omega arith;
-      }
-
   module _
       {p q : ℕ} (walking : Walking n parents names groups lists.rows i x y p q) {u w : ℕ} (p-is : p ≡ suc u) (q-is : q ≡ suc w)
       {p' q' : ℕ} (past-u : Past names links u (get_or names w 0) p') (past-w : Past names links w (get_or names u 0) q') where
