@@ -1,7 +1,7 @@
 -- The arcs that the sweep over pairs goes by. In order: the first arc of each group and name, as a set of names for each group; the
 -- chains of the near ones among these arcs by class, and the links of the far ones; and the arcs on a chain. A group goes by its
 -- label, an arc by the state that it leads into. Assumes nothing.
-use Rattle.std.specs.Prelude.{◌≡◌, List, ℕ, zero, suc, ◌+◌, ◌<◌, ◌≤◌, length, get_or, set}
+use Rattle.std.specs.Prelude.{◌≡◌, List, ℕ, zero, suc, ◌+◌, ◌<◌, ◌≤◌, get_or, set}
 use Rattle.base.specs.Limits.{state_limit}
 use Rattle.indexed.specs.Chains.{Chained}
 use Rattle.base.specs.Bits.{bit}
@@ -88,13 +88,6 @@ pub record ArcsReady (n j : ℕ) (parents names classes old dist next links head
   pub far :
       (v : ℕ) → v < n → Listed parents names classes old (get_or classes v 0) v → Far j old dist v →
       get_or links v 0 ≡ get_or heads (get_or classes v 0) 0
-
--- what linking needs of the sizes, for n states
-pub record Sizes (n : ℕ) (classes next links heads : List ℕ) : Type 0 where
-  pub classes_size : length classes ≡ n
-  pub next_size : length next ≡ state_limit
-  pub links_size : length links ≡ state_limit
-  pub heads_size : length heads ≡ state_limit
 
 -- k links down a chain from a head or a link
 unfoldable pub link_down : List ℕ → ℕ → ℕ → ℕ

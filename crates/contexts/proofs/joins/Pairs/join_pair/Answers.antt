@@ -14,7 +14,7 @@ use Rattle.contexts.proofs.AheadLaws.{next_common}
 use Rattle.contexts.proofs.ForkLaws.{forks-ready}
 use Rattle.contexts.proofs.JoinLaws.{share_refines, pair_left, pair_joined}
 use Rattle.base.specs.Lists.{numbers_from}
-use Rattle.contexts.proofs.joins.join_pair.Goals as goal
+use Rattle.contexts.proofs.joins.Pairs.join_pair.Goals as goal
 
 -- the lists of arcs, for the search
 lists :
@@ -39,22 +39,22 @@ returns-then-apart-clause-pair c =
     let v = c.args.v in
     let w = c.args.w in
     let n = length c.args.groups.now in
-    let j = c.args.j in
+    let j = c.args.self.view.j in
     let j-is : j ≡ suc (j - 1) = omega (arith, comparing.some) in
     pair_left c.requires.live.kept.labelled
     (λ shared. absurd
     (⊎_elim (comparing.telling v w c.requires.v_inside c.requires.w_inside shared)
-    (next_common n (j - 1) c.args.parents.now c.args.names.now c.args.old.now c.args.next.now
+    (next_common n (j - 1) c.args.self.view.tree.parents.now c.args.self.view.tree.names.now c.args.self.view.old.now c.args.self.next.now
     comparing.linked v w
-    (subst (λ (i : ℕ). Share n c.args.parents.now c.args.names.now c.args.old.now i v w) j-is shared))
+    (subst (λ (i : ℕ). Share n c.args.self.view.tree.parents.now c.args.self.view.tree.names.now c.args.self.view.old.now i v w) j-is shared))
     (c.apart.ensures c.if-apart.true)))
 
 -- no names can be walked
 pub returns-then-not-lead_on-clause-pair : goal.returns-then-not-lead_on-clause-pair
 returns-then-not-lead_on-clause-pair c =
     let n = length c.args.groups.now in
-    let parents = c.args.parents.now in
-    let names = c.args.names.now in
+    let parents = c.args.self.view.tree.parents.now in
+    let names = c.args.self.view.tree.names.now in
     let roots = roots_of c.args.groups.now in
     let labels = c.requires.live.kept.labelled in
     let arrays = c.requires.comparing.arrays in
@@ -64,20 +64,20 @@ returns-then-not-lead_on-clause-pair c =
     (λ shared.
     let leads : c.lead_on.result ≡ true =
     (c.lead_on.ensures parents arrays
-    (lists n parents names c.args.numbers.now roots c.args.arclinks.now c.args.archeads.now c.args.firsts.now
-    c.args.seconds.now c.requires.comparing.own c.requires.live.kept)).1
-    (share_groups n parents names roots c.args.j c.args.v c.args.w into other
+    (lists n parents names c.args.self.numbers.now roots c.args.forks.now.lists.links c.args.forks.now.lists.heads c.args.forks.now.queue.firsts
+    c.args.forks.now.queue.seconds c.requires.comparing.own c.requires.live.kept)).1
+    (share_groups n parents names roots c.args.self.view.j c.args.v c.args.w into other
     (sym (same-group n roots c.args.v into labels c.requires.v_inside c.root-into.ensures.value))
     (sym (same-group n roots c.args.w other labels c.requires.w_inside c.root-other.ensures.value))
-    (share_refines n parents names c.args.old.now roots arrays c.requires.coarser c.args.j c.args.v c.args.w
+    (share_refines n parents names c.args.self.view.old.now roots arrays c.requires.coarser c.args.self.view.j c.args.v c.args.w
     c.requires.v_inside c.requires.w_inside shared)) in
     absurd (true≢false (sym leads ∙ c.if-not-lead_on.true)))
 
 pub join_two-requires-clause-kept : goal.join_two-requires-clause-kept
 join_two-requires-clause-kept c =
     let comparing = c.requires.comparing in (
-      c.args.parents.now,
-      forks-ready (length c.args.groups.now) c.args.parents.now c.args.names.now c.args.numbers.now comparing.arrays
+      c.args.self.view.tree.parents.now,
+      forks-ready (length c.args.groups.now) c.args.self.view.tree.parents.now c.args.self.view.tree.names.now c.args.self.numbers.now comparing.arrays
           comparing.own,
       c.requires.live.kept,
     )
@@ -85,37 +85,33 @@ join_two-requires-clause-kept c =
 pub returns-clause-pair : goal.returns-clause-pair
 returns-clause-pair c =
     let n = length c.args.groups.now in
-    let parents = c.args.parents.now in
-    let names = c.args.names.now in
-    let numbers = c.args.numbers.now in
+    let parents = c.args.self.view.tree.parents.now in
+    let names = c.args.self.view.tree.names.now in
+    let numbers = c.args.self.numbers.now in
     let roots = roots_of c.args.groups.now in
     let labels = c.requires.live.kept.labelled in
     let comparing = c.requires.comparing in
     let arrays = comparing.arrays in
     let into = c.root-into.result in
     let other = c.root-other.result in
-    let x_is : c.root-x.result ≡ get_or roots (get_or parents c.args.v 0) 0 =
-    c.root-x.ensures.value ∙ ap (λ (u : ℕ). get_or roots u 0) c.wide16.ensures in
-    let y_is : c.root-y.result ≡ get_or roots (get_or parents c.args.w 0) 0 =
-    c.root-y.ensures.value ∙ ap (λ (u : ℕ). get_or roots u 0) c.wide16-2.ensures in
-    let found : Share n parents names roots c.args.j c.args.v c.args.w =
-    share_groups n parents names roots c.args.j into other c.args.v c.args.w
+    let found : Share n parents names roots c.args.self.view.j c.args.v c.args.w =
+    share_groups n parents names roots c.args.self.view.j into other c.args.v c.args.w
     (same-group n roots c.args.v into labels c.requires.v_inside c.root-into.ensures.value)
     (same-group n roots c.args.w other labels c.requires.w_inside c.root-other.ensures.value)
     ((c.lead_on.ensures parents arrays
-    (lists n parents names numbers roots c.args.arclinks.now c.args.archeads.now c.args.firsts.now
-    c.args.seconds.now comparing.own c.requires.live.kept)).0
+    (lists n parents names numbers roots c.args.forks.now.lists.links c.args.forks.now.lists.heads c.args.forks.now.queue.firsts
+    c.args.forks.now.queue.seconds comparing.own c.requires.live.kept)).0
     c.if-not-lead_on.false) in
     let two =
     c.join_two.ensures parents (forks-ready n parents names numbers arrays comparing.own) c.requires.live.kept in
     pair_joined c.root-x.result c.root-y.result arrays comparing.own labels c.requires.v_inside c.requires.w_inside
-    x_is y_is c.if-x-y.false found two.until
+    c.root-x.ensures.value c.root-y.ensures.value c.if-x-y.false found two.until
 
 pub returns-clause-live : goal.returns-clause-live
 returns-clause-live c =
     let two =
-    c.join_two.ensures c.args.parents.now
-    (forks-ready (length c.args.groups.now) c.args.parents.now c.args.names.now c.args.numbers.now
+    c.join_two.ensures c.args.self.view.tree.parents.now
+    (forks-ready (length c.args.groups.now) c.args.self.view.tree.parents.now c.args.self.view.tree.names.now c.args.self.numbers.now
     c.requires.comparing.arrays c.requires.comparing.own)
     c.requires.live.kept in
     record { forest = two.forest; kept = two.kept }
