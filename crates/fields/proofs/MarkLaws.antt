@@ -21,9 +21,12 @@ misplaced-fault : (kind : FileKind) (f : File) (mark : ℕ) (b : List ℕ) → m
 unfolding field_fault
 misplaced-fault kind f mark b e = rw e
 
+-- the field at a place is refused so
+abbrev MisplacedAt : FileKind → List ℕ → Place → Type 0
+MisplacedAt kind s p = Refuses (field_fault kind (file_of s p) (get_or s p.at 0) (body_at s p.at)) misplaced
+
 module _ (kind : FileKind) (s : List ℕ) (p : Place) where
-  misplaced_lem : may_come kind (stage_of p.stage) (get_or s p.at 0) ≡ false
-      → Refuses (field_fault kind (file_of s p) (get_or s p.at 0) (body_at s p.at)) misplaced
+  misplaced_lem : may_come kind (stage_of p.stage) (get_or s p.at 0) ≡ false → MisplacedAt kind s p
   misplaced_lem e =
       record { is = misplaced-fault kind (file_of s p) (get_or s p.at 0) (body_at s p.at) e; some = omega arith }
 
@@ -54,35 +57,28 @@ module _ (kind : FileKind) (s : List ℕ) (p : Place) where
   state_arm r m k h = by_mark_lem r 4 (state_fault (file_of s p) (body_at s p.at)) m (rw (k, le-leb 2 (stage_of p.stage) h))
 
   -- marks that may not come are refused
-  pub no_name : get_or s p.at 0 ≡ 1 → 1 < stage_of p.stage → Refuses (field_fault kind (file_of s p) (get_or s p.at 0) (body_at s p.at)) misplaced
+  pub no_name : get_or s p.at 0 ≡ 1 → 1 < stage_of p.stage → MisplacedAt kind s p
   no_name m h = misplaced_lem (rw (m, lt-leb (stage_of p.stage) 1 h))
 
-  pub no_class : get_or s p.at 0 ≡ 2 → takes_class kind ≡ false
-      → Refuses (field_fault kind (file_of s p) (get_or s p.at 0) (body_at s p.at)) misplaced
+  pub no_class : get_or s p.at 0 ≡ 2 → takes_class kind ≡ false → MisplacedAt kind s p
   no_class m k = misplaced_lem (rw (m, k))
 
-  pub no_class_now : get_or s p.at 0 ≡ 2 → (stage_of p.stage ≡ 1 → ⊥)
-      → Refuses (field_fault kind (file_of s p) (get_or s p.at 0) (body_at s p.at)) misplaced
+  pub no_class_now : get_or s p.at 0 ≡ 2 → (stage_of p.stage ≡ 1 → ⊥) → MisplacedAt kind s p
   no_class_now m h = misplaced_lem (rw (m, ne_eqb (stage_of p.stage) 1 h, and-false))
 
-  pub no_row : get_or s p.at 0 ≡ 3 → takes_rows kind ≡ false
-      → Refuses (field_fault kind (file_of s p) (get_or s p.at 0) (body_at s p.at)) misplaced
+  pub no_row : get_or s p.at 0 ≡ 3 → takes_rows kind ≡ false → MisplacedAt kind s p
   no_row m k = misplaced_lem (rw (m, k))
 
-  pub no_row_yet : get_or s p.at 0 ≡ 3 → stage_of p.stage < 1
-      → Refuses (field_fault kind (file_of s p) (get_or s p.at 0) (body_at s p.at)) misplaced
+  pub no_row_yet : get_or s p.at 0 ≡ 3 → stage_of p.stage < 1 → MisplacedAt kind s p
   no_row_yet m h = misplaced_lem (rw (m, lt-leb 1 (stage_of p.stage) h, and-false))
 
-  pub no_state : get_or s p.at 0 ≡ 4 → takes_states kind ≡ false
-      → Refuses (field_fault kind (file_of s p) (get_or s p.at 0) (body_at s p.at)) misplaced
+  pub no_state : get_or s p.at 0 ≡ 4 → takes_states kind ≡ false → MisplacedAt kind s p
   no_state m k = misplaced_lem (rw (m, k))
 
-  pub no_state_yet : get_or s p.at 0 ≡ 4 → stage_of p.stage < 2
-      → Refuses (field_fault kind (file_of s p) (get_or s p.at 0) (body_at s p.at)) misplaced
+  pub no_state_yet : get_or s p.at 0 ≡ 4 → stage_of p.stage < 2 → MisplacedAt kind s p
   no_state_yet m h = misplaced_lem (rw (m, lt-leb 2 (stage_of p.stage) h, and-false))
 
-  pub no_mark : (get_or s p.at 0 ≡ 1 → ⊥) → (get_or s p.at 0 ≡ 2 → ⊥) → (get_or s p.at 0 ≡ 3 → ⊥) → (get_or s p.at 0 ≡ 4 → ⊥)
-      → Refuses (field_fault kind (file_of s p) (get_or s p.at 0) (body_at s p.at)) misplaced
+  pub no_mark : (get_or s p.at 0 ≡ 1 → ⊥) → (get_or s p.at 0 ≡ 2 → ⊥) → (get_or s p.at 0 ≡ 3 → ⊥) → (get_or s p.at 0 ≡ 4 → ⊥) → MisplacedAt kind s p
   no_mark a b c d =
       let mark = get_or s p.at 0 in
       misplaced_lem (rw (ne_eqb mark 1 a, ne_eqb mark 2 b, ne_eqb mark 3 c, ne_eqb mark 4 d))

@@ -156,3 +156,6 @@ state_rest n [] g h = let z : ⊥ = omega arith in absurd z
 state_rest n (b ∷ s) g h =
     let q : length (b ∷ s) - 1 ≡ length s = omega arith in
     rw (take-all (length (b ∷ s) - 1) s q, le-leb b 1 h)
+
+-- what is known of a state field by its first byte
+pub ruleset first_bytes = (state-empty, state-first, state_rest)

@@ -23,6 +23,7 @@ fn arcs_ok(names: u8, mut arcs: &[u8]) -> bool
 }
 
 // Whether the bytes are a state field over `names` names; where the arcs lead is not judged here.
+#[tactic(auto, using(crate::proofs::StateLaws::first_bytes))]
 pub fn state_ok(names: u8, state: &[u8]) -> bool
     ensures { result ≡ state_ok names state.now }
 {
