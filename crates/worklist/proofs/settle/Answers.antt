@@ -8,17 +8,8 @@ use Rattle.worklist.proofs.SettleLaws.{settling-done, listed-all, settled-skippe
 use Rattle.worklist.proofs.settle.Goals as goal
 use Rattle.worklist.proofs.settle.Goals.{in-Some-join, in_default-join}
 
-pub merge_all-requires : goal.merge_all-requires
-merge_all-requires c =
-    let forest = c.loop-v.invariant.0 in
-    let settling = c.loop-v.invariant.1 in
-    let roots = c.in-Some-join.ensures in
-    record {
-      listed = (settling.fork_rows, settling.back_rows, settling.more_rows, listed-all settling);
-      numbers_size = own-size settling.ready.own;
-      lower = roots.0;
-      inside = omega (arith, roots.1.inside, forest.size, settling.ready.few);
-    }
+pub merge_all-requires-clause-numbers_size : goal.merge_all-requires-clause-numbers_size
+merge_all-requires-clause-numbers_size c = own-size c.loop-v.invariant.1.ready.own
 
 pub loop-v-preserved : goal.loop-v-preserved
 loop-v-preserved c =
