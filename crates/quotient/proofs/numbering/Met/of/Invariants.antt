@@ -1,5 +1,6 @@
 -- The first i groups met are looked at, and their arcs counted. The measure is what is left of the groups.
-use Rattle.std.proofs.Common.{length, ◌+◌, ◌*◌, ◌-◌, ◌≡◌, ◌≤◌, ℕ, List}
+use Rattle.std.proofs.Common.{◌+◌, ◌*◌, ◌-◌, ◌≡◌, ◌≤◌, ℕ, List}
+use Rattle.base.specs.Limits.{state_limit}
 use Rattle.model.specs.Classes.{Word}
 use Rattle.model.specs.Joinings.{tree_of}
 use Rattle.model.specs.Quotients.{states_of}
@@ -7,7 +8,7 @@ use Rattle.model.specs.Tables.{arc_count}
 use Rattle.quotient.specs.Gathered.{Gathered}
 use Rattle.quotient.proofs.MetLaws.{Numbering}
 use Rattle.quotient.proofs.StatePieces.{states_from}
-use Rattle.quotient.proofs.numbering.number.Given as goal
+use Rattle.quotient.proofs.numbering.Met.of.Given as goal
 
 -- the first i groups met are looked at, and their arcs counted
 pub record Counting (rows : List Word) (groups met numbers : List ℕ) (count arcs i : ℕ) : Type 0 where
@@ -15,11 +16,13 @@ pub record Counting (rows : List Word) (groups met numbers : List ℕ) (count ar
   pub counted : arcs + arc_count (states_from rows groups i) ≡ arc_count (states_of rows (tree_of rows) groups)
 
 abbrev pub invariant-loop-i : goal.invariant-loop-i
-invariant-loop-i l =
-    (length l.met ≡ length l.initial.met)
-    × ((length l.numbers ≡ length l.initial.numbers)
-    × ((l.arcs ≤ 64 * l.i)
-    × ((rows : List Word) → Gathered rows l.groups l.work l.next → Counting rows l.groups l.met l.numbers l.count l.arcs l.i)))
+invariant-loop-i l = record {
+  room : l.met.count ≤ state_limit;
+  few : l.arcs ≤ 64 * l.i;
+  so_far :
+      (rows : List Word) → Gathered rows l.groups l.work l.next →
+      Counting rows l.groups l.met.order l.met.numbers l.met.count l.arcs l.i;
+}
 
 abbrev pub decreases-loop-i : goal.decreases-loop-i
-decreases-loop-i l = length l.groups - l.i
+decreases-loop-i l = state_limit - l.i
