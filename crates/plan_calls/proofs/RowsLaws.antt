@@ -54,8 +54,8 @@ refused-low c place k out is refuses low =
 
 module _ (rows : List (List ℕ)) (out : List ℕ) where
   -- 7 or 9
-  pub rows-refused : (k : ℕ) → Refuses (rows_fault rows) k → Gives (writing_rows rows) (out ∷ []) (out ∷ []) (plan_rows_of k 0 0 0)
-  rows-refused k refuses = refused-low (writing_rows rows) 0 k out refl refuses (omega (arith, refuses.is, rows_low rows))
+  pub rows_refused : (k : ℕ) → Refuses (rows_fault rows) k → Gives (writing_rows rows) (out ∷ []) (out ∷ []) (plan_rows_of k 0 0 0)
+  rows_refused k refuses = refused-low (writing_rows rows) 0 k out refl refuses (omega (arith, refuses.is, rows_low rows))
 
   module _ {count bytes : ℕ} (measured : MeasuredAs rows count bytes) where
     -- 13
@@ -128,9 +128,9 @@ module _ (names : List (List ℕ)) (name s : List ℕ) {k p : ℕ} (refused : Re
   place-within = omega (arith, refused.place_is, (plan-refusal names name s (omega (arith, refused.number_is, refused.some))).within)
 
   -- 14, 15 or 16, with its place
-  pub plan-refused :
+  pub plan_refused :
       (chosen : ℕ) (out : List ℕ) → Gives (rows_with names chosen (read_plan names name s)) (out ∷ []) (out ∷ []) (plan_rows_of k 0 0 p)
-  plan-refused chosen out =
+  plan_refused chosen out =
       let read = read_plan names name s in
       let high = (plan-refusal names name s (omega (arith, refused.number_is, refused.some))).high in
       gives_as (rows_with names chosen read) (out ∷ [])

@@ -18,6 +18,7 @@ use plan_rows::Log;
 use results::PlanRows;
 
 // The rows in the log, written: refusals 7, 9 and 13.
+#[tactic(auto, using(crate::proofs::RowsLaws::rows_refused))]
 fn write_rows(log: Log, chosen: u8, out: &mut [u8]) -> Result<PlanRows, Refusal>
     ensures { Gives (writing_rows (log_rows log.entry.bytes.now log.entry.count chosen)) (out.old ∷ []) (out.new ∷ [])
         (told placeless_rows result) }
@@ -35,6 +36,7 @@ fn write_rows(log: Log, chosen: u8, out: &mut [u8]) -> Result<PlanRows, Refusal>
 }
 
 // The rows of a plan with the names of a list that was accepted: 14, 15 or 16, then 7, 9 and 13.
+#[tactic(auto, using(crate::proofs::RowsLaws::plan_refused))]
 fn rows_with(
     plan: &[u8],
     sought: &Sought,

@@ -3,16 +3,8 @@ use mathlib.Core.List.{[], ◌∷◌}
 use Rattle.std.proofs.lemmas.Result.{err_from_is_err_and}
 use Rattle.written_plans.specs.Reading.{read_plan}
 use Rattle.plan_reading.specs.Turns.{sought_names, sought_name}
-use Rattle.plan_calls.proofs.RowsLaws.{rows_read, plan-refused}
+use Rattle.plan_calls.proofs.RowsLaws.{rows_read}
 use Rattle.plan_calls.proofs.reading.rows_with.Goals as goal
-
-pub returns-in_err-count : goal.returns-in_err-count
-returns-in_err-count c =
-    let a = c.args in
-    let p = err_from_is_err_and c.from_residual.result c.from_residual.ensures.1 in
-    rw (p.1, p.2)
-    (plan-refused (sought_names a.sought.now) (sought_name a.sought.now) a.plan.now c.in_err-count.ensures.plan_read_as
-    a.sought.now.chosen a.out.now)
 
 pub returns-in_err-rows : goal.returns-in_err-rows
 returns-in_err-rows c =

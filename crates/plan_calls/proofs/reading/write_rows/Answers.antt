@@ -2,13 +2,8 @@
 use native.Mathlib.Omega.{arith}
 use Rattle.std.proofs.lemmas.Result.{err_from_is_err_and}
 use Rattle.plan_rows.specs.LoggedRows.{log_rows}
-use Rattle.plan_calls.proofs.RowsLaws.{measured_few, rows-refused, rows_short, rows_written}
+use Rattle.plan_calls.proofs.RowsLaws.{measured_few, rows_short, rows_written}
 use Rattle.plan_calls.proofs.reading.write_rows.Goals as goal
-
-pub returns-in_err-size : goal.returns-in_err-size
-returns-in_err-size c =
-    let p = err_from_is_err_and c.from_residual.result c.from_residual.ensures.1 in
-    rw (p.1, p.2) (rows-refused (log_rows c.args.log.bytes.now c.args.log.count c.args.chosen) c.args.out.now _ c.in_err-size.ensures)
 
 pub returns-then-out-size : goal.returns-then-out-size
 returns-then-out-size c =
