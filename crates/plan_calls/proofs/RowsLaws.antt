@@ -162,29 +162,29 @@ module _ (plan list : List ℕ) (chosen : ℕ) (work out : List ℕ) where
       refused-low (reading_rows plan list chosen work) (plan_reading plan list chosen).place k out refl (refuses_first _ refuses) low
 
   -- 1 for the plan
-  pub plan-sizes_refused :
+  pub plan_sizes_refused :
       {k : ℕ} → sizes_fault plan work ≡ k → 0 < k → Gives (reading_rows plan list chosen work) (out ∷ []) (out ∷ []) (placeless_rows k)
   unfolding asked_fault
-  plan-sizes_refused {k} is some =
+  plan_sizes_refused {k} is some =
       asked_refused k (refuses_first _ (record { is = is; some = some })) (omega (arith, is, sizes_low plan work))
 
   module _ (plan-fits : sizes_fault plan work ≡ 0) where
     -- 1 for the list
-    pub list-sizes-refused :
+    pub list_sizes_refused :
         {k : ℕ} → sizes_fault list work ≡ k → 0 < k
         → Gives (reading_rows plan list chosen work) (out ∷ []) (out ∷ []) (placeless_rows k)
     unfolding asked_fault
-    list-sizes-refused {k} is some =
+    list_sizes_refused {k} is some =
         asked_refused k (refuses_then plan-fits (refuses_first _ (record { is = is; some = some })))
         (omega (arith, is, sizes_low list work))
 
     module _ (list-fits : sizes_fault list work ≡ 0) where
       -- the list's own refusals
-      pub list-refused :
+      pub list_refused :
           (k : ℕ) → (read_names list).number ≡ k → 0 < k →
           Gives (reading_rows plan list chosen work) (out ∷ []) (out ∷ []) (plan_rows_of k 0 0 0)
       unfolding asked_fault
-      list-refused k is some =
+      list_refused k is some =
           asked_refused k
           (refuses_then plan-fits
           (refuses_then list-fits (refuses_first _ (record { is = is; some = some }))))
@@ -196,10 +196,10 @@ module _ (plan list : List ℕ) (chosen : ℕ) (work out : List ℕ) where
         names_count = ap length at.names_are ∙ length_fields list 0 p.names
 
         -- 9 for a number that names nothing
-        pub chosen-refused :
+        pub chosen_refused :
             p.names ≤ chosen → Gives (reading_rows plan list chosen work) (out ∷ []) (out ∷ []) (plan_rows_of bad_row 0 0 0)
         unfolding asked_fault
-        chosen-refused high =
+        chosen_refused high =
             asked_refused bad_row
             (refuses_then plan-fits
             (refuses_then list-fits
@@ -217,13 +217,13 @@ module _ (plan list : List ℕ) (chosen : ℕ) (work out : List ℕ) where
             (ap (λ (b : Bool). when b bad_row) (lt-leb (length (names_of list)) chosen (omega (arith, names_count))))))
 
         -- then the call gives what the plan and its rows come to
-        pub rows-asked :
+        pub rows_asked :
             chosen < p.names → (out' : List ℕ) (r : PlanRows) →
             Gives (rows_with (fields_at list 0 p.names) chosen
             (read_plan (fields_at list 0 p.names) (get_or (fields_at list 0 p.names) chosen []) plan)) (out ∷ []) (out' ∷ []) r →
             Gives (reading_rows plan list chosen work) (out ∷ []) (out' ∷ []) r
         unfolding reading_rows plan_fault plan_rows plan_reading
-        rows-asked some out' r gives =
+        rows_asked some out' r gives =
             let rows = plan_rows plan list chosen in
             let read = plan_reading plan list chosen in
             subst (λ (k : ℕ).
@@ -236,8 +236,8 @@ module _ (plan list : List ℕ) (chosen : ℕ) (work out : List ℕ) where
 -- ---- what a plan is read with
 
 -- a plan and an area whose sizes are not refused
-pub plan-room : (plan work : List ℕ) → sizes_fault plan work ≡ 0 → Room plan work
-plan-room plan work fits =
+pub plan_room : (plan work : List ℕ) → sizes_fault plan work ≡ 0 → Room plan work
+plan_room plan work fits =
     let fit = sizes_fit plan work fits in record { short = fit.input_fits; long = fit.work_fits }
 
 -- the names of an accepted list ascend

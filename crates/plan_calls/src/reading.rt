@@ -18,7 +18,7 @@ use plan_rows::Log;
 use results::PlanRows;
 
 // The rows in the log, written: refusals 7, 9 and 13.
-#[tactic(auto, using(crate::proofs::RowsLaws::rows_refused))]
+#[tactic(auto, using(crate::proofs::RowsLaws::rows_refused, crate::proofs::RowsLaws::measured_few))]
 fn write_rows(log: Log, chosen: u8, out: &mut [u8]) -> Result<PlanRows, Refusal>
     ensures { Gives (writing_rows (log_rows log.entry.bytes.now log.entry.count chosen)) (out.old ∷ []) (out.new ∷ [])
         (told placeless_rows result) }

@@ -4,8 +4,8 @@ use Rattle.std.proofs.lemmas.Result.{err_from_is_err_and}
 use Rattle.model.specs.Fields.{standard, name_list}
 use Rattle.fields.proofs.Parts.{list_at, refused-number}
 use Rattle.plan_reading.proofs.TurnLaws.{some_number}
-use Rattle.plan_calls.proofs.RowsLaws.{sizes_told, plan-sizes_refused, list-sizes-refused, list-refused, chosen-refused, rows-asked}
-use Rattle.plan_calls.proofs.RowsLaws.{plan-room, list_ascends}
+use Rattle.plan_calls.proofs.RowsLaws.{sizes_told, plan_sizes_refused, list_sizes_refused, list_refused, chosen_refused, rows_asked}
+use Rattle.plan_calls.proofs.RowsLaws.{plan_room, list_ascends}
 use Rattle.plan_calls.proofs.reading.read_rows.Goals as goal
 
 pub returns-in_err-judge_sizes : goal.returns-in_err-judge_sizes
@@ -13,7 +13,7 @@ returns-in_err-judge_sizes c =
     let a = c.args in
     let p = err_from_is_err_and c.from_residual.result c.from_residual.ensures.1 in
     rw (p.1, p.2)
-    (plan-sizes_refused a.plan.now a.list.now a.chosen a.work.now a.out.now
+    (plan_sizes_refused a.plan.now a.list.now a.chosen a.work.now a.out.now
     (sizes_told a.plan.now a.work.now _ c.in_err-judge_sizes.ensures) (some_number c.in_err-judge_sizes.field-0.0))
 
 pub returns-in_err-judge_sizes-2 : goal.returns-in_err-judge_sizes-2
@@ -22,7 +22,7 @@ returns-in_err-judge_sizes-2 c =
     let told = c.from_residual-in_err-judge_sizes-2 in
     let p = err_from_is_err_and told.result told.ensures.1 in
     rw (p.1, p.2)
-    (list-sizes-refused a.plan.now a.list.now a.chosen a.work.now a.out.now
+    (list_sizes_refused a.plan.now a.list.now a.chosen a.work.now a.out.now
     (sizes_told a.plan.now a.work.now 0 c.in_ok-judge_sizes.ensures)
     (sizes_told a.list.now a.work.now _ c.in_err-judge_sizes-2.ensures) (some_number c.in_err-judge_sizes-2.field-0.0))
 
@@ -32,7 +32,7 @@ returns-in_err-place c =
     let told = c.from_residual-in_err-place in
     let p = err_from_is_err_and told.result told.ensures.1 in
     rw (p.1, p.2)
-    (list-refused a.plan.now a.list.now a.chosen a.work.now a.out.now
+    (list_refused a.plan.now a.list.now a.chosen a.work.now a.out.now
     (sizes_told a.plan.now a.work.now 0 c.in_ok-judge_sizes.ensures)
     (sizes_told a.list.now a.work.now 0 c.in_ok-judge_sizes-2.ensures) _
     (refused-number standard name_list a.list.now _ c.in_err-place.ensures) c.in_err-place.ensures.kept)
@@ -41,7 +41,7 @@ pub returns-then-place-chosen : goal.returns-then-place-chosen
 returns-then-place-chosen c =
     let a = c.args in
     rw c.into.ensures
-    (chosen-refused a.plan.now a.list.now a.chosen a.work.now a.out.now
+    (chosen_refused a.plan.now a.list.now a.chosen a.work.now a.out.now
     (sizes_told a.plan.now a.work.now 0 c.in_ok-judge_sizes.ensures)
     (sizes_told a.list.now a.work.now 0 c.in_ok-judge_sizes-2.ensures)
     (list_at a.list.now c.in_ok-place.place c.in_ok-place.ensures) (omega arith))
@@ -51,13 +51,13 @@ new-sought-requires-clause-ascends c = list_ascends (list_at c.args.list.now c.i
 
 pub rows_with-requires : goal.rows_with-requires
 rows_with-requires c =
-    plan-room c.args.plan.now c.args.work.now (sizes_told c.args.plan.now c.args.work.now 0 c.in_ok-judge_sizes.ensures)
+    plan_room c.args.plan.now c.args.work.now (sizes_told c.args.plan.now c.args.work.now 0 c.in_ok-judge_sizes.ensures)
 
 pub returns : goal.returns
 returns c =
     let a = c.args in
     let new = c.new-sought.ensures in
-    rows-asked a.plan.now a.list.now a.chosen a.work.now a.out.now
+    rows_asked a.plan.now a.list.now a.chosen a.work.now a.out.now
     (sizes_told a.plan.now a.work.now 0 c.in_ok-judge_sizes.ensures)
     (sizes_told a.list.now a.work.now 0 c.in_ok-judge_sizes-2.ensures)
     (list_at a.list.now c.in_ok-place.place c.in_ok-place.ensures) (omega arith) c.rows_with.new.out _

@@ -1,21 +1,12 @@
 -- One law of RowsLaws for each answer.
 use native.Mathlib.Omega.{arith}
-use Rattle.std.proofs.lemmas.Result.{err_from_is_err_and}
 use Rattle.plan_rows.specs.LoggedRows.{log_rows}
-use Rattle.plan_calls.proofs.RowsLaws.{measured_few, rows_short, rows_written}
+use Rattle.plan_calls.proofs.RowsLaws.{rows_short, rows_written}
 use Rattle.plan_calls.proofs.reading.write_rows.Goals as goal
 
 pub returns-then-out-size : goal.returns-then-out-size
 returns-then-out-size c =
     rows_short (log_rows c.args.log.bytes.now c.args.log.count c.args.chosen) c.args.out.now c.in_ok-size.ensures (omega arith)
-
-pub overflow_cast-result : goal.overflow_cast-result
-overflow_cast-result c =
-    omega (arith, (measured_few (log_rows c.args.log.bytes.now c.args.log.count c.args.chosen) c.in_ok-size.ensures).few_bytes)
-
-pub overflow_cast-result-2 : goal.overflow_cast-result-2
-overflow_cast-result-2 c =
-    omega (arith, (measured_few (log_rows c.args.log.bytes.now c.args.log.count c.args.chosen) c.in_ok-size.ensures).few_rows)
 
 pub returns : goal.returns
 returns c =
