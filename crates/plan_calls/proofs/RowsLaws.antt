@@ -124,8 +124,8 @@ log_held room logged =
 
 module _ (names : List (List ℕ)) (name s : List ℕ) {k p : ℕ} (refused : RefusedAs (read_plan names name s) k p) where
   -- the place of a refusal
-  pub place-within : p ≤ length s
-  place-within = omega (arith, refused.place_is, (plan-refusal names name s (omega (arith, refused.number_is, refused.some))).within)
+  pub place_within : p ≤ length s
+  place_within = omega (arith, refused.place_is, (plan-refusal names name s (omega (arith, refused.number_is, refused.some))).within)
 
   -- 14, 15 or 16, with its place
   pub plan_refused :

@@ -7,7 +7,7 @@ ghost use Rattle.written_plans.specs.Reading.{read_plan};
 ghost use Rattle.plan_reading.specs.Turns.{Room, sought_names, sought_name};
 ghost use Rattle.plan_rows.specs.LoggedRows.{log_rows};
 ghost use Rattle.results.specs.Says.{reading_rows};
-ghost use Rattle.plan_calls.specs.Parts.{placeless_rows, rows_told, writing_rows, rows_with};
+ghost use Rattle.plan_calls.specs.Parts.{placeless_rows, rows_told, PlaceLow, writing_rows, rows_with};
 
 use base::refusals::Refusal;
 use fields::read_names;
@@ -36,7 +36,7 @@ fn write_rows(log: Log, chosen: u8, out: &mut [u8]) -> Result<PlanRows, Refusal>
 }
 
 // The rows of a plan with the names of a list that was accepted: 14, 15 or 16, then 7, 9 and 13.
-#[tactic(auto, using(crate::proofs::RowsLaws::plan_refused))]
+#[tactic(auto, using(crate::proofs::RowsLaws::plan_refused, crate::proofs::RowsLaws::place_within))]
 fn rows_with(
     plan: &[u8],
     sought: &Sought,
@@ -44,9 +44,10 @@ fn rows_with(
     out: &mut [u8],
 ) -> Result<PlanRows, Fault>
     requires { Room plan.now work.old }
-    ensures { Gives (rows_with (sought_names sought.now) sought.now.chosen
+    ensures gives { Gives (rows_with (sought_names sought.now) sought.now.chosen
         (read_plan (sought_names sought.now) (sought_name sought.now) plan.now))
         (out.old ∷ []) (out.new ∷ []) (rows_told result) }
+    ensures place_low { PlaceLow result }
 {
     let count = read_plan(plan, sought, work)?;
     let log = Log { bytes: work, count };
@@ -62,8 +63,9 @@ pub fn read_rows(
     work: &mut [u8],
     out: &mut [u8],
 ) -> Result<PlanRows, Fault>
-    ensures { Gives (reading_rows plan.now list.now chosen work.old)
+    ensures gives { Gives (reading_rows plan.now list.now chosen work.old)
         (out.old ∷ []) (out.new ∷ []) (rows_told result) }
+    ensures place_low { PlaceLow result }
 {
     judge_sizes(plan.len(), work.len())?;
     judge_sizes(list.len(), work.len())?;

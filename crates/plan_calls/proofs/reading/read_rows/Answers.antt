@@ -8,16 +8,16 @@ use Rattle.plan_calls.proofs.RowsLaws.{sizes_told, plan_sizes_refused, list_size
 use Rattle.plan_calls.proofs.RowsLaws.{plan_room, list_ascends}
 use Rattle.plan_calls.proofs.reading.read_rows.Goals as goal
 
-pub returns-in_err-judge_sizes : goal.returns-in_err-judge_sizes
-returns-in_err-judge_sizes c =
+pub returns-in_err-judge_sizes-clause-gives : goal.returns-in_err-judge_sizes-clause-gives
+returns-in_err-judge_sizes-clause-gives c =
     let a = c.args in
     let p = err_from_is_err_and c.from_residual.result c.from_residual.ensures.1 in
     rw (p.1, p.2)
     (plan_sizes_refused a.plan.now a.list.now a.chosen a.work.now a.out.now
     (sizes_told a.plan.now a.work.now _ c.in_err-judge_sizes.ensures) (some_number c.in_err-judge_sizes.field-0.0))
 
-pub returns-in_err-judge_sizes-2 : goal.returns-in_err-judge_sizes-2
-returns-in_err-judge_sizes-2 c =
+pub returns-in_err-judge_sizes-2-clause-gives : goal.returns-in_err-judge_sizes-2-clause-gives
+returns-in_err-judge_sizes-2-clause-gives c =
     let a = c.args in
     let told = c.from_residual-in_err-judge_sizes-2 in
     let p = err_from_is_err_and told.result told.ensures.1 in
@@ -26,8 +26,8 @@ returns-in_err-judge_sizes-2 c =
     (sizes_told a.plan.now a.work.now 0 c.in_ok-judge_sizes.ensures)
     (sizes_told a.list.now a.work.now _ c.in_err-judge_sizes-2.ensures) (some_number c.in_err-judge_sizes-2.field-0.0))
 
-pub returns-in_err-place : goal.returns-in_err-place
-returns-in_err-place c =
+pub returns-in_err-place-clause-gives : goal.returns-in_err-place-clause-gives
+returns-in_err-place-clause-gives c =
     let a = c.args in
     let told = c.from_residual-in_err-place in
     let p = err_from_is_err_and told.result told.ensures.1 in
@@ -37,8 +37,8 @@ returns-in_err-place c =
     (sizes_told a.list.now a.work.now 0 c.in_ok-judge_sizes-2.ensures) _
     (refused-number standard name_list a.list.now _ c.in_err-place.ensures) c.in_err-place.ensures.kept)
 
-pub returns-then-place-chosen : goal.returns-then-place-chosen
-returns-then-place-chosen c =
+pub returns-then-place-chosen-clause-gives : goal.returns-then-place-chosen-clause-gives
+returns-then-place-chosen-clause-gives c =
     let a = c.args in
     rw c.into.ensures
     (chosen_refused a.plan.now a.list.now a.chosen a.work.now a.out.now
@@ -53,12 +53,12 @@ pub rows_with-requires : goal.rows_with-requires
 rows_with-requires c =
     plan_room c.args.plan.now c.args.work.now (sizes_told c.args.plan.now c.args.work.now 0 c.in_ok-judge_sizes.ensures)
 
-pub returns : goal.returns
-returns c =
+pub returns-clause-gives : goal.returns-clause-gives
+returns-clause-gives c =
     let a = c.args in
     let new = c.new-sought.ensures in
     rows_asked a.plan.now a.list.now a.chosen a.work.now a.out.now
     (sizes_told a.plan.now a.work.now 0 c.in_ok-judge_sizes.ensures)
     (sizes_told a.list.now a.work.now 0 c.in_ok-judge_sizes-2.ensures)
     (list_at a.list.now c.in_ok-place.place c.in_ok-place.ensures) (omega arith) c.rows_with.new.out _
-    (rw (new.list_kept, new.count_kept, new.chosen_kept) at c.rows_with.ensures)
+    (rw (new.list_kept, new.count_kept, new.chosen_kept) at c.rows_with.ensures.gives)

@@ -6,8 +6,8 @@ use Rattle.plan_reading.specs.Turns.{sought_names, sought_name}
 use Rattle.plan_calls.proofs.RowsLaws.{rows_read}
 use Rattle.plan_calls.proofs.reading.rows_with.Goals as goal
 
-pub returns-in_err-rows : goal.returns-in_err-rows
-returns-in_err-rows c =
+pub returns-in_err-rows-clause-gives : goal.returns-in_err-rows-clause-gives
+returns-in_err-rows-clause-gives c =
     let a = c.args in
     let names = sought_names a.sought.now in
     let told = c.from_residual-in_err-rows in
@@ -16,8 +16,8 @@ returns-in_err-rows c =
     (rows_read names a.sought.now.chosen (read_plan names (sought_name a.sought.now) a.plan.now) c.in_ok-count.ensures.plan_read_as
     (a.out.now ∷ []) (c.write_rows.new.out ∷ []) _ c.in_err-rows.ensures)
 
-pub returns : goal.returns
-returns c =
+pub returns-clause-gives : goal.returns-clause-gives
+returns-clause-gives c =
     let a = c.args in
     let names = sought_names a.sought.now in
     rows_read names a.sought.now.chosen (read_plan names (sought_name a.sought.now) a.plan.now) c.in_ok-count.ensures.plan_read_as
