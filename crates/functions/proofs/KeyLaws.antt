@@ -1,23 +1,21 @@
 -- Laws of the keys of one arc: what its name adds to the seen set before it, and which keys that gives. Assumes nothing.
 use mathlib.Core.Path.{◌≡◌, refl, sym, ap, ◌∙◌, subst}
 use mathlib.Core.Logic.{◌⊎◌, inl, inr, ⊎_elim}
-use mathlib.Core.Bool.{Bool, true, false, cond, beq}
+use mathlib.Core.Bool.{Bool, true, false, not, cond, beq}
 use mathlib.Core.List.{List}
-use Prim.Native.Nat.{ℕ, zero, suc, ◌+◌, ◌-◌, ◌*◌, ◌/◌, ◌%◌, ◌^◌, ◌<◌, ◌≤◌, min}
+use Prim.Native.Nat.{ℕ, zero, suc, ◌+◌, ◌*◌, ◌/◌, ◌%◌, ◌^◌, ◌<◌, min}
 use native.Mathlib.Nat.{pow-suc}
 use native.Mathlib.Omega.{arith}
 use lib.Bits.{bit_and, bit_or, and_step, or_zero_l, or_disjoint}
-use lib.Count.{ones, ones_step, count_trailing_zeros}
+use lib.Count.{ones, ones_step}
+use lib.Dec.{eqb, ltb}
 use lib.ListN.{get_or}
-use lib.Pow.{pow_pos}
-use borrow.Author.Tests.{eq-eqb, ne_eqb}
+use borrow.Author.Tests.{lt-ltb, ne_eqb}
 use Rattle.base.specs.Limits.{name_limit}
-use Rattle.model.proofs.NameSets.{trailing_shifted}
 use Rattle.base.proofs.Tests.{eq_dec}
-use Rattle.indexed.specs.Passes.{SeenSets}
 use Rattle.base.specs.Bits.{bit}
 use Rattle.base.proofs.Bits.{bit-zero, bit-of_set, bit-of_both, bits_told, set-again}
-use Rattle.functions.specs.Parts.{key_where, KeyAt}
+use Rattle.functions.specs.Parts.{KeyAt}
 
 -- 0 has no bit, a power of 2 has one
 no_bit : (a : ℕ) → bit a 0 ≡ 1 → ⊥
@@ -62,51 +60,44 @@ grown name before after is = ⊎_elim (λ one. inl (is ∙ set-again before name
         let more : after ≡ before + 2 ^ name = is ∙ or_disjoint before (2 ^ name) none in
         (more, ap ones more ∙ ones_more name before none)
 
-pub not_less : (name before after : ℕ) → after ≡ bit_or before (2 ^ name) → before ≤ after
-not_less name before after is = ⊎_elim (λ same. omega arith) (λ more. omega (arith, more.0)) (grown name before after is)
-
--- the keys of an arc where the set has another number of names after it: the lowest name added, and none
-pub keys_enlarging :
-    (before after name : ℕ) → name < name_limit → after ≡ bit_or before (2 ^ name) → (ones before ≡ ones after → ⊥) →
-    (count_trailing_zeros 64 (after - before) ≡ key_where true before after name) × (name_limit ≡ key_where false before after name)
-keys_enlarging before after name below is more = go (grown name before after is)
+-- where the set is another after the arc, whether it has more names tells whether it is
+pub grown_test :
+    (before after name : ℕ) → after ≡ bit_or before (2 ^ name) → (before ≡ after → ⊥) →
+    ltb (ones before) (ones after) ≡ not (eqb after before)
+grown_test before after name is other = go (grown name before after is)
   where
-    go :
-        Grown name before after →
-        (count_trailing_zeros 64 (after - before) ≡ key_where true before after name) × (name_limit ≡ key_where false before after name)
-    go (inl same) = absurd (more (sym (ap ones same)))
+    go : Grown name before after → ltb (ones before) (ones after) ≡ not (eqb after before)
+    go (inl same) = absurd (other (sym same))
     go (inr added) =
-        let difference : after - before ≡ 1 * 2 ^ name = omega (arith, added.0) in
-        let other = sym (ne_eqb after before (λ e. omega (arith, added.0, pow_pos name))) in (
-          ap (count_trailing_zeros 64) difference ∙ trailing_shifted 64 1 name refl below
-              ∙ ap (λ (b : Bool). cond (beq b true) name_limit name) other,
-          ap (λ (b : Bool). cond (beq b false) name_limit name) other,
-        )
+        lt-ltb (ones before) (ones after) (omega (arith, added.1)) ∙ sym (ap not (ne_eqb after before (λ e. other (sym e))))
 
--- and where it has no more: none, and the name
-pub keys_other :
-    (before after name : ℕ) → after ≡ bit_or before (2 ^ name) → ones after ≤ ones before →
-    (name_limit ≡ key_where true before after name) × (name ≡ key_where false before after name)
-keys_other before after name is no_more =
-    let same : after ≡ before = ⊎_elim (λ e. e) (λ added. absurd (omega (arith, added.1))) (grown name before after is) in
-    let both = sym (eq-eqb after before same) in (
-      ap (λ (b : Bool). cond (beq b true) name_limit name) both,
-      ap (λ (b : Bool). cond (beq b false) name_limit name) both,
-    )
+-- a key told by whether the set has grown, and by whether it has not
+key_grown : (same : Bool) (name : ℕ) → cond (not same) name name_limit ≡ cond (beq same true) name_limit name
+key_grown true name = refl
+key_grown false name = refl
 
--- the key of an arc, by the sets at its ends
-pub key_arc :
-    (enlarge : Bool) (parents names seen : List ℕ) (v parent x : ℕ) → 0 < v → parent ≡ get_or parents v 0 →
-    x ≡ key_where enlarge (get_or seen parent 0) (get_or seen v 0) (get_or names v 0) → KeyAt enlarge parents names seen v x
-key_arc enlarge parents names seen v parent x some is e =
-    record {
-      root = λ q. absurd (omega arith);
-      arc = λ h. e ∙ ap (λ (p : ℕ). key_where enlarge (get_or seen p 0) (get_or seen v 0) (get_or names v 0)) is;
-    }
+key_kept : (same : Bool) (name : ℕ) → cond (not (not same)) name name_limit ≡ cond (beq same false) name_limit name
+key_kept true name = refl
+key_kept false name = refl
 
--- the set after an arc, by the set before it
-pub arc-set :
-    (n : ℕ) (parents names seen : List ℕ) (v parent : ℕ) → SeenSets n parents names seen → 0 < v → v < n →
-    parent ≡ get_or parents v 0 → get_or seen v 0 ≡ bit_or (get_or seen parent 0) (2 ^ get_or names v 0)
-arc-set n parents names seen v parent sets not_root inside is =
-    sets.arc_seen v not_root inside ∙ ap (λ (p : ℕ). bit_or (get_or seen p 0) (2 ^ get_or names v 0)) (sym is)
+-- the keys of an arc, by the sets at its ends
+module _ (parents names seen : List ℕ) (v x : ℕ) (grown : Bool) (some : 0 < v)
+    (is : grown ≡ not (eqb (get_or seen v 0) (get_or seen (get_or parents v 0) 0))) where
+  same : Bool
+  same = eqb (get_or seen v 0) (get_or seen (get_or parents v 0) 0)
+
+  pub key_enlarging : x ≡ cond grown (get_or names v 0) name_limit → KeyAt true parents names seen v x
+  unfolding same
+  key_enlarging e =
+      record {
+        root = λ q. absurd (omega arith);
+        arc = λ h. e ∙ ap (λ (b : Bool). cond b (get_or names v 0) name_limit) is ∙ key_grown same (get_or names v 0);
+      }
+
+  pub key_other : x ≡ cond (not grown) (get_or names v 0) name_limit → KeyAt false parents names seen v x
+  unfolding same
+  key_other e =
+      record {
+        root = λ q. absurd (omega arith);
+        arc = λ h. e ∙ ap (λ (b : Bool). cond (not b) (get_or names v 0) name_limit) is ∙ key_kept same (get_or names v 0);
+      }

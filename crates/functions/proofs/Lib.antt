@@ -4,4 +4,3 @@ pub mod SeenLaws
 pub mod KeyLaws
 pub mod RoundLaws
 pub mod FLaws
-pub mod PreparedLaws

@@ -1,6 +1,6 @@
 -- What the joinings by the rule of f need and promise: some list of values of f, and the partition joined by it until none
 -- applies. Assumes nothing.
-use Rattle.std.specs.Prelude.{◌≡◌, Bool, true, false, List, ℕ, length}
+use Rattle.std.specs.Prelude.{◌≡◌, List, ℕ, length}
 use Rattle.indexed.specs.Trees.{Arrays}
 use Rattle.indexed.specs.Passes.{SuffixAlike, SeenSets, FJoined}
 
@@ -20,8 +20,3 @@ pub record JoinedBySeen (n : ℕ) (parents names ends groups : List ℕ) : Type 
   pub seen : List ℕ
   pub sets : SeenSets n parents names seen
   pub joined : FJoined n parents names ends seen groups
-
--- f is the one or the other
-pub record JoinedByF (seen : Bool) (n j : ℕ) (parents names ends groups : List ℕ) : Type 0 where
-  pub by_seen : seen ≡ true → JoinedBySeen n parents names ends groups
-  pub by_last : seen ≡ false → JoinedByLast n j parents names ends groups
