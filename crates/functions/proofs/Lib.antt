@@ -1,5 +1,4 @@
 -- Laws that the functions of this crate rest on. Assumes nothing.
-pub mod FillLaws
 pub mod SeenLaws
 pub mod KeyLaws
 pub mod RoundLaws

@@ -39,12 +39,6 @@ shifted i h =
     let fits : 2 ^ (7 * i) < 2 ^ 64 = pow-lt few in
     ap (λ (x : ℕ). x % 2 ^ 64) single ∙ mod-eq_of_lt fits
 
-pub mask_some : (i : ℕ) → i ≤ setting_limit → 1 ≤ (1 * 2 ^ (7 * i)) % 2 ^ 64
-mask_some i h = rw (shifted i h) (pow_pos (7 * i))
-
-pub mask_is : (i : ℕ) → i ≤ setting_limit → (1 * 2 ^ (7 * i)) % 2 ^ 64 - 1 ≡ 2 ^ (7 * i) - 1
-mask_is i h = ap (λ (x : ℕ). x - 1) (shifted i h)
-
 pub least-none : (i : ℕ) → i ≡ 0 → 0 ≡ least i
 unfolding least
 least-none zero e = refl

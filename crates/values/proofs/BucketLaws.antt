@@ -2,28 +2,14 @@
 -- state more, put into its list where it is the first with its value. Assumes nothing.
 use mathlib.Core.Path.{◌≡◌, refl, sym, ap, ◌∙◌}
 use mathlib.Core.List.{List}
-use Prim.Native.Nat.{ℕ, zero, suc, ◌+◌, ◌*◌, ◌/◌, ◌<◌, ◌≤◌}
+use Prim.Native.Nat.{ℕ, zero, suc, ◌+◌, ◌<◌, ◌≤◌}
 use native.Mathlib.Omega.{arith}
-use lib.Bits.{bit_and, bit_xor, and_le_r}
 use lib.ListN.{get_or, set, replicate, length-set, length-replicate}
 use borrow.Author.Count.{below_more}
 use Rattle.base.specs.Limits.{state_limit}
 use Rattle.indexed.specs.Chains.{Searched}
 use Rattle.indexed.proofs.Chains.{heads_none, chained_none, chained_push, chained_skip}
 use Rattle.values.specs.Buckets.{bucket_of, Listed, Buckets, FirstEnd}
-
--- the product of the lower half fits into 64 bits; a bucket is below 512
-pub low_fits : (value : ℕ) → bit_and value 4294967295 * 2654435769 < 18446744073709551616
-low_fits value =
-    let small : bit_and value 4294967295 ≤ 4294967295 = and_le_r value 4294967295 in
-    omega arith
-
-pub bucket_below : (value : ℕ) → bucket_of value < state_limit
-unfolding bucket_of
-bucket_below value =
-    let mixed = bit_xor (bit_and value 4294967295 * 2654435769) (value / 4294967296 * 2246822519) / 8388608 in
-    let small : bit_and mixed 511 ≤ 511 = and_le_r mixed 511 in
-    omega arith
 
 -- a state has the value of v
 abbrev pub SameValue : List ℕ → ℕ → ℕ → Type 0
@@ -75,10 +61,6 @@ module _ (ends values : List ℕ) (v : ℕ) (links heads : List ℕ) (so_far : B
         heads_size = so_far.heads_size;
         chained = chained_skip v (Listed ends values) links heads unlisted so_far.chained;
       }
-
-  -- it does not accept
-  pub buckets_other : get_or ends v 0 ≡ 0 → Buckets ends values (v + 1) links heads
-  buckets_other none = buckets_skip (λ b l. omega (arith, l.0))
 
   -- it accepts, and an earlier state is the first with its value
   pub buckets_kept : (first : ℕ) → first < v → FirstEnd ends values v first → Buckets ends values (v + 1) links heads

@@ -7,5 +7,5 @@ pub loop-v-init : goal.loop-v-init
 loop-v-init c = record {
   filled = filled_none _ _;
   buckets = buckets_none c.args.ends.now c.args.values.now;
-  alone = λ none v h. absurd (omega arith);
+  apart = λ none v h. absurd (omega arith);
 }

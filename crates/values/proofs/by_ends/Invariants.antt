@@ -9,5 +9,5 @@ abbrev pub invariant-loop-v : goal.invariant-loop-v
 invariant-loop-v l = record {
   filled : Filled (EndLabel l.ends l.values) l.v l.initial.groups l.groups;
   buckets : Buckets l.ends l.values l.v l.firsts.links l.firsts.heads;
-  alone : l.joined ≡ false → Alone l.v l.groups;
+  apart : l.joined ≡ false → Alone l.v l.groups;
 }
