@@ -9,6 +9,7 @@ use indexed::Tree;
 
 // Whether an arc enlarges the seen set, by the sets before and after it: where the set after it has more names than the set before it.
 // The names of equal sets are not counted.
+#[tactic(auto, using(crate::proofs::KeyLaws::grown_test))]
 fn enlarges(before: u64, after: u64) -> bool
     ensures { (name : ℕ) → after ≡ bit_or before (2 ^ name) → result ≡ not (eqb after before) }
 {

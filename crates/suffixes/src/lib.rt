@@ -51,6 +51,7 @@ fn longer(code: u64, name: u8) -> u64
 }
 
 // A code with one name more at its end, cut to the bits of the mask.
+#[tactic(auto, using(crate::proofs::CodeLaws::masked))]
 fn with_name(code: u64, name: u8, mask: u64) -> u64
     requires code_bound { code < 2 ^ 56 }
     requires name_lt_name_limit { name < name_limit }
@@ -74,6 +75,7 @@ fn codes(i: usize, tree: Tree, values: &mut [u64])
 }
 
 // The first name of a code of j + 1 names; none where there are fewer.
+#[tactic(auto, using(crate::proofs::AboveLaws::top_small))]
 fn top_name(j: usize, code: u64) -> Option<u8>
     requires j_le_setting_limit { j ≤ setting_limit }
     requires code_bound { code < 2 ^ (7 * suc j) }

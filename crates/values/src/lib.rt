@@ -14,6 +14,7 @@ use base::limits::STATE_LIMIT;
 
 // The bucket of a value: nine bits from the middle of the two halves' products with large odd numbers, so that values which differ
 // in few bits fall apart. A product of two numbers of 32 bits fits; its highest bits would be 0 for small values.
+#[tactic(auto, unfolding(crate::specs::Buckets::bucket_of))]
 fn bucket(value: u64) -> usize
     ensures value { result ≡ bucket_of value }
     ensures below { result < state_limit }
