@@ -8,6 +8,9 @@ use lib.Dec.{eqb}
 use lib.ListN.{length, take, drop, length-take, take-append-drop}
 use lib.Seq.{take-append_seam}
 use Rattle.base.specs.Limits.{when, bad_row, output_too_short}
+use Rattle.base.specs.Refusals.{number_of}
+use Rattle.base.specs.declared.refusals.Refusal.{Refusal}
+use Rattle.std.specs.Prelude.{Err}
 use Rattle.model.specs.Fields.{File, row_ok}
 use Rattle.model.specs.Tables.{State, plain_walk, walk}
 use Rattle.model.specs.Claims.{AllBytes}
@@ -18,19 +21,25 @@ use Rattle.model.proofs.Reading.{rewrites_same}
 use Rattle.endings.specs.Live.{is_live, trimmed, nowhere, live_walk}
 use Rattle.fields.specs.declared.Place.{Place}
 use Rattle.fields.proofs.Parts.{length-names}
+use Rattle.fields.proofs.PlaceLaws.{number_some}
 use Rattle.writing.specs.Writing.{Written}
 use Rattle.writing.proofs.WritingLaws.{written-from_zero}
-use Rattle.tables.specs.Accepting.{TableRead}
+use Rattle.tables.specs.Accepting.{TableRead, OpenedAs}
 use Rattle.results.specs.declared.Walked.{Walked}
 use Rattle.results.specs.Says.{rewritten_as, not_rewritten, rewriting, not_walked, walked_over, walking}
+
+-- a table that is not opened is refused
+opened_refused :
+    {table work after : List ℕ} {k : Refusal} → OpenedAs table work after (Err k) → Refuses (table_fault table work) (number_of k)
+opened_refused {k = k} opened = record { is = sym opened.number; some = number_some k }
 
 -- ---- a table rewritten
 
 pub rewrite_refused :
-    (table work out : List ℕ) (k : ℕ) → Refuses (table_fault table work) k →
-    Gives (rewriting table work) (out ∷ []) (out ∷ []) (not_rewritten k)
+    {after : List ℕ} (table work out : List ℕ) (k : Refusal) → OpenedAs table work after (Err k) →
+    Gives (rewriting table work) (out ∷ []) (out ∷ []) (not_rewritten (number_of k))
 unfolding rewriting
-rewrite_refused table work out k r = call-refused (rewriting table work) (out ∷ []) r
+rewrite_refused table work out k r = call-refused (rewriting table work) (out ∷ []) (opened_refused r)
 
 module _ (table work out : List ℕ) (bytes : AllBytes table) (none : table_fault table work ≡ 0) where
   pub rewrite_short :
@@ -85,9 +94,10 @@ beginning_short states row =
 
 module _ (table row work : List ℕ) where
   pub walk_refused :
-      (k : ℕ) → Refuses (table_fault table work) k → Gives (walking table row work) [] [] (not_walked k)
+      {after : List ℕ} (k : Refusal) → OpenedAs table work after (Err k) →
+      Gives (walking table row work) [] [] (not_walked (number_of k))
   unfolding walking walk_fault
-  walk_refused k r = call-refused (walking table row work) [] (refuses_first _ r)
+  walk_refused k r = call-refused (walking table row work) [] (refuses_first _ (opened_refused r))
 
   module _ (names : ℕ) (none : table_fault table work ≡ 0) (count : length (table_of table).names ≡ names) where
     pub walk-row-refused : row_ok names row ≡ false → Gives (walking table row work) [] [] (not_walked bad_row)

@@ -1,17 +1,16 @@
 -- A state's arcs by their offsets in its field: the arcs from an offset on, and what is known there of the test that the field
--- passed; then that its arcs ascend, and the search for a name among them. Assumes nothing.
-use mathlib.Core.Path.{◌≡◌, refl, sym, ap, ◌∙◌, subst}
+-- passed; and its first byte. Assumes nothing.
+use mathlib.Core.Path.{◌≡◌, refl, sym, ap, ◌∙◌}
 use mathlib.Core.Bool.{false≢true, and-eq-true_iff}
 use mathlib.Core.List.{List, [], ◌∷◌}
 use Prim.Native.Nat.{ℕ, zero, suc, ◌+◌, ◌*◌, ◌-◌, ◌≤◌, ◌<◌}
 use native.Mathlib.Omega.{arith}
-use borrow.Author.Tests.{leb-true, eq-eqb, ne_eqb}
+use borrow.Author.Tests.{leb-true}
 use lib.Dec.{eqb, leb}
 use lib.ListN.{length, get_or, drop, drop_of_length-le, length-drop}
 use lib.Seq.{drop-cons, drop-drop, get_or-drop}
 use Rattle.model.specs.Fields.{arcs_ok, state_ok}
-use Rattle.model.specs.Tables.{Arc, arc, arcs_in, state_in, target_in, Ascending}
-use Rattle.model.proofs.TableBodies.{arcs_ascend}
+use Rattle.model.specs.Tables.{Arc, arc, arcs_in, state_in}
 pub use Rattle.model.proofs.TableBodies.{NamesBelow, state-ascends}
 use Rattle.judging.proofs.StateLaws.{ArcsLeft, arcs_begin, arcs_cut, arcs_unnamed, arcs_unordered, arcs_go}
 use Rattle.tables.specs.Arcs.{StateOk, target_at}
@@ -100,47 +99,6 @@ arc-here s next i ok h left =
     let named : get_or s i 0 < 64 = omega arith in
     let up : next ≤ get_or s i 0 = omega arith in
     record { whole = omega arith; named = named; up = up; after = arcs_go 64 s next i h whole named up left }
-
--- ---- arcs ascend
-
-pub left-ascends : (s : List ℕ) (next i : ℕ) → StateOk s → Left s next i → Ascending next (arcs_from s i)
-unfolding arcs_from
-left-ascends s next i ok left =
-    let p : length (drop i s) ≤ left.fuel = omega (arith, length-drop i s, left.enough) in
-    let q : length (drop i s) ≤ length s = omega (arith, length-drop i s) in
-    subst (λ (arcs : List Arc). Ascending next arcs) (arcs_fuel left.fuel (length s) (drop i s) p q)
-    (arcs_ascend left.fuel 64 next (drop i s) (left.rest ∙ ok)).0
-
--- ---- the search for a name
-
-target_low : (name next : ℕ) (arcs : List Arc) → name < next → Ascending next arcs → target_in name arcs ≡ 0
-unfolding target_in
-target_low name next [] h up = refl
-target_low name next (a ∷ arcs) h up =
-    rw (ne_eqb name a.name (λ (e : name ≡ a.name). omega (arith, up.0)), target_in)
-    (target_low name (suc a.name) arcs (omega (arith, up.0)) up.1)
-
-pub target_found : (s : List ℕ) (i name : ℕ) → i < length s → get_or s i 0 ≡ name → target_in name (arcs_from s i) ≡ suc (target_at s i)
-unfolding target_in
-target_found s i name h e = rw (arcs_turn s i h, target_in, eq-eqb name (get_or s i 0) (sym e))
-
-pub target_passed : (s : List ℕ) (next i name : ℕ) → StateOk s → i < length s → Left s next i → name < get_or s i 0
-    → target_in name (arcs_from s i) ≡ 0
-target_passed s next i name ok h left low =
-    let up : Ascending next (arc (get_or s i 0) (target_at s i) ∷ arcs_from s (i + 3)) =
-    subst (λ (arcs : List Arc). Ascending next arcs) (arcs_turn s i h) (left-ascends s next i ok left) in
-    ap (target_in name) (arcs_turn s i h)
-    ∙ target_low name (get_or s i 0) (arc (get_or s i 0) (target_at s i) ∷ arcs_from s (i + 3)) low (omega arith, up.1)
-
-pub target_goes : (s : List ℕ) (i name : ℕ) → i < length s → (get_or s i 0 ≡ name → ⊥)
-    → target_in name (arcs_from s i) ≡ target_in name (arcs_from s (i + 3))
-unfolding target_in
-target_goes s i name h n =
-    rw (arcs_turn s i h, target_in, ne_eqb name (get_or s i 0) (λ (e : name ≡ get_or s i 0). n (sym e)))
-
-pub target_end : (s : List ℕ) (i name : ℕ) → length s ≤ i → target_in name (arcs_from s i) ≡ 0
-unfolding target_in
-target_end s i name h = rw (arcs_end s i h)
 
 -- ---- the first byte
 
