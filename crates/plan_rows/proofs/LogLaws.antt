@@ -34,11 +34,11 @@ module _ (log : List ℕ) (count i : ℕ) where
 
   -- ---- rows
 
-  pub rows-chosen :
+  pub rows_chosen :
       (chosen : ℕ) → i < count → (entry_at log i).number ≡ chosen →
       rows_in chosen (entries_from log count i) ≡ row_at log count i ∷ rows_in chosen (entries_from log count (i + 1))
   unfolding rows_in row_at
-  rows-chosen chosen h e = rw (entries_next h, rows_in, eq-eqb (entry_at log i).number chosen e)
+  rows_chosen chosen h e = rw (entries_next h, rows_in, eq-eqb (entry_at log i).number chosen e)
 
   pub rows_other :
       (chosen : ℕ) → i < count → ((entry_at log i).number ≡ chosen → ⊥) →
@@ -81,3 +81,8 @@ module _ (log : List ℕ) (count i : ℕ) where
   pub row_ends : (depth : ℕ) → count ≤ i → row_after depth (entries_from log count i) ≡ []
   unfolding row_after
   row_ends depth h = ap (row_after depth) (entries_end h)
+
+-- the rows in the entries from one on, and the row of an element
+pub ruleset rows_by_entry = (entries_all, rows_chosen, rows_other, rows_end)
+
+pub ruleset row_by_entry = (row_from, row_stops, row_takes, row_passes, row_ends)

@@ -47,6 +47,7 @@ impl Log<'_> {
     }
 
     // How many of the entries have the chosen number.
+    #[tactic(auto, using(crate::proofs::LogLaws::rows_by_entry))]
     fn count_rows(self, chosen: u8) -> usize
         ensures { result ≡ length (log_rows self.entry.bytes.now self.entry.count chosen) }
     {
@@ -60,6 +61,7 @@ impl Log<'_> {
     }
 
     // How many entries the row of the element at entry i has.
+    #[tactic(auto, using(crate::proofs::LogLaws::row_by_entry))]
     fn row_len(self, i: usize) -> usize
         requires { i < self.count }
         ensures { result ≡ length (row_at self.entry.bytes.now self.entry.count i) }
@@ -79,6 +81,7 @@ impl Log<'_> {
     }
 
     // The rows in the log, measured: refusals 7, then 9.
+    #[tactic(auto, using(crate::proofs::Faults::rows_too_many))]
     pub fn measure_rows(self, chosen: u8) -> Result<Size, Refusal>
         ensures { Measures (log_rows self.entry.bytes.now self.entry.count chosen) result }
     {
@@ -100,6 +103,7 @@ impl Log<'_> {
     }
 
     // The entries of the row of the element at entry i.
+    #[tactic(auto, using(crate::proofs::Putting::entries_put))]
     fn put_entries(self, i: usize, out: &mut [u8], at: usize) -> usize
         requires i_lt_count { i < self.count }
         requires fits { Fits out.old at (row_at self.bytes.now self.count i) }
@@ -133,6 +137,7 @@ impl Log<'_> {
     }
 
     // The row fields of the chosen number, at the front of the output.
+    #[tactic(auto, using(crate::proofs::Putting::rows_put))]
     pub fn put_rows(self, chosen: u8, out: &mut [u8]) -> usize
         requires chosen_value { rows_fault (log_rows self.bytes.now self.count chosen) ≡ 0 }
         requires fits { Fits out.old 0 (row_fields (log_rows self.bytes.now self.count chosen)) }
