@@ -47,28 +47,28 @@ module _ (names : List (List ℕ)) (i : ℕ) (state : State) {t₀ : List ℕ} {
 pub put_decimal-next-requires-clause-fits : goal.put_decimal-next-requires-clause-fits
 put_decimal-next-requires-clause-fits c =
     let a = c.args in
-    room (decimal a.i) _ (first (names_at a.table.now a.place) a.i (state_at a.table.now a.from) c.requires.fits)
+    room (decimal a.i) _ (first (names_at a.table.bytes.now a.table.place) a.i (state_at a.table.bytes.now a.from) c.requires.fits)
 
 pub put_byte-next-requires : goal.put_byte-next-requires
 put_byte-next-requires c =
     let a = c.args in
     room space _
-    (after-1 (names_at a.table.now a.place) a.i (state_at a.table.now a.from) c.requires.fits c.put_decimal-next.ensures)
+    (after-1 (names_at a.table.bytes.now a.table.place) a.i (state_at a.table.bytes.now a.from) c.requires.fits c.put_decimal-next.ensures)
 
 -- one byte, whichever sign it is, takes as much room
 pub put_byte-next-requires-2 : goal.put_byte-next-requires-2
 put_byte-next-requires-2 c =
     let a = c.args in
-    let names = names_at a.table.now a.place in
-    let state = state_at a.table.now a.from in
+    let names = names_at a.table.bytes.now a.table.place in
+    let state = state_at a.table.bytes.now a.from in
     room (cond state.accepts 43 45 ∷ []) (arcs-of names state ++ newline)
     (after-2 names a.i state c.requires.fits c.put_decimal-next.ensures c.put_byte-next.ensures)
 
 pub put_arcs-next-requires-clause-fits : goal.put_arcs-next-requires-clause-fits
 put_arcs-next-requires-clause-fits c =
     let a = c.args in
-    let names = names_at a.table.now a.place in
-    let state = state_at a.table.now a.from in
+    let names = names_at a.table.bytes.now a.table.place in
+    let state = state_at a.table.bytes.now a.from in
     room (arcs-of names state) newline
     (after-3 names a.i state c.requires.fits c.put_decimal-next.ensures c.put_byte-next.ensures c.sign.ensures c.accepts.ensures
     c.put_byte-next-2.ensures)
@@ -77,13 +77,13 @@ pub put_byte-requires : goal.put_byte-requires
 put_byte-requires c =
     let a = c.args in
     room_left
-    (after-4 (names_at a.table.now a.place) a.i (state_at a.table.now a.from) c.requires.fits c.put_decimal-next.ensures
+    (after-4 (names_at a.table.bytes.now a.table.place) a.i (state_at a.table.bytes.now a.from) c.requires.fits c.put_decimal-next.ensures
     c.put_byte-next.ensures c.sign.ensures c.accepts.ensures c.put_byte-next-2.ensures c.put_arcs-next.ensures)
 
 pub returns : goal.returns
 returns c =
     let a = c.args in
     ends_with newline
-    (after-4 (names_at a.table.now a.place) a.i (state_at a.table.now a.from) c.requires.fits c.put_decimal-next.ensures
+    (after-4 (names_at a.table.bytes.now a.table.place) a.i (state_at a.table.bytes.now a.from) c.requires.fits c.put_decimal-next.ensures
     c.put_byte-next.ensures c.sign.ensures c.accepts.ensures c.put_byte-next-2.ensures c.put_arcs-next.ensures)
     c.put_byte.ensures

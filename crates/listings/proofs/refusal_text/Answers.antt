@@ -1,5 +1,4 @@
 -- The word, the number and the newline are written one after the other.
-use mathlib.Core.Path.{◌≡◌, sym, subst}
 use mathlib.Core.List.{List, ◌++◌}
 use Prim.Native.Nat.{ℕ}
 use Rattle.model.specs.Listing.{refusal_text, refused_word, decimal, newline}
@@ -17,26 +16,21 @@ module _ (number : ℕ) {t₀ : List ℕ} (fits : Fits t₀ 0 (refusal_text numb
     after-1 : Writing t₀ 0 (refusal_text number) t₁ n₁ (decimal number ++ newline)
     after-1 = goes refused_word (decimal number ++ newline) first word
 
-    -- the number is written at its own value
-    after-2 :
-        {t₂ : List ℕ} {n₂ : ℕ} (wide : ℕ) → wide ≡ number → Put t₁ t₂ n₁ (decimal wide) n₂ →
-        Writing t₀ 0 (refusal_text number) t₂ n₂ newline
-    after-2 {t₂} {n₂} wide same put =
-        goes (decimal number) newline after-1 (subst (λ (n : ℕ). Put t₁ t₂ n₁ (decimal n) n₂) same put)
+    after-2 : {t₂ : List ℕ} {n₂ : ℕ} → Put t₁ t₂ n₁ (decimal number) n₂ → Writing t₀ 0 (refusal_text number) t₂ n₂ newline
+    after-2 put = goes (decimal number) newline after-1 put
 
 pub copy_in-next-requires : goal.copy_in-next-requires
 copy_in-next-requires c = room refused_word _ (first _ c.requires)
 
 pub put_decimal-next-requires-clause-fits : goal.put_decimal-next-requires-clause-fits
 put_decimal-next-requires-clause-fits c =
-    subst (λ (n : ℕ). Fits c.copy_in-next.new.out c.copy_in-next.result (decimal n)) (sym c.wide8.ensures)
-    (room (decimal c.args.number) newline (after-1 _ c.requires c.copy_in-next.ensures))
+    room (decimal c.args.number) newline (after-1 _ c.requires c.copy_in-next.ensures)
 
 pub put_byte-requires : goal.put_byte-requires
 put_byte-requires c =
-    room_left (after-2 _ c.requires c.copy_in-next.ensures _ c.wide8.ensures c.put_decimal-next.ensures)
+    room_left (after-2 _ c.requires c.copy_in-next.ensures c.put_decimal-next.ensures)
 
 pub returns : goal.returns
 returns c =
-    ends_with newline (after-2 _ c.requires c.copy_in-next.ensures _ c.wide8.ensures c.put_decimal-next.ensures)
+    ends_with newline (after-2 _ c.requires c.copy_in-next.ensures c.put_decimal-next.ensures)
     c.put_byte.ensures

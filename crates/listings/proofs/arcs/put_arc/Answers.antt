@@ -32,33 +32,33 @@ module _ (s : List ℕ) (p : Place) (name target : ℕ) {t₀ : List ℕ} (at : 
 pub put_byte-next-requires : goal.put_byte-next-requires
 put_byte-next-requires c =
     let a = c.args in
-    room space _ (first a.table.now a.place a.name a.target a.at c.requires.fits)
+    room space _ (first a.table.bytes.now a.table.place a.arc.name a.arc.to a.at c.requires)
 
 pub copy_in-next-requires : goal.copy_in-next-requires
 copy_in-next-requires c =
     let a = c.args in
     rw c.name_at.ensures
-    (room (name_at a.table.now a.place.names a.name) (62 ∷ decimal a.target)
-    (after-1 a.table.now a.place a.name a.target a.at c.requires.fits c.put_byte-next.ensures))
+    (room (name_at a.table.bytes.now a.table.place.names a.arc.name) (62 ∷ decimal a.arc.to)
+    (after-1 a.table.bytes.now a.table.place a.arc.name a.arc.to a.at c.requires c.put_byte-next.ensures))
 
 pub put_byte-next-requires-2 : goal.put_byte-next-requires-2
 put_byte-next-requires-2 c =
     let a = c.args in
-    room (62 ∷ []) (decimal a.target)
-    (after-2 a.table.now a.place a.name a.target a.at c.requires.fits c.put_byte-next.ensures _ c.name_at.ensures
+    room (62 ∷ []) (decimal a.arc.to)
+    (after-2 a.table.bytes.now a.table.place a.arc.name a.arc.to a.at c.requires c.put_byte-next.ensures _ c.name_at.ensures
     c.copy_in-next.ensures)
 
 pub put_decimal-requires-clause-fits : goal.put_decimal-requires-clause-fits
 put_decimal-requires-clause-fits c =
     let a = c.args in
     room_left
-    (after-3 a.table.now a.place a.name a.target a.at c.requires.fits c.put_byte-next.ensures _ c.name_at.ensures
+    (after-3 a.table.bytes.now a.table.place a.arc.name a.arc.to a.at c.requires c.put_byte-next.ensures _ c.name_at.ensures
     c.copy_in-next.ensures c.put_byte-next-2.ensures)
 
 pub returns : goal.returns
 returns c =
     let a = c.args in
-    ends_with (decimal a.target)
-    (after-3 a.table.now a.place a.name a.target a.at c.requires.fits c.put_byte-next.ensures _ c.name_at.ensures
+    ends_with (decimal a.arc.to)
+    (after-3 a.table.bytes.now a.table.place a.arc.name a.arc.to a.at c.requires c.put_byte-next.ensures _ c.name_at.ensures
     c.copy_in-next.ensures c.put_byte-next-2.ensures)
     c.put_decimal.ensures
