@@ -4,11 +4,12 @@ use mathlib.Core.Path.{◌≡◌, sym, ap, ap₂, ◌∙◌, subst}
 use mathlib.Core.List.{List, [], ◌∷◌, ◌++◌, flat_map}
 use Prim.Native.Nat.{ℕ, ◌+◌, ◌≤◌, ◌<◌}
 use native.Mathlib.Numerals.{add-one}
-use lib.ListN.{length, get_or, drop, drop_of_length-le}
+use lib.ListN.{length, get_or, drop, drop_of_length-le, length-append}
 use lib.Seq.{drop-cons}
 use Rattle.model.specs.Tables.{Arc, State, empty_state}
 use Rattle.model.specs.Listing.{arc_text, state_line, state_lines, first_line, listing}
 use Rattle.writing.specs.Writing.{Fits, Put}
+use Rattle.writing.proofs.WritingLaws.{put_append}
 use Rattle.writing.proofs.TextLaws.{Writing, begins, finishes}
 
 -- of these arcs some are left to write
@@ -21,7 +22,7 @@ pub arcs_begin :
     Fits text at (flat_map (arc_text names) arcs) → ArcsWriting names arcs text at text at left
 arcs_begin names arcs left text at e fits = rw e (begins text at (flat_map (arc_text names) arcs) fits)
 
-module _ {names : List (List ℕ)} {text₀ : List ℕ} {at : ℕ} {whole text : List ℕ} {next : ℕ} {left : List Arc} where
+module _ (names : List (List ℕ)) {text₀ : List ℕ} {at : ℕ} {whole text : List ℕ} {next : ℕ} {left : List Arc} where
   -- the next arc comes first of what is left
   pub arcs_next :
       (a : Arc) (more : List Arc) → left ≡ a ∷ more → Writing text₀ at whole text next (flat_map (arc_text names) left) →
@@ -68,3 +69,6 @@ pub listing-parts :
 unfolding listing
 listing-parts names names' states items joins distinct d e =
     ap₂ (λ (n : ℕ) (l : List (List ℕ)). first_line n joins distinct ++ state_lines l 0 states) (sym e) d
+
+-- pieces written one after the other, and how long they are together
+pub ruleset pieces = (length-append, put_append)

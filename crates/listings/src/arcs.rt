@@ -4,9 +4,9 @@ ghost use Rattle.model.specs.Listing.{arc_text};
 ghost use Rattle.tables.specs.Accepting.{StateField};
 ghost use Rattle.tables.specs.Arcs.{arc_of};
 ghost use Rattle.writing.specs.Writing.{Fits, Put};
-ghost use Rattle.listings.specs.Texts.{names_at, state_at};
+ghost use Rattle.listings.specs.Texts.{names_of, state_at};
 
-use crate::Table;
+use crate::table::Table;
 use crate::words::{SPACE, TO};
 use judging::names::name_at;
 use judging::offsets::body;
@@ -15,9 +15,10 @@ use writing::decimals::put_decimal;
 use writing::{copy_in, put_byte};
 
 // One arc.
+#[tactic(auto, using(crate::proofs::LineLaws::pieces), unfolding(model::specs::Listing::arc_text))]
 fn put_arc(table: Table, arc: Arc, text: &mut [u8], at: usize) -> usize
-    requires { Fits text.old at (arc_text (names_at table.bytes.now table.place) (arc_of arc)) }
-    ensures { Put text.old text.new at (arc_text (names_at table.bytes.now table.place) (arc_of arc)) result }
+    requires { Fits text.old at (arc_text (names_of table) (arc_of arc)) }
+    ensures { Put text.old text.new at (arc_text (names_of table.entry) (arc_of arc)) result }
 {
     let mut next = put_byte(text, at, SPACE);
     next = copy_in(
@@ -32,9 +33,9 @@ fn put_arc(table: Table, arc: Arc, text: &mut [u8], at: usize) -> usize
 // The arcs of the state whose field stands at `from`.
 pub fn put_arcs(table: Table, from: usize, text: &mut [u8], at: usize) -> usize
     requires state_field { StateField table.bytes.now from }
-    requires fits { Fits text.old at (flat_map (arc_text (names_at table.bytes.now table.place)) (state_at table.bytes.now from).arcs) }
+    requires fits { Fits text.old at (flat_map (arc_text (names_of table)) (state_at table.bytes.now from).arcs) }
     ensures { Put text.old text.new at
-        (flat_map (arc_text (names_at table.bytes.now table.place)) (state_at table.bytes.now from).arcs) result }
+        (flat_map (arc_text (names_of table.entry)) (state_at table.entry.bytes.now from).arcs) result }
 {
     let state = body(table.bytes, from);
     let mut next = at;

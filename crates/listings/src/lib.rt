@@ -4,6 +4,7 @@
 #![tactic(auto)]
 
 mod arcs;
+mod table;
 mod words;
 
 ghost use Rattle.std.specs.Prelude.{◌<◌};
@@ -12,30 +13,24 @@ ghost use Rattle.model.specs.Listing.{state_line, state_lines, listing, refusal_
 ghost use Rattle.model.specs.Calls.{table_of, table_states};
 ghost use Rattle.tables.specs.Accepting.{TableRead, StateField};
 ghost use Rattle.writing.specs.Writing.{Fits, Put};
-ghost use Rattle.listings.specs.Texts.{names_at, state_at};
+ghost use Rattle.listings.specs.Texts.{names_of, state_at};
 
 use fields::Place;
 use judging::offsets::next_field;
+use table::Table;
 use tables::accepts;
 use words::{NEWLINE, SPACE, put_first_line};
 use writing::decimals::put_decimal;
 use writing::{copy_in, put_byte};
 
-// A table as read: its bytes, and where its parts stand in them.
-#[derive(Clone, Copy)]
-struct Table<'a> {
-    bytes: &'a [u8],
-    place: Place,
-    ghost read: { TableRead bytes.now place },
-}
-
 // The line of state i, whose field stands at `from`.
+#[tactic(auto, using(crate::proofs::LineLaws::pieces), unfolding(model::specs::Listing::state_line))]
 fn put_state_line(table: Table, i: usize, from: usize, text: &mut [u8], at: usize) -> usize
     requires state_field { StateField table.bytes.now from }
     requires i_lt_number_limit { i < number_limit }
-    requires fits { Fits text.old at (state_line (names_at table.bytes.now table.place) i (state_at table.bytes.now from)) }
+    requires fits { Fits text.old at (state_line (names_of table) i (state_at table.bytes.now from)) }
     ensures { Put text.old text.new at
-        (state_line (names_at table.bytes.now table.place) i (state_at table.bytes.now from)) result }
+        (state_line (names_of table.entry) i (state_at table.entry.bytes.now from)) result }
 {
     let mut next = put_decimal(text, at, i);
     next = put_byte(text, next, SPACE);
@@ -46,9 +41,9 @@ fn put_state_line(table: Table, i: usize, from: usize, text: &mut [u8], at: usiz
 
 // The lines of all states.
 fn put_states(table: Table, text: &mut [u8], at: usize) -> usize
-    requires { Fits text.old at (state_lines (names_at table.bytes.now table.place) 0 (table_states table.bytes.now)) }
+    requires { Fits text.old at (state_lines (names_of table) 0 (table_states table.bytes.now)) }
     ensures { Put text.old text.new at
-        (state_lines (names_at table.bytes.now table.place) 0 (table_states table.bytes.now)) result }
+        (state_lines (names_of table.entry) 0 (table_states table.entry.bytes.now)) result }
 {
     let mut from = table.place.start;
     let mut next = at;
@@ -85,6 +80,7 @@ pub fn list_table(
 }
 
 // `refused N`, at the front; its length.
+#[tactic(auto, using(crate::proofs::LineLaws::pieces), unfolding(model::specs::Listing::refusal_text))]
 pub fn refusal_text(number: u8, text: &mut [u8]) -> usize
     requires { Fits text.old 0 (refusal_text number) }
     ensures { Put text.old text.new 0 (refusal_text number) result }

@@ -20,10 +20,10 @@ loop-arc-init c =
     (ap arcs_left c.into_iter-arc-iterator.ensures.into_iter_gives ∙ same) c.requires.fits
 
 pub put_arc-next-requires : goal.put_arc-next-requires
-put_arc-next-requires c = room _ _ (arcs_next _ _ c.in-Some.ensures.steps c.loop-arc.invariant)
+put_arc-next-requires c = room _ _ (arcs_next _ _ _ c.in-Some.ensures.steps c.loop-arc.invariant)
 
 pub loop-arc-preserved : goal.loop-arc-preserved
-loop-arc-preserved c = goes _ _ (arcs_next _ _ c.in-Some.ensures.steps c.loop-arc.invariant) c.put_arc-next.ensures
+loop-arc-preserved c = goes _ _ (arcs_next _ _ _ c.in-Some.ensures.steps c.loop-arc.invariant) c.put_arc-next.ensures
 
 pub returns : goal.returns
-returns c = arcs_finish c.in-None.ensures.steps.0 c.loop-arc.invariant
+returns c = arcs_finish _ c.in-None.ensures.steps.0 c.loop-arc.invariant
