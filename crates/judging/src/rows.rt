@@ -4,6 +4,7 @@ ghost use Rattle.base.specs.Refusals.{fault_of};
 ghost use Rattle.model.specs.Fields.{all_below, row_ok, row_fault};
 ghost use Rattle.judging.specs.Judged.{ItemJudged};
 
+use crate::items::item_fault;
 use base::limits::{BOOK_ROWS, ROW_LIMIT};
 use base::refusals::Refusal;
 
@@ -22,15 +23,9 @@ pub fn row_ok(names: u8, row: &[u8]) -> bool
 }
 
 // What refuses one more row after `count` rows.
-#[tactic(auto, using(crate::proofs::ItemLaws::judged), unfolding(model::specs::Fields::row_fault))]
+#[tactic(auto, using(crate::proofs::ItemLaws::item_judged), unfolding(model::specs::Fields::row_fault))]
 pub fn row_fault(names: u8, count: usize, row: &[u8]) -> Result<(), Refusal>
     ensures { ItemJudged row_fault names count row.now (fault_of result) }
 {
-    if BOOK_ROWS <= count {
-        return Err(Refusal::TooMany);
-    }
-    if !row_ok(names, row) {
-        return Err(Refusal::BadRow);
-    }
-    Ok(())
+    item_fault(count, BOOK_ROWS, row_ok(names, row), Refusal::BadRow)
 }

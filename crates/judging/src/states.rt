@@ -4,6 +4,7 @@ ghost use Rattle.base.specs.Refusals.{fault_of};
 ghost use Rattle.model.specs.Fields.{arcs_ok, state_ok, state_fault};
 ghost use Rattle.judging.specs.Judged.{ItemJudged};
 
+use crate::items::item_fault;
 use base::limits::STATE_LIMIT;
 use base::refusals::Refusal;
 
@@ -34,15 +35,14 @@ pub fn state_ok(names: u8, state: &[u8]) -> bool
 }
 
 // What refuses one more state after `count` states.
-#[tactic(auto, using(crate::proofs::ItemLaws::judged), unfolding(model::specs::Fields::state_fault))]
+#[tactic(auto, using(crate::proofs::ItemLaws::item_judged), unfolding(model::specs::Fields::state_fault))]
 pub fn state_fault(names: u8, count: usize, state: &[u8]) -> Result<(), Refusal>
     ensures { ItemJudged state_fault names count state.now (fault_of result) }
 {
-    if STATE_LIMIT <= count {
-        return Err(Refusal::TooMany);
-    }
-    if !state_ok(names, state) {
-        return Err(Refusal::BadState);
-    }
-    Ok(())
+    item_fault(
+        count,
+        STATE_LIMIT,
+        state_ok(names, state),
+        Refusal::BadState,
+    )
 }
