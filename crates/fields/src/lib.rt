@@ -44,6 +44,7 @@ pub struct Place {
     // how many names; the first of them begins at offset 0
     pub names: u8,
     // where the last name's bytes begin, and how many they are; 0 and 0 where there is no name yet
+    // Stays: no slice in their place, since a place is kept and handed on without the input that it speaks of
     pub last: usize,
     pub width: usize,
     // the class
