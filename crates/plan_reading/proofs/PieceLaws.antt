@@ -55,9 +55,9 @@ module _ (s : List ℕ) (at next : ℕ) (white : Skipped is_white s at next) whe
   past_white around n = skipped_reads is_white s (named around n) (λ b e. rw (e)) (λ b rest. refl) at next white
 
   -- `>` follows
-  pub end-full : (e : ℕ) → ByteAt s next greater (Ok e) → CloseFrom s at (Ok (close.Full e))
+  pub end_full : (e : ℕ) → ByteAt s next greater (Ok e) → CloseFrom s at (Ok (close.Full e))
   unfolding step met after_name
-  end-full e there =
+  end_full e there =
       let onward : at ≤ next = white.onward in
       subst (λ (z : ℕ). CloseFrom s at (Ok (close.Full z))) (sym there.0) (
         λ around n judge.
@@ -136,8 +136,8 @@ module _ (s : List ℕ) (at end : ℕ) (name : NameEnds s at end) where
           (λ g. rw (name.stopped g, name.whole some, no_follow around n (get_or s end 0) (other some g)))
 
   -- a byte follows it that may
-  pub name-found : at < end → end < length s → follows_name (get_or s end 0) ≡ true → NameFrom s at (Ok (piece.Name at end))
-  name-found some h e = (
+  pub name_found : at < end → end < length s → follows_name (get_or s end 0) ≡ true → NameFrom s at (Ok (piece.Name at end))
+  name_found some h e = (
     refl,
     record { some = some; within = h; allowed = name.whole some; ends = name.stopped h; follows = e },
     λ around. name-read s at end around name some,
@@ -173,9 +173,9 @@ stacked_out s opens depth r sound =
     }
 
 -- the innermost element's name stands before every later offset
-pub name-behind : (s : List ℕ) (opens : List Open) (depth : ℕ) (r : Reached) (element : Open) (at : ℕ) → Stacked s opens depth r
+pub name_behind : (s : List ℕ) (opens : List Open) (depth : ℕ) (r : Reached) (element : Open) (at : ℕ) → Stacked s opens depth r
     → 0 < depth → element ≡ open_at opens (depth - 1) → r.at ≤ at → NameBehind element at
-name-behind s opens depth r element at sound deep is h =
+name_behind s opens depth r element at sound deep is h =
     subst (λ (o : Open). NameBehind o at) (sym is)
     (record {
       forward = sound.forward (depth - 1) (omega arith);
@@ -235,9 +235,9 @@ module _ (s : List ℕ) (element : Open) (at : ℕ) (behind : NameBehind element
     past-agreeing around = agrees_reads s from end at last around end-within run
 
     -- less than the whole name
-    pub end-unlike : last - at < end - from → EndFrom s element at (Err (record { at = last }))
+    pub end_unlike : last - at < end - from → EndFrom s element at (Err (record { at = last }))
     unfolding step ended
-    end-unlike h around judge =
+    end_unlike h around judge =
         let due = from + (last - at) in
         let short : due < end = omega arith in
         let front : part s due end ≡ get_or s due 0 ∷ part s (suc due) end = part-cons s due end short end-within in
@@ -337,16 +337,16 @@ module _ (s : List ℕ) (opens : List Open) (depth : ℕ) (r : Reached) where
     tag_unended bad stops judge = tag-slash judge ∙ stops outer judge
 
   -- a name, or neither
-  pub tag-named : (0 < depth → r.at < length s → get_or s r.at 0 ≡ slash → ⊥) → (p : Result Piece BadByte) → NameFrom s r.at p
+  pub tag_named : (0 < depth → r.at < length s → get_or s r.at 0 ≡ slash → ⊥) → (p : Result Piece BadByte) → NameFrom s r.at p
       → PieceFrom s opens depth tag_place r.at r.tags p
-  tag-named other (Ok (piece.Rest e)) none = absurd none
-  tag-named other (Ok (piece.End e)) none = absurd none
-  tag-named other (Ok (piece.Name from end)) found =
+  tag_named other (Ok (piece.Rest e)) none = absurd none
+  tag_named other (Ok (piece.End e)) none = absurd none
+  tag_named other (Ok (piece.Name from end)) found =
       let there : r.at ≡ from = sym found.0 in
       let at_from : Met s opens depth tag_place r.at r.at end =
       record { reads_on = found.2 (open_names s opens depth); here = found.1; further = omega arith } in
       subst (λ (i : ℕ). Met s opens depth tag_place r.at i end) there at_from
-  tag-named other (Err bad) stops =
+  tag_named other (Err bad) stops =
       stops (open_names s opens depth) (λ h. no_end s opens depth (get_or s r.at 0) (λ deep e. other deep h e))
 
 -- ---- what stands next
@@ -451,23 +451,34 @@ module _ (s : List ℕ) (opens : List Open) (depth : ℕ) (r : Reached) (at : �
 
   module _ (h : at < length s) where
     -- a byte that begins no tag
-    pub no-tag : (get_or s at 0 ≡ less → ⊥) → Stops s here r.at at
-    no-tag g judge =
+    pub no_tag : (get_or s at 0 ≡ less → ⊥) → Stops s here r.at at
+    no_tag g judge =
         past_before judge
         ∙ reads-stop judge s here at h
         (next_stops s opens r.tags (get_or s at 0) depth (run.stopped h) (ne_eqb (get_or s at 0) less g))
 
     -- after the outermost element
-    pub second-element : depth ≡ 0 → 0 < r.tags → Stops s here r.at at
-    second-element outer begun judge =
+    pub second_element : depth ≡ 0 → 0 < r.tags → Stops s here r.at at
+    second_element outer begun judge =
         past_before judge
         ∙ reads-stop judge s here at h (next_second s opens r.tags (get_or s at 0) depth (run.stopped h) outer begun)
 
     -- the `<` of a tag
-    pub tag-next : get_or s at 0 ≡ less → (depth ≡ 0 → 0 < r.tags → ⊥)
+    pub tag_next : get_or s at 0 ≡ less → (depth ≡ 0 → 0 < r.tags → ⊥)
         → ReadsOn s here r.at (opened (open_names s opens depth)) (at + 1)
-    tag-next e inner judge =
+    tag_next e inner judge =
         past_before judge
         ∙ read_byte s here (opened (open_names s opens depth)) at h
         (ap (step here) e ∙ next_opens s opens r.tags depth inner)
         (none_between (open_names s opens depth) r.tags) judge
+
+-- the answers of each function
+pub ruleset names_end = (name_found, name_bad)
+
+pub ruleset end_tags = (end_unlike, end_due)
+
+pub ruleset closes = (end_full, end_bad, empty_bad, end_empty)
+
+pub ruleset tags_at = (name_behind, tag_ends, tag_unended, tag_named)
+
+pub ruleset pieces_next = (piece_after, after_less, only_before, no_tag, second_element, tag_next)

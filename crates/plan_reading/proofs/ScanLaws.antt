@@ -143,3 +143,6 @@ agrees_for s from end at n within not_beyond passed stops =
           (e : get_or s (at + n) 0 ≡ get_or s (from + (at + n - at)) 0).
           stops (omega arith) g (e ∙ ap (λ (i : ℕ). get_or s (from + i) 0) same);
     }
+
+-- a name byte by byte
+pub ruleset namings = (naming_none, naming_start, naming_more, naming_longest, naming_stop)

@@ -122,8 +122,8 @@ module _ (opens : List Open) (depth number : ℕ) (sought : Sought) where
       known_test (sought_names sought) name ∙ ap₂ ltb (sym e) (length_fields sought.names.list.now 0 sought.names.count)
 
   -- it stands inside too many others
-  pub judged-deep : plan_depth ≤ depth → TagJudged opens depth number sought too_deep
-  judged-deep h =
+  pub judged_deep : plan_depth ≤ depth → TagJudged opens depth number sought too_deep
+  judged_deep h =
       record {
         is = λ s name onward numbered e.
             fault_is (sought_names sought) (sought_name sought) (around s) name onward
@@ -132,8 +132,8 @@ module _ (opens : List Open) (depth number : ℕ) (sought : Sought) where
 
   module _ (shallow : plan_depth ≤ depth → ⊥) where
     -- its name is known
-    pub judged-known : number < sought.names.count → TagJudged opens depth number sought 0
-    judged-known low =
+    pub judged_known : number < sought.names.count → TagJudged opens depth number sought 0
+    judged_known low =
         record {
           is = λ s name onward numbered e.
               let child = is_child (sought_name sought) (around s) in
@@ -143,9 +143,9 @@ module _ (opens : List Open) (depth number : ℕ) (sought : Sought) where
         }
 
     -- its name is unknown, and it is a child of the chosen element
-    pub judged-unknown : (number < sought.names.count → ⊥) → (element : Open) → IsInnermost opens depth (Some element)
+    pub judged_unknown : (number < sought.names.count → ⊥) → (element : Open) → IsInnermost opens depth (Some element)
         → element.number ≡ sought.chosen → TagJudged opens depth number sought unknown_child
-    judged-unknown high element inner child =
+    judged_unknown high element inner child =
         record {
           is = λ s name onward numbered e.
               fault_is (sought_names sought) (sought_name sought) (around s) name onward (not_too_deep s shallow)
@@ -156,9 +156,9 @@ module _ (opens : List Open) (depth number : ℕ) (sought : Sought) where
         }
 
     -- or it is a child of another element
-    pub judged-other : (element : Open) → IsInnermost opens depth (Some element) → (element.number ≡ sought.chosen → ⊥)
+    pub judged_other : (element : Open) → IsInnermost opens depth (Some element) → (element.number ≡ sought.chosen → ⊥)
         → TagJudged opens depth number sought 0
-    judged-other element inner other =
+    judged_other element inner other =
         record {
           is = λ s name onward numbered e.
               fault_is (sought_names sought) (sought_name sought) (around s) name onward (not_too_deep s shallow)
@@ -169,11 +169,14 @@ module _ (opens : List Open) (depth number : ℕ) (sought : Sought) where
         }
 
     -- or it stands inside no other
-    pub judged-outermost : depth ≡ 0 → TagJudged opens depth number sought 0
-    judged-outermost none =
+    pub judged_outermost : depth ≡ 0 → TagJudged opens depth number sought 0
+    judged_outermost none =
         record {
           is = λ s name onward numbered e.
               fault_is (sought_names sought) (sought_name sought) (around s) name onward (not_too_deep s shallow)
               (child_of_none (sought_name sought) s opens depth none)
               refl;
         }
+
+-- a tag by what it is refused for
+pub ruleset judged = (judged_deep, judged_outermost, judged_known, judged_unknown, judged_other)

@@ -106,10 +106,10 @@ module _ (names : List (List ℕ)) (s : List ℕ) (stack : Stack) (r : Reached) 
         (subst P (sym pushed_at) top) d (omega arith)
 
     -- a start tag: the element is open
-    pub element-opened :
+    pub element_opened :
         ReadsOn s after_name element.end (inside (part s element.from element.end) (open_names s stack.opens stack.depth)) at
         → Begun names s stack' after_name element.end r after_tag
-    element-opened on =
+    element_opened on =
         let was = stands.stacked in
         record {
           reads_on = λ judge.
@@ -198,8 +198,8 @@ module _ (names : List (List ℕ)) (judge : Tag → ℕ) (s : List ℕ) (stack :
     new_tag = tag (open_names s stack.opens stack.depth) (part s from end) (drop end s)
 
     -- the tag is refused
-    pub turn-fault : (k : ℕ) → judge new_tag ≡ k → 0 < k → RefusedAs reading k end
-    turn-fault k fault some =
+    pub turn_fault : (k : ℕ) → judge new_tag ≡ k → 0 < k → RefusedAs reading k end
+    turn_fault k fault some =
         refused_as reading [] k end
         (met.reads_on judge ∙ name-refused judge s from end (open_names s stack.opens stack.depth) met.here k fault some) some
 
@@ -213,18 +213,18 @@ module _ (names : List (List ℕ)) (judge : Tag → ℕ) (s : List ℕ) (stack :
       goes_on = met.reads_on judge ∙ name-reads judge s from end (open_names s stack.opens stack.depth) met.here fine
 
       -- and comes to a byte that no plan can have there
-      pub turn-ended : (p : ℕ) → Stops s after_it end p → RefusedAs reading bad_plan p
-      turn-ended p stops =
+      pub turn_ended : (p : ℕ) → Stops s after_it end p → RefusedAs reading bad_plan p
+      turn_ended p stops =
           refused_as reading (new_tag ∷ []) bad_plan p (goes_on ∙ ap (with_tags (new_tag ∷ [])) (stops judge)) (omega arith)
 
       -- or to the end of the tag, whose entry is in the log
-      pub turn-begun :
+      pub turn_begun :
           (stack' : Stack) (log' : List ℕ) (number : ℕ) (t : Reached) → number ≡ name_number names (part s from end)
           → entries_at log' 0 (r.tags + 1) ≡ entries_at log 0 r.tags ++ (entry number stack.depth ∷ [])
           → length log' ≡ length log
           → Begun names s stack' after_it end r t
           → ReadFurther names judge s stack stack' log log' r t
-      turn-begun stack' log' number t is_number put same_room begun =
+      turn_begun stack' log' number t is_number put same_room begun =
           record {
             met_tags = new_tag ∷ [];
             reads_on = goes_on ∙ ap (with_tags (new_tag ∷ [])) (begun.reads_on judge);
@@ -257,10 +257,10 @@ ends-badly s opens (suc d) tags p elsewhere = refl
 
 module _ (names : List (List ℕ)) (chosen s : List ℕ) where
   -- nothing is read yet
-  pub plan-begins : (stack : Stack) (log : List ℕ) → length stack.opens ≡ plan_depth → stack.depth ≡ 0
+  pub plan_begins : (stack : Stack) (log : List ℕ) → length stack.opens ≡ plan_depth → stack.depth ≡ 0
       → ReadSoFar names chosen s stack log (record { at = 0; tags = 0 })
   unfolding read_plan open_names entries_at
-  plan-begins stack log room none =
+  plan_begins stack log room none =
       record {
         met_tags = [];
         reads_on = sym (ap (λ (d : ℕ). reads (tag_fault names chosen) s (between (open_names s stack.opens d) 0) 0) none);
@@ -283,9 +283,9 @@ module _ (names : List (List ℕ)) (chosen s : List ℕ) where
 
   module _ (stack : Stack) (log : List ℕ) (r : Reached) (so_far : ReadSoFar names chosen s stack log r) where
     -- one turn more
-    pub plan-goes : (stack' : Stack) (log' : List ℕ) (t : Reached) → ReadFurther names (tag_fault names chosen) s stack stack' log log' r t
+    pub plan_goes : (stack' : Stack) (log' : List ℕ) (t : Reached) → ReadFurther names (tag_fault names chosen) s stack stack' log log' r t
         → ReadSoFar names chosen s stack' log' t
-    plan-goes stack' log' t turned =
+    plan_goes stack' log' t turned =
         let onward = reads (tag_fault names chosen) s (place_of s stack'.opens stack'.depth t) t.at in
         record {
           met_tags = so_far.met_tags ++ turned.met_tags;
@@ -300,9 +300,9 @@ module _ (names : List (List ℕ)) (chosen s : List ℕ) where
         }
 
     -- a turn that is refused
-    pub plan-refused : (k p : ℕ) → RefusedAs (reads (tag_fault names chosen) s (place_of s stack.opens stack.depth r) r.at) k p
+    pub plan_refused : (k p : ℕ) → RefusedAs (reads (tag_fault names chosen) s (place_of s stack.opens stack.depth r) r.at) k p
         → RefusedAs (read_plan names chosen s) k p
-    plan-refused k p refused =
+    plan_refused k p refused =
         record {
           number_is = ap (λ (x : Reading). x.number) so_far.reads_on ∙ refused.number_is;
           place_is = ap (λ (x : Reading). x.place) so_far.reads_on ∙ refused.place_is;
@@ -317,9 +317,9 @@ module _ (names : List (List ℕ)) (chosen s : List ℕ) where
           ∙ ap (with_tags so_far.met_tags) (reads_end (tag_fault names chosen) s (place_of s stack.opens stack.depth r) r.at at_end_fact)
 
       -- after the outermost element
-      pub plan-read : stack.depth ≡ 0 → 0 < r.tags → Logged names (read_plan names chosen s) s log r.tags
+      pub plan_read : stack.depth ≡ 0 → 0 < r.tags → Logged names (read_plan names chosen s) s log r.tags
       unfolding open_names ended
-      plan-read outer some =
+      plan_read outer some =
           let none : eqb r.tags 0 ≡ false =
           told-false (tells_eqb r.tags 0) (λ (e : r.tags ≡ 0). let z : ⊥ = omega arith in z) in
           let is : ended (place_of s stack.opens stack.depth r) r.at ≡ refused_at 0 0 =
@@ -335,7 +335,14 @@ module _ (names : List (List ℕ)) (chosen s : List ℕ) where
           }
 
       -- anywhere else
-      pub plan-unfinished : (stack.depth ≡ 0 → 0 < r.tags → ⊥) → RefusedAs (read_plan names chosen s) bad_plan r.at
-      plan-unfinished elsewhere =
+      pub plan_unfinished : (stack.depth ≡ 0 → 0 < r.tags → ⊥) → RefusedAs (read_plan names chosen s) bad_plan r.at
+      plan_unfinished elsewhere =
           refused_as (read_plan names chosen s) so_far.met_tags bad_plan r.at
           (comes_to ∙ ap (with_tags so_far.met_tags) (ends-badly s stack.opens stack.depth r.tags r.at elsewhere)) (omega arith)
+
+-- the answers of each function
+pub ruleset elements = (element_opened, element_empty)
+
+pub ruleset turns = (some_number, turn_past, turn_fault, turn_ended, turn_begun)
+
+pub ruleset plans = (plan_begins, plan_goes, plan_read, plan_unfinished, plan_refused)

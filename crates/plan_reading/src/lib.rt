@@ -51,6 +51,7 @@ impl From<BadByte> for Fault {
 }
 
 // What refuses an element whose name has this number, inside those that are open.
+#[tactic(auto, using(crate::proofs::StackLaws::judged))]
 fn tag_fault(stack: &Stack, number: u8, sought: &Sought) -> Result<(), Refusal>
     ensures { TagJudged stack.now.opens stack.now.depth number sought.now (fault_of result) }
 {
@@ -67,6 +68,7 @@ fn tag_fault(stack: &Stack, number: u8, sought: &Sought) -> Result<(), Refusal>
 }
 
 // An element from the end of its name on: one with a start tag is opened.
+#[tactic(auto, using(crate::proofs::TurnLaws::elements))]
 fn begin_element(
     plan: &[u8],
     element: Open,
@@ -90,6 +92,7 @@ fn begin_element(
 }
 
 // What stands next, up to the end of a tag: text, white space, and one tag.
+#[tactic(auto, using(crate::proofs::TurnLaws::turns, crate::proofs::StackLaws::fine_shallow))]
 fn read_piece(
     plan: &[u8],
     sought: &Sought,
@@ -123,6 +126,7 @@ fn read_piece(
 }
 
 // A whole plan: so many tags are in the log, or what refuses it.
+#[tactic(auto, using(crate::proofs::TurnLaws::plans))]
 pub fn read_plan(plan: &[u8], sought: &Sought, log: &mut [u8]) -> Result<usize, Fault>
     requires { Room plan.now log.old }
     ensures plan_read_as { PlanReadAs (sought_names sought.now) (sought_name sought.now) plan.now log.new result }

@@ -4,6 +4,7 @@ ghost use Rattle.written_plans.specs.Logs.{entries_at};
 ghost use Rattle.plan_reading.specs.Turns.{entry};
 
 // One entry more, after so many: the number of a name, and how many elements are around.
+#[tactic(auto, using(crate::proofs::LogLaws::entry_put))]
 pub fn put_entry(log: &mut [u8], tags: usize, number: u8, depth: usize)
     requires tags_in_bounds { 2 * tags + 1 < length log.old }
     requires depth_bound { depth < 256 }

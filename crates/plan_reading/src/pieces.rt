@@ -68,6 +68,7 @@ fn follows_name(b: u8) -> bool
 }
 
 // The name of a tag that begins an element, and a byte that may follow it.
+#[tactic(auto, using(crate::proofs::PieceLaws::names_end))]
 fn tag_name(plan: &[u8], at: usize) -> Result<Piece, BadByte>
     requires { at ≤ length plan.now }
     ensures { NameFrom plan.now at result }
@@ -80,6 +81,7 @@ fn tag_name(plan: &[u8], at: usize) -> Result<Piece, BadByte>
 }
 
 // An end tag of this element, from after its `</` on.
+#[tactic(auto, using(crate::proofs::PieceLaws::end_tags))]
 fn end_tag(plan: &[u8], innermost: Open, at: usize) -> Result<usize, BadByte>
     requires name_behind { NameBehind innermost at }
     requires at_in_bounds { at ≤ length plan.now }
@@ -93,6 +95,7 @@ fn end_tag(plan: &[u8], innermost: Open, at: usize) -> Result<usize, BadByte>
 }
 
 // What ends a tag that begins an element, from after its name on.
+#[tactic(auto, using(crate::proofs::PieceLaws::closes))]
 pub fn tag_end(plan: &[u8], at: usize) -> Result<Close, BadByte>
     requires { at ≤ length plan.now }
     ensures { CloseFrom plan.now at result }
@@ -107,6 +110,7 @@ pub fn tag_end(plan: &[u8], at: usize) -> Result<Close, BadByte>
 }
 
 // A tag, from after its `<` on.
+#[tactic(auto, using(crate::proofs::PieceLaws::tags_at))]
 fn tag_at(plan: &[u8], stack: &Stack, r: Reached) -> Result<Piece, BadByte>
     requires { Stacked plan.now stack.now.opens stack.now.depth r }
     ensures { PieceFrom plan.now stack.now.opens stack.now.depth
@@ -122,6 +126,7 @@ fn tag_at(plan: &[u8], stack: &Stack, r: Reached) -> Result<Piece, BadByte>
 }
 
 // What stands next, up to the name of a tag or the end of an end tag.
+#[tactic(auto, using(crate::proofs::PieceLaws::pieces_next))]
 pub fn next_piece(plan: &[u8], stack: &Stack, r: Reached) -> Result<Piece, BadByte>
     requires stacked { Stacked plan.now stack.now.opens stack.now.depth r }
     requires at_in_bounds { r.at < length plan.now }

@@ -38,6 +38,7 @@ pub fn skip<F: Fn(u8) -> bool>(s: &[u8], at: usize, passes: F) -> usize
 }
 
 // Past the longest name; `at` itself where no name begins there.
+#[tactic(auto, using(crate::proofs::ScanLaws::namings))]
 pub fn name_end(s: &[u8], at: usize) -> usize
     requires { at ≤ length s.now }
     ensures { NameEnds s.now at result }
@@ -55,6 +56,7 @@ pub fn name_end(s: &[u8], at: usize) -> usize
 }
 
 // Past the bytes that agree, one by one, with those from `from` on to `end`.
+#[tactic(auto, using(crate::proofs::ScanLaws::agrees_for))]
 pub fn agree(s: &[u8], from: usize, end: usize, at: usize) -> usize
     requires from_le_end { from ≤ end }
     requires end_le_at { end ≤ at }

@@ -1,28 +1,19 @@
 -- Answer by answer.
-use native.Mathlib.Omega.{arith}
 use lib.ListN.{drop}
 use Rattle.std.proofs.lemmas.Result.{err_from_is_err_and}
 use Rattle.base.specs.Refusals.{number_of}
 use Rattle.plan_reading.specs.Scanning.{part}
 use Rattle.plan_reading.specs.Turns.{sought_names, sought_name, judge_of}
 use Rattle.plan_reading.proofs.StackLaws.{fine_shallow}
-use Rattle.plan_reading.proofs.TurnLaws.{some_number, turn_past, turn-fault, turn-ended, turn-begun}
+use Rattle.plan_reading.proofs.TurnLaws.{some_number, turn_fault, turn_ended}
 use Rattle.plan_reading.proofs.read_piece.Goals as goal
-
-pub returns-in-End : goal.returns-in-End
-returns-in-End c =
-    let a = c.args in
-    let ended = rw c.in-End.is at c.in_ok-at.ensures.piece_from in
-    turn_past (sought_names a.sought.now) (judge_of a.sought.now) a.plan.now a.stack.now a.log.now a.r c.requires.standing
-    c.pop.new.self c.in-End.at c.pop.ensures.opens_unchanged (omega arith)
-    (rw (c.pop.ensures.opens_unchanged, c.pop.ensures.depth_after) ended.1)
 
 pub returns-in-Err : goal.returns-in-Err
 returns-in-Err c =
     let a = c.args in
     let s = a.plan.now in
     let met = rw c.in-Name.is at c.in_ok-at.ensures.piece_from in
-    turn-fault (sought_names a.sought.now) (judge_of a.sought.now) s a.stack.now a.log.now a.r c.requires.standing
+    turn_fault (sought_names a.sought.now) (judge_of a.sought.now) s a.stack.now a.log.now a.r c.requires.standing
     c.in-Name.from c.in-Name.end met (number_of c.in-Err.refusal)
     (c.in-Err.ensures.is s (part s c.in-Name.from c.in-Name.end) (drop c.in-Name.end s) c.requires.standing.numbered
     c.number_by_guess-number.ensures)
@@ -52,21 +43,5 @@ returns-in_err-next-in-Name c =
     let fine =
     c.in_default.ensures.is s (part s from end) (drop end s) c.requires.standing.numbered number.ensures in
     rw (p.1, p.2)
-    (turn-ended (sought_names a.sought.now) (judge_of a.sought.now) s a.stack.now a.log.now a.r c.requires.standing
+    (turn_ended (sought_names a.sought.now) (judge_of a.sought.now) s a.stack.now a.log.now a.r c.requires.standing
     from end met fine _ (c.in_err-next-in-Name.ensures.is (sought_names a.sought.now) c.requires.standing number.ensures))
-
--- the tag is in the log
-pub returns-in_ok-next-in-Name : goal.returns-in_ok-next-in-Name
-returns-in_ok-next-in-Name c =
-    let a = c.args in
-    let s = a.plan.now in
-    let from = c.in-Name.from in
-    let end = c.in-Name.end in
-    let number = c.number_by_guess-number in
-    let met = rw c.in-Name.is at c.in_ok-at.ensures.piece_from in
-    let fine =
-    c.in_default.ensures.is s (part s from end) (drop end s) c.requires.standing.numbered number.ensures in
-    turn-begun (sought_names a.sought.now) (judge_of a.sought.now) s a.stack.now a.log.now a.r c.requires.standing
-    from end met fine c.begin_element.new.stack c.put_entry.new.log number.result c.in_ok-next-in-Name.next number.ensures
-    c.put_entry.ensures.tags_after c.put_entry.ensures.log_len_unchanged
-    (c.in_ok-next-in-Name.ensures.is (sought_names a.sought.now) c.requires.standing number.ensures)

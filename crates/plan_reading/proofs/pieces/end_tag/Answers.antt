@@ -1,11 +1,6 @@
 use native.Mathlib.Omega.{arith}
-use Rattle.plan_reading.proofs.PieceLaws.{end-unlike, end_due}
+use Rattle.plan_reading.proofs.PieceLaws.{end_due}
 use Rattle.plan_reading.proofs.pieces.end_tag.Goals as goal
-
-pub returns-then-stop-at : goal.returns-then-stop-at
-returns-then-stop-at c =
-    end-unlike c.args.plan.now c.args.innermost c.args.at c.requires.name_behind c.requires.at_in_bounds c.agree-stop.result
-    c.agree-stop.ensures (omega arith)
 
 pub returns : goal.returns
 returns c =

@@ -1,6 +1,6 @@
 use native.Mathlib.Omega.{arith}
 use Rattle.std.proofs.lemmas.Result.{err_from_is_err_and}
-use Rattle.plan_reading.proofs.PieceLaws.{end-full, end_bad, empty_bad, end_empty}
+use Rattle.plan_reading.proofs.PieceLaws.{end_full, end_bad, empty_bad, end_empty}
 use Rattle.plan_reading.proofs.pieces.tag_end.Goals as goal
 use Rattle.plan_reading.proofs.pieces.tag_end.Goals.{else-next-plan-via-then-next-plan+else-plan-next-eq47}
 use Rattle.plan_reading.proofs.pieces.tag_end.Goals.{else-next-plan-via-else-next-plan}
@@ -30,4 +30,4 @@ returns-in_err-last-2 c =
     c.in_err-last-2.ensures)
 
 pub returns : goal.returns
-returns c = end-full c.args.plan.now c.args.at c.skip-next.result c.skip-next.ensures _ c.in_ok-last-2.ensures
+returns c = end_full c.args.plan.now c.args.at c.skip-next.result c.skip-next.ensures _ c.in_ok-last-2.ensures

@@ -2,15 +2,10 @@ use mathlib.Core.Path.{sym, ◌∙◌}
 use Prim.Native.Nat.{◌<◌}
 use native.Mathlib.Omega.{arith}
 use lib.ListN.{length}
-use Rattle.plan_reading.proofs.PieceLaws.{name_bad, name-found}
+use Rattle.plan_reading.proofs.PieceLaws.{name_bad}
 use Rattle.plan_reading.proofs.pieces.tag_name.Goals as goal
 use Rattle.plan_reading.proofs.pieces.tag_name.Goals.{else-at-end-via-then-at-end+then-end-plan+else-follows_name}
 use Rattle.plan_reading.proofs.pieces.tag_name.Goals.{else-at-end-via-then-at-end+else-end-plan, else-at-end-via-else-at-end}
-
-pub returns-then-follows_name : goal.returns-then-follows_name
-returns-then-follows_name c =
-    name-found c.args.plan.now c.args.at c.name_end-end.result c.name_end-end.ensures c.if-at-end.true c.if-end-plan.true
-    (sym c.follows_name.ensures ∙ c.if-follows_name.true)
 
 pub returns : goal.returns
 returns c =

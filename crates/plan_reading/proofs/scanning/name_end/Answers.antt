@@ -1,9 +1,7 @@
-use mathlib.Core.Path.{◌≡◌, subst}
-use Prim.Native.Nat.{◌+◌, ◌<◌}
+use Prim.Native.Nat.{◌<◌}
 use native.Mathlib.Omega.{arith}
 use lib.ListN.{length}
-use Rattle.plan_reading.specs.Scanning.{NameEnds}
-use Rattle.plan_reading.proofs.ScanLaws.{naming_none, naming_start, naming_more, naming_stop, naming_longest}
+use Rattle.plan_reading.proofs.ScanLaws.{naming_none, naming_start, naming_more}
 use Rattle.plan_reading.proofs.scanning.name_end.Goals as goal
 use Rattle.plan_reading.proofs.scanning.name_end.Goals.{then-s-at-via-then-s-at, then-s-at-via-else-s-at+then-not-starts_name}
 
@@ -24,19 +22,8 @@ loop-i-init c =
     let e = c.starts_name.ensures in
     naming_start c.args.s.now c.args.at (omega arith) (cc)
 
-pub returns-then-not-continues_name : goal.returns-then-not-continues_name
-returns-then-not-continues_name c =
-    let test = c.if-not-continues_name.true in
-    let e = c.continues_name.ensures in
-    naming_stop c.args.s.now c.args.at c.loop-i.i c.loop-i.invariant (cc)
-
 pub loop-i-preserved : goal.loop-i-preserved
 loop-i-preserved c =
     let test = c.if-not-continues_name.false in
     let e = c.continues_name.ensures in
     naming_more c.args.s.now c.args.at c.loop-i.i c.loop-i.invariant (omega arith) (omega arith) (cc)
-
-pub returns : goal.returns
-returns c =
-    let there : c.loop-i.i ≡ c.args.at + c.min.result = omega arith in
-    subst (NameEnds c.args.s.now c.args.at) there (naming_longest c.args.s.now c.args.at c.loop-i.i c.loop-i.invariant (omega arith))
