@@ -1,15 +1,12 @@
--- Names: the test of their bytes; their order, which is that of slices in std, also over what is left from an offset on; and what refuses a
--- name. Assumes nothing.
-use mathlib.Core.Path.{◌≡◌, refl, sym, ◌∙◌}
+-- Names: the test of their bytes; their order, which is that of slices in std; and what refuses a name. Assumes nothing.
+use mathlib.Core.Path.{◌≡◌, refl, sym}
 use mathlib.Core.Bool.{Bool, true, false, and-false}
 use mathlib.Core.List.{List, [], ◌∷◌}
-use Prim.Native.Nat.{ℕ, zero, suc, ◌+◌, ◌-◌, ◌≤◌, ◌<◌}
-use native.Mathlib.Numerals.{add-one}
+use Prim.Native.Nat.{ℕ, ◌-◌, ◌≤◌, ◌<◌}
 use native.Mathlib.Omega.{arith}
-use borrow.Author.Tests.{lt-ltb, le-ltb, le-leb, lt-leb, eq-eqb}
-use lib.Dec.{ltb, leb-suc-suc}
-use lib.ListN.{length, get_or, take, drop, drop_of_length-le}
-use lib.Seq.{drop-cons, take-length}
+use borrow.Author.Tests.{le-leb, lt-leb}
+use lib.ListN.{length, get_or, take, drop}
+use lib.Seq.{take-length}
 use Rattle.std.specs.List.{list_all}
 use Rattle.std.specs.Cmp.Lexicographic.{slice_partial_cmp}
 use Rattle.std.specs.Ordering.{nat_cmp, is_lt, partial_lt}
@@ -57,27 +54,6 @@ pub before_less : (a b : List ℕ) (r : Bool) → r ≡ partial_lt (slice_partia
 unfolding before
 before_less =
     same_from_slice_cmp_tested nat_cmp is_lt before refl (λ _ _. refl) (λ _ _. refl) (λ x y xs ys o h. grind (arith, nat_tests))
-
-pub before-less : (a b : List ℕ) (i : ℕ) → i < length a → i < length b → get_or a i 0 < get_or b i 0 → before (drop i a) (drop i b) ≡ true
-unfolding before
-before-less a b i h g l = rw (drop-cons a i 0 h, drop-cons b i 0 g, before, lt-ltb (get_or a i 0) (get_or b i 0) l)
-
-pub before-go : (a b : List ℕ) (i : ℕ) → i < length a → i < length b → get_or a i 0 ≤ get_or b i 0 → get_or b i 0 ≤ get_or a i 0
-    → before (drop (i + 1) a) (drop (i + 1) b) ≡ before (drop i a) (drop i b)
-unfolding before
-before-go a b i h g l m =
-    rw (add-one, drop-cons a i 0 h, drop-cons b i 0 g, le-ltb (get_or a i 0) (get_or b i 0) m, eq-eqb (get_or a i 0) (get_or b i 0) (omega arith))
-
--- all of a is read: it is before b exactly when b goes on
-pub before-end : (a b : List ℕ) (i : ℕ) → length a ≤ i → before (drop i a) (drop i b) ≡ ltb i (length b)
-unfolding before
-before-end a b i h = rw (drop_of_length-le a h) (rest b i)
-  where
-    rest : (b : List ℕ) (i : ℕ) → before [] (drop i b) ≡ ltb i (length b)
-    rest [] zero = refl
-    rest [] (suc i) = sym (le-ltb (suc i) 0 (omega arith))
-    rest (y ∷ b) zero = sym (lt-ltb 0 (suc (length b)) (omega arith))
-    rest (y ∷ b) (suc i) = rest b i ∙ sym (leb-suc-suc (suc i) (length b))
 
 -- the last name so far, empty where there is none, decides whether an allowed name stands above
 pub above-last : (names : List (List ℕ)) (b : List ℕ) → name_ok b ≡ true → above names b ≡ before (last_or [] names) b
