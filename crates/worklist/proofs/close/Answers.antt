@@ -8,7 +8,9 @@ use Rattle.worklist.proofs.close.Goals as goal
 
 pub returns-then-kinds-eq0 : goal.returns-then-kinds-eq0
 returns-then-kinds-eq0 c =
-    settling-done (settling_filled c.requires.ready c.new-kinds.result.queue.room (rw c.new-kinds.ensures.pairs at c.fill_all.ensures)) (omega arith)
+    settling-done
+    (settling_filled c.requires.ready c.new-kinds.result.queue.room (rw c.new-kinds.ensures.pairs at c.fill_all.ensures))
+    (omega arith)
 
 pub settle-requires-clause-settling : goal.settle-requires-clause-settling
 settle-requires-clause-settling c =
