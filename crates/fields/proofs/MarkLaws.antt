@@ -78,7 +78,8 @@ module _ (kind : FileKind) (s : List ℕ) (p : Place) where
   pub no_state_yet : get_or s p.at 0 ≡ 4 → stage_of p.stage < 2 → MisplacedAt kind s p
   no_state_yet m h = misplaced_lem (rw (m, lt-leb 2 (stage_of p.stage) h, and-false))
 
-  pub no_mark : (get_or s p.at 0 ≡ 1 → ⊥) → (get_or s p.at 0 ≡ 2 → ⊥) → (get_or s p.at 0 ≡ 3 → ⊥) → (get_or s p.at 0 ≡ 4 → ⊥) → MisplacedAt kind s p
+  pub no_mark : (get_or s p.at 0 ≡ 1 → ⊥) → (get_or s p.at 0 ≡ 2 → ⊥) → (get_or s p.at 0 ≡ 3 → ⊥) → (get_or s p.at 0 ≡ 4 → ⊥)
+      → MisplacedAt kind s p
   no_mark a b c d =
       let mark = get_or s p.at 0 in
       misplaced_lem (rw (ne_eqb mark 1 a, ne_eqb mark 2 b, ne_eqb mark 3 c, ne_eqb mark 4 d))

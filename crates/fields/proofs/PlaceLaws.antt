@@ -211,7 +211,8 @@ module _ (s : List ℕ) (p : Place) (whole : Whole s p) (name : List ℕ) (fault
       let q : p.last + p.width - p.last ≡ p.width = omega arith in
       let last : last_or [] (fields_at s 0 p.names) ≡ take (p.last + p.width - p.last) (drop p.last s) =
       rw q whole.sound.last_is in
-      subst (λ (b : List ℕ). name_fault (file_of s p).names b ≡ fault) bytes (judged.is (file_of s p).names last (length_fields s 0 p.names))
+      subst (λ (b : List ℕ). name_fault (file_of s p).names b ≡ fault) bytes
+      (judged.is (file_of s p).names last (length_fields s 0 p.names))
 
   pub name-goes : (next : ℕ) → next ≡ next_at s p.at → stage_of p.stage ≤ 1 → fault ≡ 0
       → Grown s p (name_fault (file_of s p).names (body_at s p.at)) (with_field (file_of s p) 1 (body_at s p.at))

@@ -25,7 +25,8 @@ unfolding with_field
 returns-in-3 c =
     row_arm (kind_of c.args.kind) c.args.s.now c.args.p c.item_field.result c.in-3.is (grind (arith, common_steps))
     (grind (arith, common_steps))
-    (item_step row_fault c.args.s.now c.args.p c.body.result.now _ c.body.ensures c.row_fault.ensures c.item_field.result c.item_field.ensures)
+    (item_step row_fault c.args.s.now c.args.p c.body.result.now _ c.body.ensures c.row_fault.ensures c.item_field.result
+    c.item_field.ensures)
 
 pub item_field-requires-in-4-clause-p_lt_state_limit : goal.item_field-requires-in-4-clause-p_lt_state_limit
 item_field-requires-in-4-clause-p_lt_state_limit c =

@@ -13,7 +13,8 @@ returns c =
     (put_append c.put_decimal-next.ensures
     (put_append c.copy_in-next-2.ensures
     (put_append c.put_decimal-next-2.ensures
-    (put_append c.copy_in-next-3.ensures (put_append c.put_decimal-next-3.ensures c.put_byte.ensures (omega arith)) (omega arith)) (omega arith))
+    (put_append c.copy_in-next-3.ensures (put_append c.put_decimal-next-3.ensures c.put_byte.ensures (omega arith)) (omega arith))
+    (omega arith))
     (omega arith))
     (omega arith))
     (omega arith)
