@@ -27,6 +27,11 @@ pub record Linked (i : ℕ) (parents names old next : List ℕ) : Type 0 where
   pub leaves : (v : ℕ) → 0 < v → v < i → bit (get_or names v 0) (get_or next (get_or old (get_or parents v 0) 0) 0) ≡ 1
   pub arc : (x a : ℕ) → bit a (get_or next x 0) ≡ 1 → ArcOf i parents names old x a
 
+-- each name that leads out of a group is in its set
+abbrev pub AllLeave : ℕ → List ℕ → List ℕ → List ℕ → List ℕ → Type 0
+AllLeave n parents names old next =
+    (v : ℕ) → 0 < v → v < n → bit (get_or names v 0) (get_or next (get_or old (get_or parents v 0) 0) 0) ≡ 1
+
 -- arc v is of class b: it is the first of its name out of its group, and leads into a state of this class
 pub record Listed (parents names classes old : List ℕ) (b v : ℕ) : Type 0 where
   pub classed : b < state_limit

@@ -17,6 +17,16 @@ use suffixes::class_above;
 // What a far arc has instead of a link until the chains are whole. No arc has this number.
 const WAITING: u16 = NO_STATE + 1;
 
+// What the arcs of a sweep are linked by: the classes of the states, of one name more than the sources have in common, and how near
+// the groups are.
+#[derive(Clone, Copy)]
+pub struct Marks<'a, 'b> {
+    pub view: View<'a>,
+    pub classes: &'b [u16],
+    pub dist: &'b [u8; STATE_LIMIT],
+    pub ghost size: { length classes.now ≡ length view.old.now },
+}
+
 // The set of names that lead out of each group, in `next`, and the chains of near arcs: the last arc of each class, and the one before
 // each, plus one, 0 where there is none.
 #[derive(Drop)]
@@ -29,56 +39,53 @@ pub struct Arcs {
 impl Arcs {
     // Puts arc v, the first of its name out of its group, into the chain of its class, if it has one and is near; marks it, if it
     // is far.
-    fn place(&mut self, view: View, classes: &[u16], dist: &[u8; STATE_LIMIT], v: usize)
-        requires classes_size { length classes.now ≡ length view.old.now }
-        requires inside { v < length view.old.now }
-        ensures placed { Placed view.entry.j v classes.now view.entry.old.now dist.now self.old.links self.old.heads
+    fn place(&mut self, by: &Marks, v: usize)
+        requires inside { v < length by.now.view.old.now }
+        ensures placed { Placed by.now.view.j v by.now.classes.now by.now.view.old.now by.now.dist.now self.old.links self.old.heads
             self.new.links self.new.heads }
         ensures next { self.new.next ≡ self.old.next }
     {
-        if NO_STATE <= classes[v] {
+        if NO_STATE <= by.classes[v] {
             return;
         }
-        let group = view.old[v] as usize;
-        if view.j <= dist[group] as usize {
+        let group = by.view.old[v] as usize;
+        if by.view.j <= by.dist[group] as usize {
             self.links[v] = WAITING;
             return;
         }
-        let class = classes[v] as usize;
+        let class = by.classes[v] as usize;
         self.links[v] = self.heads[class];
         self.heads[class] = (v + 1) as u16;
     }
 
     // One arc more, linked where it is the first of its name out of its group: its name goes into the group's set, and the arc into
     // the chain of its class.
-    fn link(&mut self, view: View, classes: &[u16], dist: &[u8; STATE_LIMIT], v: usize)
-        requires classes_size { length classes.now ≡ length view.old.now }
+    fn link(&mut self, by: &Marks, v: usize)
         requires no_root { 0 < v }
-        requires inside { v < length view.old.now }
-        requires so_far { ArcsLinked v view.j view.tree.parents.now view.tree.names.now classes.now view.old.now dist.now
+        requires inside { v < length by.now.view.old.now }
+        requires so_far { ArcsLinked v by.now.view.j by.now.view.tree.parents.now by.now.view.tree.names.now by.now.classes.now by.now.view.old.now by.now.dist.now
             self.old.next self.old.links self.old.heads }
-        ensures { ArcsLinked (v + 1) view.entry.j view.entry.tree.parents.now view.entry.tree.names.now classes.now view.entry.old.now
-            dist.now self.new.next self.new.links self.new.heads }
+        ensures { ArcsLinked (v + 1) by.now.view.j by.now.view.tree.parents.now by.now.view.tree.names.now by.now.classes.now by.now.view.old.now
+            by.now.dist.now self.new.next self.new.links self.new.heads }
     {
-        let from = class_above(view.old, view.tree.parents, v);
+        let from = class_above(by.view.old, by.view.tree.parents, v);
         let known = self.next[from];
-        let all = with_name(known, view.tree.names[v]);
+        let all = with_name(known, by.view.tree.names[v]);
         if all != known {
             self.next[from] = all;
-            self.place(view, classes, dist, v);
+            self.place(by, v);
         }
     }
 
     // All arcs, the near ones linked.
-    fn link_near(&mut self, view: View, classes: &[u16], dist: &[u8; STATE_LIMIT])
-        requires classes_size { length classes.now ≡ length view.old.now }
-        requires none { ArcsLinked 1 view.j view.tree.parents.now view.tree.names.now classes.now view.old.now dist.now
+    fn link_near(&mut self, by: &Marks)
+        requires none { ArcsLinked 1 by.now.view.j by.now.view.tree.parents.now by.now.view.tree.names.now by.now.classes.now by.now.view.old.now by.now.dist.now
             self.old.next self.old.links self.old.heads }
-        ensures { ArcsLinked (length view.entry.old.now) view.entry.j view.entry.tree.parents.now view.entry.tree.names.now
-            classes.now view.entry.old.now dist.now self.new.next self.new.links self.new.heads }
+        ensures { ArcsLinked (length by.now.view.old.now) by.now.view.j by.now.view.tree.parents.now by.now.view.tree.names.now
+            by.now.classes.now by.now.view.old.now by.now.dist.now self.new.next self.new.links self.new.heads }
     {
-        for v in 1..view.old.len() {
-            self.link(view, classes, dist, v);
+        for v in 1..by.view.old.len() {
+            self.link(by, v);
         }
     }
 
@@ -98,18 +105,17 @@ impl Arcs {
     }
 
     // The arcs out of the groups of a sweep, by the classes of the states that they lead into, and how near their groups are.
-    pub fn new(view: View, classes: &[u16], dist: &[u8; STATE_LIMIT]) -> Arcs
-        requires { length classes.now ≡ length view.old.now }
-        ensures { ArcsReady (length view.entry.old.now) view.entry.j view.entry.tree.parents.now view.entry.tree.names.now classes.now
-            view.entry.old.now dist.now result.next result.links result.heads }
+    pub fn new(by: &Marks) -> Arcs
+        ensures { ArcsReady (length by.now.view.old.now) by.now.view.j by.now.view.tree.parents.now by.now.view.tree.names.now by.now.classes.now
+            by.now.view.old.now by.now.dist.now result.next result.links result.heads }
     {
         let mut arcs = Arcs {
             next: [0u64; STATE_LIMIT],
             links: [0u16; STATE_LIMIT],
             heads: [0u16; STATE_LIMIT],
         };
-        arcs.link_near(view, classes, dist);
-        arcs.link_far(classes);
+        arcs.link_near(by);
+        arcs.link_far(by.classes);
         arcs
     }
 }

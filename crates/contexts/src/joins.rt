@@ -7,10 +7,12 @@ ghost use Rattle.base.specs.Lists.{numbers_from};
 ghost use Rattle.indexed.specs.Partitions.{Refines};
 ghost use Rattle.partition.specs.Forests.{roots_of};
 ghost use Rattle.worklist.specs.Forks.{Kept};
-ghost use Rattle.contexts.specs.Joins.{Live, Apart, Comparing, Chains, PairJoined, ChainJoined, PairsJoined, SweptBy};
+ghost use Rattle.contexts.specs.Ahead.{Telling};
+ghost use Rattle.contexts.specs.Sweeps.{AllLeave};
+ghost use Rattle.contexts.specs.Joins.{Live, Apart, Chains, PairJoined, ChainJoined, PairsJoined, SweptBy};
 
 use crate::ahead::names_ahead;
-use crate::chains::Arcs;
+use crate::chains::{Arcs, Marks};
 use crate::distances::distances;
 use crate::view::View;
 use base::limits::STATE_LIMIT;
@@ -23,20 +25,25 @@ use worklist::search::lead_on;
 // What a sweep compares: the sets of names that lead out of the groups at first, of one name and of two in succession, and the chains
 // of arcs. The states have numbers of their own for the closing of forks.
 #[derive(Clone, Copy)]
-struct Pairs<'a> {
+struct Pairs<'a, 'b> {
     view: View<'a>,
-    numbers: &'a [u16],
-    next: &'a [u64; STATE_LIMIT],
-    ahead: &'a [u16; STATE_LIMIT],
-    links: &'a [u16; STATE_LIMIT],
+    numbers: &'b [u16],
+    next: &'b [u64; STATE_LIMIT],
+    ahead: &'b [u16; STATE_LIMIT],
+    links: &'b [u16; STATE_LIMIT],
+    ghost own: { numbers.now ≡ numbers_from (length view.old.now) 0 },
+    ghost leave: { AllLeave (length view.old.now) view.tree.parents.now view.tree.names.now view.old.now next.now },
+    ghost telling: { Telling (length view.old.now) view.j view.tree.parents.now view.tree.names.now view.old.now ahead.now },
+    ghost chains: { Chains (length view.old.now) links.now },
+    ghost some: { 0 < view.j },
 }
 
-impl Pairs<'_> {
+impl Pairs<'_, '_> {
     // Whether the groups that arcs v and w led into at first tell by their sets that no names can be walked after both.
-    fn apart(self, v: usize, w: usize) -> bool
-        requires v_inside { v < length self.view.old.now }
-        requires w_inside { w < length self.view.old.now }
-        ensures { result ≡ true → Apart self.entry.view.old.now self.entry.next.now self.entry.ahead.now v w }
+    fn apart(&self, v: usize, w: usize) -> bool
+        requires v_inside { v < length self.now.view.old.now }
+        requires w_inside { w < length self.now.view.old.now }
+        ensures { result ≡ true → Apart self.now.view.old.now self.now.next.now self.now.ahead.now v w }
     {
         let into = self.view.old[v] as usize;
         let other = self.view.old[w] as usize;
@@ -45,20 +52,19 @@ impl Pairs<'_> {
 
     // Joins the sources of arcs v and w where j names in succession can be walked after both, and closes forks; true where they were
     // in two groups. The sets of the groups at first tell most pairs apart; the names are looked for among the groups as they are.
-    fn join_pair(self, groups: &mut [u16], forks: &mut Forks, v: usize, w: usize) -> bool
-        requires comparing { Comparing (length groups.old) self.view.j self.view.tree.parents.now
-            self.view.tree.names.now self.numbers.now self.view.old.now self.next.now self.ahead.now }
-        requires live { Live (length groups.old) self.view.tree.parents.now self.view.tree.names.now
-            self.numbers.now groups.old forks.old.lists.links
+    fn join_pair(&self, groups: &mut [u16], forks: &mut Forks, v: usize, w: usize) -> bool
+        requires size { length groups.old ≡ length self.now.view.old.now }
+        requires live { Live (length groups.old) self.now.view.tree.parents.now self.now.view.tree.names.now
+            self.now.numbers.now groups.old forks.old.lists.links
             forks.old.lists.heads forks.old.queue.firsts forks.old.queue.seconds }
-        requires coarser { Refines (length groups.old) self.view.old.now (roots_of groups.old) }
+        requires coarser { Refines (length groups.old) self.now.view.old.now (roots_of groups.old) }
         requires v_inside { v < length groups.old }
         requires w_inside { w < length groups.old }
-        ensures pair { PairJoined (length groups.old) self.entry.view.j self.entry.view.tree.parents.now
-            self.entry.view.tree.names.now self.entry.view.old.now v w (roots_of groups.old) (roots_of groups.new)
+        ensures pair { PairJoined (length groups.old) self.now.view.j self.now.view.tree.parents.now
+            self.now.view.tree.names.now self.now.view.old.now v w (roots_of groups.old) (roots_of groups.new)
             result }
-        ensures live { Live (length groups.old) self.entry.view.tree.parents.now self.entry.view.tree.names.now
-            self.entry.numbers.now groups.new forks.new.lists.links
+        ensures live { Live (length groups.old) self.now.view.tree.parents.now self.now.view.tree.names.now
+            self.now.numbers.now groups.new forks.new.lists.links
             forks.new.lists.heads forks.new.queue.firsts forks.new.queue.seconds }
     {
         if self.apart(v, w) {
@@ -81,20 +87,18 @@ impl Pairs<'_> {
 
     // Joins the source of arc v with those of the arcs further down its chain after which j names in succession can be walked as after
     // v; true where anything was joined.
-    fn join_chain(self, groups: &mut [u16], forks: &mut Forks, v: usize) -> bool
-        requires comparing { Comparing (length groups.old) self.view.j self.view.tree.parents.now
-            self.view.tree.names.now self.numbers.now self.view.old.now self.next.now self.ahead.now }
-        requires chains { Chains (length groups.old) self.links.now }
-        requires live { Live (length groups.old) self.view.tree.parents.now self.view.tree.names.now
-            self.numbers.now groups.old forks.old.lists.links
+    fn join_chain(&self, groups: &mut [u16], forks: &mut Forks, v: usize) -> bool
+        requires size { length groups.old ≡ length self.now.view.old.now }
+        requires live { Live (length groups.old) self.now.view.tree.parents.now self.now.view.tree.names.now
+            self.now.numbers.now groups.old forks.old.lists.links
             forks.old.lists.heads forks.old.queue.firsts forks.old.queue.seconds }
-        requires coarser { Refines (length groups.old) self.view.old.now (roots_of groups.old) }
+        requires coarser { Refines (length groups.old) self.now.view.old.now (roots_of groups.old) }
         requires inside { v < length groups.old }
-        ensures chain { ChainJoined (length groups.old) self.entry.view.j self.entry.view.tree.parents.now
-            self.entry.view.tree.names.now self.entry.view.old.now self.entry.links.now v (roots_of groups.old)
+        ensures chain { ChainJoined (length groups.old) self.now.view.j self.now.view.tree.parents.now
+            self.now.view.tree.names.now self.now.view.old.now self.now.links.now v (roots_of groups.old)
             (roots_of groups.new) result }
-        ensures live { Live (length groups.old) self.entry.view.tree.parents.now self.entry.view.tree.names.now
-            self.entry.numbers.now groups.new forks.new.lists.links
+        ensures live { Live (length groups.old) self.now.view.tree.parents.now self.now.view.tree.names.now
+            self.now.numbers.now groups.new forks.new.lists.links
             forks.new.lists.heads forks.new.queue.firsts forks.new.queue.seconds }
     {
         let mut joined = false;
@@ -107,19 +111,17 @@ impl Pairs<'_> {
     }
 
     // Compares all arcs; true where anything was joined.
-    fn join_all(self, groups: &mut [u16], forks: &mut Forks) -> bool
-        requires comparing { Comparing (length groups.old) self.view.j self.view.tree.parents.now
-            self.view.tree.names.now self.numbers.now self.view.old.now self.next.now self.ahead.now }
-        requires chains { Chains (length groups.old) self.links.now }
-        requires live { Live (length groups.old) self.view.tree.parents.now self.view.tree.names.now
-            self.numbers.now groups.old forks.old.lists.links
+    fn join_all(&self, groups: &mut [u16], forks: &mut Forks) -> bool
+        requires size { length groups.old ≡ length self.now.view.old.now }
+        requires live { Live (length groups.old) self.now.view.tree.parents.now self.now.view.tree.names.now
+            self.now.numbers.now groups.old forks.old.lists.links
             forks.old.lists.heads forks.old.queue.firsts forks.old.queue.seconds }
-        requires coarser { Refines (length groups.old) self.view.old.now (roots_of groups.old) }
-        ensures pairs { PairsJoined (length groups.old) (length groups.old) self.entry.view.j
-            self.entry.view.tree.parents.now self.entry.view.tree.names.now self.entry.view.old.now self.entry.links.now
+        requires coarser { Refines (length groups.old) self.now.view.old.now (roots_of groups.old) }
+        ensures pairs { PairsJoined (length groups.old) (length groups.old) self.now.view.j
+            self.now.view.tree.parents.now self.now.view.tree.names.now self.now.view.old.now self.now.links.now
             (roots_of groups.old) (roots_of groups.new) result }
-        ensures live { Live (length groups.old) self.entry.view.tree.parents.now self.entry.view.tree.names.now
-            self.entry.numbers.now groups.new forks.new.lists.links
+        ensures live { Live (length groups.old) self.now.view.tree.parents.now self.now.view.tree.names.now
+            self.now.numbers.now groups.new forks.new.lists.links
             forks.new.lists.heads forks.new.queue.firsts forks.new.queue.seconds }
     {
         let mut joined = false;
@@ -132,12 +134,12 @@ impl Pairs<'_> {
 
 // The sweep for m names, by the chains of the groups as they are at first; true where anything was joined. `before` has the groups
 // that the last sweep went by, and gets those of this one.
-pub fn sweep<'a>(
+pub fn sweep(
     m: usize,
-    tree: Tree<'a>,
-    numbers: &'a [u16],
+    tree: Tree,
+    numbers: &[u16],
     classes: &[u16],
-    before: &'a mut [u16],
+    before: &mut [u16],
     groups: &mut [u16],
     forks: &mut Forks,
 ) -> bool
@@ -163,7 +165,11 @@ pub fn sweep<'a>(
         tree,
         old: before,
     };
-    let arcs = Arcs::new(view, classes, &dist);
+    let arcs = Arcs::new(&Marks {
+        view,
+        classes,
+        dist: &dist,
+    });
     let ahead = names_ahead(view, &arcs.next);
     let pairs = Pairs {
         view,

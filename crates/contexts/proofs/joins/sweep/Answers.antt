@@ -1,9 +1,10 @@
 -- The groups that are read are those copied, and the arcs are those linked.
-use mathlib.Core.Path.{◌≡◌, sym, subst, subst₂}
+use mathlib.Core.Path.{◌≡◌, sym, ap, ◌∙◌, subst, subst₂}
 use mathlib.Core.List.{List}
 use Prim.Native.Nat.{ℕ, suc, ◌-◌}
 use native.Mathlib.Omega.{arith}
 use lib.ListN.{length}
+use Rattle.base.specs.Lists.{numbers_from}
 use Rattle.indexed.specs.Partitions.{Refines, ForkClosed}
 use Rattle.partition.specs.Forests.{roots_of}
 use Rattle.partition.proofs.ForestLaws.{flat_forest, flat_roots}
@@ -24,17 +25,22 @@ ready :
 ready j parents names classes groups before dist next links heads same =
     subst (λ (l : List ℕ). ArcsReady (length l) j parents names classes l dist next links heads) same
 
-pub join_all-joined-requires-clause-chains : goal.join_all-joined-requires-clause-chains
-join_all-joined-requires-clause-chains c =
-    let arcs = c.new-arcs.result in
-    let size : length arcs.links ≡ 512 = omega arith in
+pub invariant_of-pairs-clause-own : goal.invariant_of-pairs-clause-own
+invariant_of-pairs-clause-own c =
+    c.requires.own ∙ ap (λ (l : List ℕ). numbers_from (length l) 0) (sym c.copy_from_slice.ensures.after)
+
+pub invariant_of-pairs-clause-leave : goal.invariant_of-pairs-clause-leave
+invariant_of-pairs-clause-leave c = c.new-arcs.ensures.linked.leaves
+
+pub invariant_of-pairs-clause-telling : goal.invariant_of-pairs-clause-telling
+invariant_of-pairs-clause-telling c = c.names_ahead-ahead.ensures c.new-arcs.ensures.linked
+
+pub invariant_of-pairs-clause-chains : goal.invariant_of-pairs-clause-chains
+invariant_of-pairs-clause-chains c =
+    let size : length c.new-arcs.result.links ≡ 512 = omega arith in
     record {
-      size = omega (arith, c.requires.size, c.args.tree.arrays.few_states);
-      falling =
-          arcs_fall
-          (ready (c.args.m - 1) c.args.tree.parents.now c.args.tree.names.now c.args.classes.now c.args.groups.now
-          c.copy_from_slice.new.self c.distances-dist.result arcs.next arcs.links arcs.heads c.copy_from_slice.ensures.after
-          c.new-arcs.ensures);
+      size = omega (arith, c.copy_from_slice.ensures.len, c.requires.before_size, c.requires.size, c.args.tree.arrays.few_states);
+      falling = arcs_fall c.new-arcs.ensures;
     }
 
 pub join_all-joined-requires-clause-live : goal.join_all-joined-requires-clause-live

@@ -16,7 +16,7 @@ use Rattle.contexts.proofs.chains.Arcs.link.Goals as goal
 pub returns-else-all-known : goal.returns-else-all-known
 returns-else-all-known c =
     let next = c.args.self.now.next in
-    let name = get_or c.args.view.tree.names.now c.args.v 0 in
+    let name = get_or c.args.by.now.view.tree.names.now c.args.v 0 in
     let from = c.class_above-from.result in
     let same : bit_or (get_or next from 0) (2 ^ name) ≡ get_or next from 0 = sym c.with_name-all.ensures ∙ c.if-all-known.false in
     arcs-known c.requires.so_far
@@ -25,7 +25,7 @@ returns-else-all-known c =
 pub returns-then-all-known : goal.returns-then-all-known
 returns-then-all-known c =
     let v = c.args.v in
-    let view = c.args.view in
+    let view = c.args.by.now.view in
     let parents = view.tree.parents.now in
     let names = view.tree.names.now in
     let old = view.old.now in
@@ -48,7 +48,7 @@ returns-then-all-known c =
     let linked : Linked (suc v) parents names old (set next from all) =
     linked_more c.requires.no_root so_far.linked from name c.class_above-from.ensures refl
     (omega (arith, from_low, arrays.few_states, next_size)) (ap (set next from) c.with_name-all.ensures) new in
-    subst (λ (l : List ℕ). ArcsLinked (v + 1) view.j parents names c.args.classes.now old c.args.dist.now l last.links last.heads)
+    subst (λ (l : List ℕ). ArcsLinked (v + 1) view.j parents names c.args.by.now.classes.now old c.args.by.now.dist.now l last.links last.heads)
     (sym c.place.ensures.next)
     (arcs-placed so_far linked (omega (arith, c.requires.inside, arrays.few_states)) links_size heads_size
     c.requires.no_root (first_arc so_far.linked new) c.place.ensures.placed)

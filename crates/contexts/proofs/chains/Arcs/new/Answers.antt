@@ -8,13 +8,13 @@ use Rattle.contexts.specs.Sweeps.{ArcsReady}
 use Rattle.contexts.proofs.NearLaws.{arcs_none, arcs_ready}
 use Rattle.contexts.proofs.chains.Arcs.new.Goals as goal
 
-pub link_near-requires-clause-none : goal.link_near-requires-clause-none
-link_near-requires-clause-none c = arcs_none (heads_none 512) (heads_none 512) (heads_none 512)
+pub link_near-requires : goal.link_near-requires
+link_near-requires c = record { none = arcs_none (heads_none 512) (heads_none 512) (heads_none 512) }
 
 pub returns : goal.returns
 returns c =
-    let view = c.args.view in
+    let view = c.args.by.now.view in
     let far = c.link_far.ensures in
     subst₂ (λ (next heads : List ℕ). ArcsReady (length view.old.now) view.j view.tree.parents.now view.tree.names.now
-    c.args.classes.now view.old.now c.args.dist.now next c.link_far.new.self.links heads) (sym far.next) (sym far.heads)
-    (arcs_ready c.link_near.ensures (λ v low. far.links v (omega (arith, c.requires))))
+    c.args.by.now.classes.now view.old.now c.args.by.now.dist.now next c.link_far.new.self.links heads) (sym far.next) (sym far.heads)
+    (arcs_ready c.link_near.ensures (λ v low. far.links v (omega (arith, c.args.by.now.size))))

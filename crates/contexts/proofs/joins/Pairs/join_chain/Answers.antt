@@ -1,4 +1,4 @@
-use mathlib.Core.Path.{◌≡◌, sym, ap, subst}
+use mathlib.Core.Path.{◌≡◌, sym, ap, ◌∙◌, subst}
 use mathlib.Core.Bool.{◌||◌}
 use Prim.Native.Nat.{ℕ, suc, ◌<◌, ◌≤◌}
 use native.Mathlib.Omega.{arith}
@@ -6,16 +6,25 @@ use lib.ListN.{length, get_or}
 use Rattle.indexed.proofs.Suffixes.{parent_below}
 use Rattle.partition.specs.Forests.{roots_of}
 use Rattle.worklist.specs.Lists.{plus_one}
+use Rattle.contexts.specs.Sweeps.{Falling}
 use Rattle.contexts.specs.Joins.{Live, PairJoined}
 use Rattle.contexts.proofs.JoinLaws.{Chaining, come-to, chaining-more, chaining_done}
+use Rattle.contexts.proofs.TreeLaws.{tree-arrays}
 use Rattle.contexts.proofs.joins.Pairs.join_chain.Goals as goal
 use Rattle.contexts.proofs.joins.Pairs.join_chain.Goals.{In-Some}
 
--- the chain has come to an arc, which leads into a state, and links to an earlier one
+-- the chain of an arc leads down
+falls : (c : In-Some) → Falling c.args.self.now.links.now (get_or c.args.self.now.links.now c.args.v 0) (length c.args.groups.now)
+falls c =
+    let links = c.args.self.now.links.now in
+    let size = c.requires.size in
+    subst (λ (k : ℕ). Falling links (get_or links c.args.v 0) k) (sym size)
+    (c.args.self.now.chains.falling c.args.v (omega (arith, size, c.requires.inside)))
+
+-- so it has come to an arc, which leads into a state, and links to an earlier one
 come : (c : In-Some) →
-    (c.in-Some.w < length c.args.groups.now) × (get_or c.args.self.links.now c.in-Some.w 0 ≤ c.in-Some.w)
-come c =
-    come-to (c.requires.chains.falling c.args.v c.requires.inside) (ap plus_one c.in-Some.is) c.loop-at.invariant.chaining
+    (c.in-Some.w < length c.args.groups.now) × (get_or c.args.self.now.links.now c.in-Some.w 0 ≤ c.in-Some.w)
+come c = come-to (falls c) (ap plus_one c.in-Some.is) c.loop-at.invariant.chaining
 
 pub join_pair-joined-requires-clause-w_inside : goal.join_pair-joined-requires-clause-w_inside
 join_pair-joined-requires-clause-w_inside c =
@@ -23,10 +32,10 @@ join_pair-joined-requires-clause-w_inside c =
 
 pub offset_bounds-self-w : goal.offset_bounds-self-w
 offset_bounds-self-w c =
-    omega (arith, (come (goal.at.offset_bounds-self-w c).In-Some).0, c.requires.comparing.arrays.few_states)
+    omega (arith, (come (goal.at.offset_bounds-self-w c).In-Some).0, (tree-arrays (c.requires.size ∙ c.args.self.now.view.size) c.args.self.now.view.tree.arrays).few_states)
 
 pub bounds-self-w : goal.bounds-self-w
-bounds-self-w c = omega (arith, (come (goal.at.bounds-self-w c).In-Some).0, c.requires.comparing.arrays.few_states)
+bounds-self-w c = omega (arith, (come (goal.at.bounds-self-w c).In-Some).0, (tree-arrays (c.requires.size ∙ c.args.self.now.view.size) c.args.self.now.view.tree.arrays).few_states)
 
 pub loop-at-smaller : goal.loop-at-smaller
 loop-at-smaller c =
@@ -36,7 +45,7 @@ loop-at-smaller c =
 pub loop-at-preserved : goal.loop-at-preserved
 loop-at-preserved c =
     let loop = c.loop-at in
-    let view = c.args.self.view in
+    let view = c.args.self.now.view in
     let parents = view.tree.parents.now in
     let names = view.tree.names.now in
     let n = length c.args.groups.now in
@@ -47,14 +56,14 @@ loop-at-preserved c =
     subst (λ (k : ℕ). PairJoined k view.j parents names view.old.now c.args.v c.in-Some.w (roots_of loop.groups)
     (roots_of last.groups) pair.result) size pair.ensures.pair in
     let more =
-    chaining-more (c.requires.chains.falling c.args.v c.requires.inside) (ap plus_one c.in-Some.is) loop.invariant.chaining
-    (parent_below n parents names c.requires.comparing.arrays) c.requires.inside pair-here in
+    chaining-more (falls (goal.at.loop-at-preserved c).In-Some) (ap plus_one c.in-Some.is) loop.invariant.chaining
+    (parent_below n parents names (tree-arrays (c.requires.size ∙ view.size) view.tree.arrays)) c.requires.inside pair-here in
     record {
       live =
-          subst (λ (k : ℕ). Live k parents names c.args.self.numbers.now last.groups last.forks.lists.links
+          subst (λ (k : ℕ). Live k parents names c.args.self.now.numbers.now last.groups last.forks.lists.links
           last.forks.lists.heads last.forks.queue.firsts last.forks.queue.seconds) size pair.ensures.live;
       chaining =
-          subst (λ (k : ℕ). Chaining n view.j parents names view.old.now c.args.self.links.now c.args.v
+          subst (λ (k : ℕ). Chaining n view.j parents names view.old.now c.args.self.now.links.now c.args.v
           (roots_of c.args.groups.now) k (roots_of last.groups) (loop.joined || pair.result)) (sym c.arc_of-at-in-Some.ensures)
           more;
     }
