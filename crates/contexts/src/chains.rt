@@ -15,6 +15,7 @@ use base::sets::with_name;
 use suffixes::class_above;
 
 // What a far arc has instead of a link until the chains are whole. No arc has this number.
+// Stays: (a) fixed memory, and ArcsLinked says it as `waiting`; an Option with a third case would take twice the bytes of a link.
 const WAITING: u16 = NO_STATE + 1;
 
 // What the arcs of a sweep are linked by: the classes of the states, of one name more than the sources have in common, and how near
@@ -29,6 +30,7 @@ pub struct Marks<'a, 'b> {
 
 // The set of names that lead out of each group, in `next`, and the chains of near arcs: the last arc of each class, and the one before
 // each, plus one, 0 where there is none.
+// Stays: (a) fixed memory, and Chained says it so; an Option of u16 would take twice the bytes. What is read is an Option: `arc_of`.
 #[derive(Drop)]
 pub struct Arcs {
     pub next: [u64; STATE_LIMIT],
@@ -41,8 +43,8 @@ impl Arcs {
     // is far.
     fn place(&mut self, by: &Marks, v: usize)
         requires inside { v < length by.now.view.old.now }
-        ensures placed { Placed by.now.view.j v by.now.classes.now by.now.view.old.now by.now.dist.now self.old.links self.old.heads
-            self.new.links self.new.heads }
+        ensures placed { Placed by.now.view.j v by.now.classes.now by.now.view.old.now by.now.dist.now
+            self.old.links self.old.heads self.new.links self.new.heads }
         ensures next { self.new.next ≡ self.old.next }
     {
         if NO_STATE <= by.classes[v] {
@@ -63,10 +65,10 @@ impl Arcs {
     fn link(&mut self, by: &Marks, v: usize)
         requires no_root { 0 < v }
         requires inside { v < length by.now.view.old.now }
-        requires so_far { ArcsLinked v by.now.view.j by.now.view.tree.parents.now by.now.view.tree.names.now by.now.classes.now by.now.view.old.now by.now.dist.now
-            self.old.next self.old.links self.old.heads }
-        ensures { ArcsLinked (v + 1) by.now.view.j by.now.view.tree.parents.now by.now.view.tree.names.now by.now.classes.now by.now.view.old.now
-            by.now.dist.now self.new.next self.new.links self.new.heads }
+        requires so_far { ArcsLinked v by.now.view.j by.now.view.tree.parents.now by.now.view.tree.names.now
+            by.now.classes.now by.now.view.old.now by.now.dist.now self.old.next self.old.links self.old.heads }
+        ensures { ArcsLinked (v + 1) by.now.view.j by.now.view.tree.parents.now by.now.view.tree.names.now
+            by.now.classes.now by.now.view.old.now by.now.dist.now self.new.next self.new.links self.new.heads }
     {
         let from = class_above(by.view.old, by.view.tree.parents, v);
         let known = self.next[from];
@@ -79,8 +81,8 @@ impl Arcs {
 
     // All arcs, the near ones linked.
     fn link_near(&mut self, by: &Marks)
-        requires none { ArcsLinked 1 by.now.view.j by.now.view.tree.parents.now by.now.view.tree.names.now by.now.classes.now by.now.view.old.now by.now.dist.now
-            self.old.next self.old.links self.old.heads }
+        requires none { ArcsLinked 1 by.now.view.j by.now.view.tree.parents.now by.now.view.tree.names.now
+            by.now.classes.now by.now.view.old.now by.now.dist.now self.old.next self.old.links self.old.heads }
         ensures { ArcsLinked (length by.now.view.old.now) by.now.view.j by.now.view.tree.parents.now by.now.view.tree.names.now
             by.now.classes.now by.now.view.old.now by.now.dist.now self.new.next self.new.links self.new.heads }
     {
@@ -106,8 +108,8 @@ impl Arcs {
 
     // The arcs out of the groups of a sweep, by the classes of the states that they lead into, and how near their groups are.
     pub fn new(by: &Marks) -> Arcs
-        ensures { ArcsReady (length by.now.view.old.now) by.now.view.j by.now.view.tree.parents.now by.now.view.tree.names.now by.now.classes.now
-            by.now.view.old.now by.now.dist.now result.next result.links result.heads }
+        ensures { ArcsReady (length by.now.view.old.now) by.now.view.j by.now.view.tree.parents.now by.now.view.tree.names.now
+            by.now.classes.now by.now.view.old.now by.now.dist.now result.next result.links result.heads }
     {
         let mut arcs = Arcs {
             next: [0u64; STATE_LIMIT],

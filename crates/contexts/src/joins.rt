@@ -24,6 +24,8 @@ use worklist::search::lead_on;
 
 // What a sweep compares: the sets of names that lead out of the groups at first, of one name and of two in succession, and the chains
 // of arcs. The states have numbers of their own for the closing of forks.
+// Stays: (d) Live and Refines stand in the contracts of three methods: Live has `rows`, which no program keeps, so a ghost field would
+// have to hide them, and groups and forks would have to be lent as one.
 #[derive(Clone, Copy)]
 struct Pairs<'a, 'b> {
     view: View<'a>,
@@ -55,8 +57,8 @@ impl Pairs<'_, '_> {
     fn join_pair(&self, groups: &mut [u16], forks: &mut Forks, v: usize, w: usize) -> bool
         requires size { length groups.old ≡ length self.now.view.old.now }
         requires live { Live (length groups.old) self.now.view.tree.parents.now self.now.view.tree.names.now
-            self.now.numbers.now groups.old forks.old.lists.links
-            forks.old.lists.heads forks.old.queue.firsts forks.old.queue.seconds }
+            self.now.numbers.now groups.old forks.old.lists.links forks.old.lists.heads
+            forks.old.queue.firsts forks.old.queue.seconds }
         requires coarser { Refines (length groups.old) self.now.view.old.now (roots_of groups.old) }
         requires v_inside { v < length groups.old }
         requires w_inside { w < length groups.old }
@@ -64,8 +66,8 @@ impl Pairs<'_, '_> {
             self.now.view.tree.names.now self.now.view.old.now v w (roots_of groups.old) (roots_of groups.new)
             result }
         ensures live { Live (length groups.old) self.now.view.tree.parents.now self.now.view.tree.names.now
-            self.now.numbers.now groups.new forks.new.lists.links
-            forks.new.lists.heads forks.new.queue.firsts forks.new.queue.seconds }
+            self.now.numbers.now groups.new forks.new.lists.links forks.new.lists.heads
+            forks.new.queue.firsts forks.new.queue.seconds }
     {
         if self.apart(v, w) {
             return false;
@@ -90,16 +92,16 @@ impl Pairs<'_, '_> {
     fn join_chain(&self, groups: &mut [u16], forks: &mut Forks, v: usize) -> bool
         requires size { length groups.old ≡ length self.now.view.old.now }
         requires live { Live (length groups.old) self.now.view.tree.parents.now self.now.view.tree.names.now
-            self.now.numbers.now groups.old forks.old.lists.links
-            forks.old.lists.heads forks.old.queue.firsts forks.old.queue.seconds }
+            self.now.numbers.now groups.old forks.old.lists.links forks.old.lists.heads
+            forks.old.queue.firsts forks.old.queue.seconds }
         requires coarser { Refines (length groups.old) self.now.view.old.now (roots_of groups.old) }
         requires inside { v < length groups.old }
         ensures chain { ChainJoined (length groups.old) self.now.view.j self.now.view.tree.parents.now
             self.now.view.tree.names.now self.now.view.old.now self.now.links.now v (roots_of groups.old)
             (roots_of groups.new) result }
         ensures live { Live (length groups.old) self.now.view.tree.parents.now self.now.view.tree.names.now
-            self.now.numbers.now groups.new forks.new.lists.links
-            forks.new.lists.heads forks.new.queue.firsts forks.new.queue.seconds }
+            self.now.numbers.now groups.new forks.new.lists.links forks.new.lists.heads
+            forks.new.queue.firsts forks.new.queue.seconds }
     {
         let mut joined = false;
         let mut at = arc_of(self.links[v]);
@@ -114,15 +116,15 @@ impl Pairs<'_, '_> {
     fn join_all(&self, groups: &mut [u16], forks: &mut Forks) -> bool
         requires size { length groups.old ≡ length self.now.view.old.now }
         requires live { Live (length groups.old) self.now.view.tree.parents.now self.now.view.tree.names.now
-            self.now.numbers.now groups.old forks.old.lists.links
-            forks.old.lists.heads forks.old.queue.firsts forks.old.queue.seconds }
+            self.now.numbers.now groups.old forks.old.lists.links forks.old.lists.heads
+            forks.old.queue.firsts forks.old.queue.seconds }
         requires coarser { Refines (length groups.old) self.now.view.old.now (roots_of groups.old) }
         ensures pairs { PairsJoined (length groups.old) (length groups.old) self.now.view.j
             self.now.view.tree.parents.now self.now.view.tree.names.now self.now.view.old.now self.now.links.now
             (roots_of groups.old) (roots_of groups.new) result }
         ensures live { Live (length groups.old) self.now.view.tree.parents.now self.now.view.tree.names.now
-            self.now.numbers.now groups.new forks.new.lists.links
-            forks.new.lists.heads forks.new.queue.firsts forks.new.queue.seconds }
+            self.now.numbers.now groups.new forks.new.lists.links forks.new.lists.heads
+            forks.new.queue.firsts forks.new.queue.seconds }
     {
         let mut joined = false;
         for v in 0..self.view.old.len() {
@@ -147,15 +149,14 @@ pub fn sweep(
     requires own { numbers.now ≡ numbers_from (length groups.old) 0 }
     requires classes_size { length classes.now ≡ length groups.old }
     requires before_size { length before.old ≡ length groups.old }
-    requires kept { Kept (length groups.old) tree.parents.now tree.names.now numbers.now groups.old forks.old.lists.links
-        forks.old.lists.heads forks.old.queue.firsts forks.old.queue.seconds 0 }
+    requires kept { Kept (length groups.old) tree.parents.now tree.names.now numbers.now groups.old
+        forks.old.lists.links forks.old.lists.heads forks.old.queue.firsts forks.old.queue.seconds 0 }
     requires some { 1 < m }
     requires limit { m ≤ setting_limit }
     ensures swept { SweptBy (length groups.old) m tree.entry.parents.now tree.entry.names.now classes.now
         before.old before.new groups.old groups.new result }
     ensures kept { Kept (length groups.old) tree.entry.parents.now tree.entry.names.now numbers.now
-        groups.new forks.new.lists.links
-        forks.new.lists.heads forks.new.queue.firsts forks.new.queue.seconds 0 }
+        groups.new forks.new.lists.links forks.new.lists.heads forks.new.queue.firsts forks.new.queue.seconds 0 }
 {
     let j = m - 1;
     let dist = distances(j, tree, before, groups);

@@ -29,9 +29,6 @@ pub invariant_of-pairs-clause-own : goal.invariant_of-pairs-clause-own
 invariant_of-pairs-clause-own c =
     c.requires.own ∙ ap (λ (l : List ℕ). numbers_from (length l) 0) (sym c.copy_from_slice.ensures.after)
 
-pub invariant_of-pairs-clause-leave : goal.invariant_of-pairs-clause-leave
-invariant_of-pairs-clause-leave c = c.new-arcs.ensures.linked.leaves
-
 pub invariant_of-pairs-clause-telling : goal.invariant_of-pairs-clause-telling
 invariant_of-pairs-clause-telling c = c.names_ahead-ahead.ensures c.new-arcs.ensures.linked
 

@@ -104,11 +104,6 @@ returns-then-not-lead_on-clause-pair c =
     c.requires.v_inside c.requires.w_inside shared)) in
     absurd (true≢false (sym leads ∙ c.if-not-lead_on.true)))
 
-pub lead_on-requires-clause-lists : goal.lead_on-requires-clause-lists
-lead_on-requires-clause-lists c =
-    let s = (goal.at.lead_on-requires-clause-lists c).Start in
-    (c.args.self.now.view.tree.parents.now, arrays s, lists s)
-
 pub join_two-requires-clause-kept : goal.join_two-requires-clause-kept
 join_two-requires-clause-kept c =
     (c.args.self.now.view.tree.parents.now, ready (goal.at.join_two-requires-clause-kept c).Start, c.requires.live.kept)
