@@ -16,7 +16,7 @@ use Rattle.indexed.proofs.Contexts.{suffix_closed, climbed_closed}
 use Rattle.std.specs.Prelude.{MatchOption, Option, None, Some}
 use Rattle.partition.specs.Forests.{JoinedRoots}
 use Rattle.partition.specs.Joins.{JoinedTwo}
-use Rattle.contexts.specs.Climbs.{Above, Upward, StepsJoined, ParentsJoined, Climbed, ClimbedAt, ClimbedBelow}
+use Rattle.contexts.specs.Climbs.{Above, Upward, StepsJoined, ParentsJoined, ClimbedAt, ClimbedBelow}
 
 -- what holds below i and at i holds below suc i
 pub below_suc : (P : ℕ → Type 0) (i : ℕ) → ((v : ℕ) → v < i → P v) → P i → (v : ℕ) → v < suc i → P v
@@ -107,16 +107,6 @@ module _ (n m : ℕ) (parents : List ℕ) (above : Above n parents) where
           sound = more-sound;
           steps = more-steps;
         }
-
-  pub climbing_done :
-      (v w a b : ℕ) (groups groups' : List ℕ) → Climbing n m parents v w m a b groups groups' → Climbed n m parents v w groups groups'
-  climbing_done v w a b groups groups' climbing =
-      record {
-        labelled = climbing.labelled;
-        coarser = climbing.coarser;
-        sound = climbing.sound;
-        steps = climbing.steps;
-      }
 
   module _ (starts : List ℕ) (starts-labelled : Labelled n starts) where
     start-below : (v : ℕ) → v < n → get_or starts v 0 < n

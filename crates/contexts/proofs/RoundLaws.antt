@@ -14,7 +14,6 @@ use Rattle.base.proofs.Places.{length-numbers_from}
 use Rattle.indexed.proofs.Contexts.{joined_suffix_agree}
 use Rattle.indexed.proofs.Rounds.{due, due-less}
 use Rattle.base.proofs.Fills.{front_length}
-use Rattle.worklist.specs.Forks.{Kept}
 use Rattle.contexts.specs.Climbs.{ClimbedBelow}
 use Rattle.contexts.specs.Distances.{Tested}
 use Rattle.contexts.specs.Joins.{SweptBy}
