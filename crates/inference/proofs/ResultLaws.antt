@@ -2,7 +2,7 @@
 use mathlib.Core.Path.{◌≡◌, sym, ap, ◌∙◌, subst}
 use mathlib.Core.Bool.{Bool}
 use mathlib.Core.List.{List}
-use Prim.Native.Nat.{ℕ, ◌-◌, ◌≤◌}
+use Prim.Native.Nat.{ℕ, ◌-◌, ◌≤◌, ◌<◌}
 use native.Mathlib.Omega.{arith}
 use borrow.Author.Tests.{le-ltb}
 use lib.ListN.{length}
@@ -15,14 +15,17 @@ use Rattle.counts.specs.Counts.{counts_if}
 use Rattle.std.specs.Prelude.{Ok, Err}
 use Rattle.model.proofs.Demands.{states_few}
 use Rattle.model.proofs.CallLaws.{call-refused, call-short, call-accepted}
+use Rattle.fields.proofs.PlaceLaws.{number_some}
+use Rattle.base.specs.Refusals.{number_of}
+use Rattle.base.specs.declared.refusals.Refusal.{Refusal}
 use Rattle.base.specs.declared.refusals.Refusal.TheVariants as refusal
 use Rattle.inference.specs.Results.{WritesBook, TableTooLong, inferring, Infers}
 use Rattle.inference.specs.declared.Written.{Written}
 
 module _ (wanted : Bool) (f : File) (outs : List (List ℕ)) where
-  pub gives_too_large : tree_too_large ≡ tree_fault f.items → Infers wanted f outs outs (Err refusal.TreeTooLarge)
+  pub gives_too_large : (k : Refusal) → number_of k ≡ tree_fault f.items → Infers wanted f outs outs (Err k)
   unfolding inferring
-  gives_too_large e = call-refused (inferring wanted f) outs (record { is = sym e; some = omega arith })
+  gives_too_large k e = call-refused (inferring wanted f) outs (record { is = sym e; some = number_some k })
 
   not_too_large : length (tree_of f.items) ≤ state_limit → (inferring wanted f).refusal ≡ 0
   unfolding inferring

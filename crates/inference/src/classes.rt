@@ -15,8 +15,8 @@ use judging::classes::{Class, Rule};
 pub fn join_by_class(class: Class, tree: Tree, ends: &[u16], groups: &mut [u16])
     requires class_ok { ClassOk (class_in class) }
     requires join_ready { JoinReady (length groups.old) tree.parents.now tree.names.now ends.now }
-    ensures { (rows : List Word) → TreeIn rows tree.parents.now tree.names.now ends.now →
-        JoinedBy (class_in class) rows tree.parents.now tree.names.now groups.new }
+    ensures { (rows : List Word) → TreeIn rows tree.entry.parents.now tree.entry.names.now ends.now →
+        JoinedBy (class_in class) rows tree.entry.parents.now tree.entry.names.now groups.new }
 {
     match Rule::try_from(class).unwrap() {
         Rule::Context { k, h } => join_by_context(k as usize, h as usize, tree.parents, tree.names, groups),

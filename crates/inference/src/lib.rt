@@ -65,7 +65,7 @@ fn write_joined(
     requires work_bytes_in_bounds { work_bytes ≤ length work.old }
     requires joined_tree { (rows : List Word) × JoinedTree rows tree.parents.now tree.names.now ends.old groups.now }
     ensures { (rows : List Word) →
-        JoinedTree rows tree.parents.now tree.names.now ends.old groups.now →
+        JoinedTree rows tree.entry.parents.now tree.entry.names.now ends.old groups.now →
         WritesTable (state_fields (made_of rows groups.now)) (counts_if wanted (made_of rows groups.now) rows)
         (length (made_of rows groups.now))
         (out.old ∷ (counts.old ∷ [])) (out.new ∷ (counts.new ∷ [])) result }
@@ -170,12 +170,13 @@ pub fn infer(
         parents: &growing.parents[..n],
         names: &growing.names[..n],
     };
+    let mut ends = growing.ends;
     let table = join_and_write(
         wanted,
         book,
         place,
         tree,
-        &mut growing.ends[..n],
+        &mut ends[..n],
         work,
         out,
         counts,
