@@ -70,31 +70,17 @@ fn write_joined(
         (length (made_of rows groups.now))
         (out.old ∷ (counts.old ∷ [])) (out.new ∷ (counts.new ∷ [])) result }
 {
-    let mut next = [0u64; STATE_LIMIT];
-    let mut sums = [0u16; STATE_LIMIT];
-    let mut met = [0u16; STATE_LIMIT];
-    let mut numbers = [0u16; STATE_LIMIT];
-    let automaton = prepare(
-        tree.parents,
-        tree.names,
-        ends,
-        groups,
-        work,
-        &mut next,
-        &mut sums,
-        &mut met,
-        &mut numbers,
-    );
-    let states = automaton.states;
+    let automaton = prepare(tree, ends, groups, work);
+    let states = automaton.met.count;
     let arcs = automaton.arcs;
     let size = counts_bytes(wanted, states, arcs);
     if (out.len() < 4 * states + 3 * arcs) | (counts.len() < size) {
         return Err(Refusal::OutputTooShort);
     }
-    let length = write_states(work, &next, &sums, &met, &numbers, states, out, 0);
+    let length = write_states(work, &automaton, out, 0);
     if wanted {
-        add_passes(tree.parents, tree.names, groups, ends, work);
-        write_counts(work, &next, &sums, &met, states, counts);
+        add_passes(tree, groups, ends, work);
+        write_counts(work, &automaton, counts);
     }
     Ok(Written {
         length,

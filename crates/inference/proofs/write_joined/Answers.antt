@@ -45,7 +45,7 @@ returns-then-out-states c rows tree =
     let args = c.args in
     let done = c.prepare-automaton.ensures rows tree.joined tree.ends_are in
     (refl,
-      states-too_long rows args.groups.now args.wanted c.prepare-automaton.result.states
+      states-too_long rows args.groups.now args.wanted c.prepare-automaton.result.met.count
       c.prepare-automaton.result.arcs c.counts_bytes-size.result args.out.now args.counts.now done.counted
       done.arcs_are c.counts_bytes-size.ensures c.if-out-states.true)
 
@@ -58,7 +58,7 @@ write_states-length-requires c =
       rows,
       args.groups.now,
       done.ready,
-      states-fit rows args.groups.now args.wanted c.prepare-automaton.result.states c.prepare-automaton.result.arcs
+      states-fit rows args.groups.now args.wanted c.prepare-automaton.result.met.count c.prepare-automaton.result.arcs
           c.counts_bytes-size.result args.out.now args.counts.now done.counted done.arcs_are
           c.counts_bytes-size.ensures c.if-out-states.false,
     )
@@ -75,7 +75,7 @@ write_counts-requires c =
       args.groups.now,
       counts_ready rows args.tree.parents.now args.tree.names.now args.groups.now _ _ _ _ _ _ _ tree.joined done.ready
           (c.add_passes.ensures rows tree.joined tree.ends_are tree.short),
-      counts-fit rows args.groups.now args.wanted c.prepare-automaton.result.states c.prepare-automaton.result.arcs
+      counts-fit rows args.groups.now args.wanted c.prepare-automaton.result.met.count c.prepare-automaton.result.arcs
           c.counts_bytes-size.result args.out.now args.counts.now done.counted done.arcs_are
           c.counts_bytes-size.ensures c.if-out-states.false c.if-wanted.true,
     )
@@ -89,7 +89,7 @@ returns-then-wanted c rows tree =
     let put =
     c.write_counts.ensures rows args.tree.parents.now args.tree.names.now args.groups.now
     (counts_ready rows args.tree.parents.now args.tree.names.now args.groups.now _ _ _ _ _ _ _ tree.joined done.ready summed) in
-    states-written rows args.groups.now args.wanted c.prepare-automaton.result.states c.prepare-automaton.result.arcs
+    states-written rows args.groups.now args.wanted c.prepare-automaton.result.met.count c.prepare-automaton.result.arcs
     c.counts_bytes-size.result args.out.now args.counts.now done.counted done.arcs_are
     c.counts_bytes-size.ensures c.if-out-states.false _ _ _
     (c.write_states-length.ensures rows args.groups.now done.ready)
@@ -101,7 +101,7 @@ returns-else-wanted c rows tree =
     let args = c.args in
     let made = made_of rows args.groups.now in
     let done = c.prepare-automaton.ensures rows tree.joined tree.ends_are in
-    states-written rows args.groups.now args.wanted c.prepare-automaton.result.states c.prepare-automaton.result.arcs
+    states-written rows args.groups.now args.wanted c.prepare-automaton.result.met.count c.prepare-automaton.result.arcs
     c.counts_bytes-size.result args.out.now args.counts.now done.counted done.arcs_are
     c.counts_bytes-size.ensures c.if-out-states.false _ args.counts.now _
     (c.write_states-length.ensures rows args.groups.now done.ready)
