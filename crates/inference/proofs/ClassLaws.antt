@@ -1,19 +1,17 @@
 -- A partition joined by the rule of a class, whichever its kind, has the automaton of the full joining. In order: what the settings of an
 -- allowed class are, and the three kinds. Assumes nothing.
 use mathlib.Core.Path.{◌≡◌, refl, sym, ◌∙◌, subst}
-use mathlib.Core.Logic.{⊎_elim}
 use mathlib.Core.Bool.{Bool, true, false, ◌&&◌, ◌||◌, and-eq-true_iff}
 use mathlib.Core.List.{List}
 use Prim.Native.Nat.{ℕ, ◌<◌, ◌≤◌}
-use native.Mathlib.Omega.{arith}
-use borrow.Author.Tests.{leb-true, eq-eqb, ne_eqb}
+use borrow.Author.Tests.{leb-true}
 use lib.Dec.{eqb, leb}
 use lib.ListN.{length}
 use Rattle.base.specs.Limits.{setting_limit, context_kind, seen_set_kind, last_names_kind}
 use Rattle.model.specs.Fields.{Class, class_of, context_ok, ClassOk}
 use Rattle.model.specs.Classes.{Word}
 use Rattle.model.specs.Joinings.{tree_of}
-use Rattle.base.proofs.Tests.{tells_eqb, tells_leb, tells_and, tells_or}
+use Rattle.base.proofs.Tests.{tells_eqb, tells_leb, tells_and}
 use Rattle.indexed.specs.Passes.{ContextJoined, FJoined}
 use Rattle.indexed.proofs.Joined.{ClassesOfF}
 use Rattle.indexed.proofs.Values.{last_classes, seen_classes}

@@ -113,7 +113,7 @@ fn join_and_write(
     }
     let mut groups = [0u16; STATE_LIMIT];
     classes::join_by_class(place.class, tree, ends, &mut groups[..n]);
-    let joined = write_joined(
+    let mut written = write_joined(
         wanted,
         tree,
         ends,
@@ -128,10 +128,8 @@ fn join_and_write(
         second,
     } = place.class;
     put_front(out, book, named, [kind, first, second]);
-    Ok(Written {
-        length: front + joined.length,
-        ..joined
-    })
+    written.length += front;
+    Ok(written)
 }
 
 // The table of an accepted book at the front of the output, which is untouched beyond it, and where they are wanted its counts at the front
@@ -157,16 +155,7 @@ pub fn infer(
         names: &growing.names[..n],
     };
     let mut ends = growing.ends;
-    let table = join_and_write(
-        wanted,
-        book,
-        place,
-        tree,
-        &mut ends[..n],
-        work,
-        out,
-        counts,
-    )?;
+    let table = join_and_write(wanted, book, place, tree, &mut ends[..n], work, out, counts)?;
     Ok(Inferred {
         length: table.length,
         states: table.states,

@@ -13,6 +13,7 @@ use base::sets::{Names, how_many};
 
 // The groups met, `count` of them in the order in which they were met, and the number of each.
 // Stays: `NO_STATE` for a group that has no number, since `MetAs.unmet` says so.
+#[derive(Drop)]
 pub struct Met {
     pub order: [u16; STATE_LIMIT],
     pub numbers: [u16; STATE_LIMIT],

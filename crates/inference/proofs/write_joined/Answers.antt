@@ -43,11 +43,12 @@ overflow_add-states c =
 pub returns-then-out-states : goal.returns-then-out-states
 returns-then-out-states c rows tree =
     let args = c.args in
-    let done = c.prepare-automaton.ensures rows tree.joined tree.ends_are in
-    (refl,
+    let done = c.prepare-automaton.ensures rows tree.joined tree.ends_are in (
+      refl,
       states-too_long rows args.groups.now args.wanted c.prepare-automaton.result.met.count
-      c.prepare-automaton.result.arcs c.counts_bytes-size.result args.out.now args.counts.now done.counted
-      done.arcs_are c.counts_bytes-size.ensures c.if-out-states.true)
+          c.prepare-automaton.result.arcs c.counts_bytes-size.result args.out.now args.counts.now done.counted
+          done.arcs_are c.counts_bytes-size.ensures c.if-out-states.true,
+    )
 
 pub write_states-length-requires : goal.write_states-length-requires
 write_states-length-requires c =
