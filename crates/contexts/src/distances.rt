@@ -79,10 +79,9 @@ pub fn distances(j: usize, tree: Tree, before: &[u16], groups: &[u16]) -> [u8; S
 {
     let mut dist = [SETTING_LIMIT; STATE_LIMIT];
     mark_grown(before, groups, &mut dist);
-    let below = j as u8;
-    let mut lowered = 1 < below;
-    while lowered {
-        lowered = lower(below, tree, groups, &mut dist);
+    if j < 2 {
+        return dist;
     }
+    while lower(j as u8, tree, groups, &mut dist) {}
     dist
 }

@@ -45,11 +45,12 @@ join_all-joined-requires-clause-live c =
     let groups = c.args.groups.now in
     let n = length groups in
     let labels = c.requires.kept.labelled in
+    let forks = c.args.forks.now in
     record {
       forest = flat_forest n groups labels;
       kept =
-          subst (λ (l : List ℕ). Kept n c.args.tree.parents.now c.args.tree.names.now c.args.numbers.now l c.args.forks.now.lists.links
-          c.args.forks.now.lists.heads c.args.forks.now.queue.firsts c.args.forks.now.queue.seconds 0) (sym (flat_roots n groups labels)) c.requires.kept;
+          subst (λ (l : List ℕ). Kept n c.args.tree.parents.now c.args.tree.names.now c.args.numbers.now l forks.lists.links
+          forks.lists.heads forks.queue.firsts forks.queue.seconds 0) (sym (flat_roots n groups labels)) c.requires.kept;
     }
 
 pub join_all-joined-requires-clause-coarser : goal.join_all-joined-requires-clause-coarser

@@ -48,7 +48,8 @@ returns-then-all-known c =
     let linked : Linked (suc v) parents names old (set next from all) =
     linked_more c.requires.no_root so_far.linked from name c.class_above-from.ensures refl
     (omega (arith, from_low, arrays.few_states, next_size)) (ap (set next from) c.with_name-all.ensures) new in
-    subst (λ (l : List ℕ). ArcsLinked (v + 1) view.j parents names c.args.by.now.classes.now old c.args.by.now.dist.now l last.links last.heads)
+    subst (λ (l : List ℕ). ArcsLinked (v + 1) view.j parents names c.args.by.now.classes.now old c.args.by.now.dist.now l
+    last.links last.heads)
     (sym c.place.ensures.next)
     (arcs-placed so_far linked (omega (arith, c.requires.inside, arrays.few_states)) links_size heads_size
     c.requires.no_root (first_arc so_far.linked new) c.place.ensures.placed)

@@ -12,5 +12,5 @@ returns c =
     let last = c.loop-v.self in
     let some = (tree-arrays view.size view.tree.arrays).some_state in
     let all : c.loop-v.v ≡ length view.old.now = omega arith in
-    subst (λ (k : ℕ). ArcsLinked k view.j view.tree.parents.now view.tree.names.now c.args.by.now.classes.now view.old.now c.args.by.now.dist.now
-    last.next last.links last.heads) all c.loop-v.invariant
+    subst (λ (k : ℕ). ArcsLinked k view.j view.tree.parents.now view.tree.names.now c.args.by.now.classes.now view.old.now
+    c.args.by.now.dist.now last.next last.links last.heads) all c.loop-v.invariant

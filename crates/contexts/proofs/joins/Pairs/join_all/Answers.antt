@@ -23,8 +23,9 @@ loop-v-preserved c =
     (roots_of last.groups) arc.result) size arc.ensures.chain in
     record {
       live =
-          subst (λ (k : ℕ). Live k parents names c.args.self.now.numbers.now last.groups last.forks.lists.links last.forks.lists.heads last.forks.queue.firsts
-          last.forks.queue.seconds) size arc.ensures.live;
+          subst (λ (k : ℕ). Live k parents names c.args.self.now.numbers.now last.groups last.forks.lists.links
+          last.forks.lists.heads last.forks.queue.firsts last.forks.queue.seconds) size arc.ensures.live;
       pairs = pairs_more (tree-arrays (c.requires.size ∙ view.size) view.tree.arrays)
-          (subst (λ (k : ℕ). Chains k c.args.self.now.links.now) (sym c.requires.size) c.args.self.now.chains) inside loop.invariant.pairs chain;
+          (subst (λ (k : ℕ). Chains k c.args.self.now.links.now) (sym c.requires.size) c.args.self.now.chains) inside
+          loop.invariant.pairs chain;
     }

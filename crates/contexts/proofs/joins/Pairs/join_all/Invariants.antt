@@ -8,9 +8,9 @@ abbrev pub invariant-loop-v : goal.invariant-loop-v
 invariant-loop-v l =
     record {
       live :
-          Live (length l.initial.groups) l.self.view.tree.parents.now l.self.view.tree.names.now l.self.numbers.now l.groups l.forks.lists.links l.forks.lists.heads
-          l.forks.queue.firsts l.forks.queue.seconds;
+          Live (length l.initial.groups) l.self.view.tree.parents.now l.self.view.tree.names.now l.self.numbers.now l.groups
+          l.forks.lists.links l.forks.lists.heads l.forks.queue.firsts l.forks.queue.seconds;
       pairs :
-          PairsJoined (length l.initial.groups) l.v l.self.view.j l.self.view.tree.parents.now l.self.view.tree.names.now l.self.view.old.now
-          l.self.links.now (roots_of l.initial.groups) (roots_of l.groups) l.joined;
+          PairsJoined (length l.initial.groups) l.v l.self.view.j l.self.view.tree.parents.now l.self.view.tree.names.now
+          l.self.view.old.now l.self.links.now (roots_of l.initial.groups) (roots_of l.groups) l.joined;
     }

@@ -3,6 +3,7 @@ use mathlib.Core.Bool.{◌||◌}
 use Prim.Native.Nat.{ℕ, suc, ◌<◌, ◌≤◌}
 use native.Mathlib.Omega.{arith}
 use lib.ListN.{length, get_or}
+use Rattle.base.specs.Limits.{state_limit}
 use Rattle.indexed.proofs.Suffixes.{parent_below}
 use Rattle.partition.specs.Forests.{roots_of}
 use Rattle.worklist.specs.Lists.{plus_one}
@@ -26,16 +27,20 @@ come : (c : In-Some) →
     (c.in-Some.w < length c.args.groups.now) × (get_or c.args.self.now.links.now c.in-Some.w 0 ≤ c.in-Some.w)
 come c = come-to (falls c) (ap plus_one c.in-Some.is) c.loop-at.invariant.chaining
 
+low : (c : In-Some) → c.in-Some.w < state_limit
+low c =
+    let view = c.args.self.now.view in
+    omega (arith, (come c).0, (tree-arrays (c.requires.size ∙ view.size) view.tree.arrays).few_states)
+
 pub join_pair-joined-requires-clause-w_inside : goal.join_pair-joined-requires-clause-w_inside
 join_pair-joined-requires-clause-w_inside c =
     omega (arith, (come (goal.at.join_pair-joined-requires-clause-w_inside c).In-Some).0)
 
 pub offset_bounds-self-w : goal.offset_bounds-self-w
-offset_bounds-self-w c =
-    omega (arith, (come (goal.at.offset_bounds-self-w c).In-Some).0, (tree-arrays (c.requires.size ∙ c.args.self.now.view.size) c.args.self.now.view.tree.arrays).few_states)
+offset_bounds-self-w c = omega (arith, low (goal.at.offset_bounds-self-w c).In-Some)
 
 pub bounds-self-w : goal.bounds-self-w
-bounds-self-w c = omega (arith, (come (goal.at.bounds-self-w c).In-Some).0, (tree-arrays (c.requires.size ∙ c.args.self.now.view.size) c.args.self.now.view.tree.arrays).few_states)
+bounds-self-w c = omega (arith, low (goal.at.bounds-self-w c).In-Some)
 
 pub loop-at-smaller : goal.loop-at-smaller
 loop-at-smaller c =
