@@ -2,7 +2,7 @@
 ghost use Rattle.std.specs.Prelude.{◌≡◌, ◌^◌, ◌<◌, MatchOption};
 ghost use Rattle.std.specs.Iterator.{at_most};
 ghost use Rattle.std.specs.Int.Bits.{bit_or};
-ghost use Rattle.std.specs.Int.Count.{ones, count_trailing_zeros};
+ghost use Rattle.std.specs.Int.Count.{ones};
 ghost use Rattle.base.specs.Limits.{name_limit};
 ghost use Rattle.base.specs.Sets.{TakenLowest};
 
@@ -39,26 +39,11 @@ impl Names {
     }
 }
 
-// The lowest name of a set that is not empty.
-pub fn lowest(names: u64) -> usize
-    ensures { result ≡ count_trailing_zeros name_limit names }
-{
-    u64::trailing_zeros(names) as usize
-}
-
 // How many names a set has.
 pub fn how_many(names: u64) -> usize
     ensures { result ≡ ones names }
 {
     u64::count_ones(names) as usize
-}
-
-// The set of one name.
-pub fn only(name: usize) -> u64
-    requires { name < name_limit }
-    ensures { result ≡ 2 ^ name }
-{
-    1u64 << name
 }
 
 // The set with one name more.

@@ -2,7 +2,7 @@
 -- offset, and the arcs to marked states. Assumes nothing.
 use Rattle.std.specs.Prelude.{◌≡◌, Bool, true, not, ℕ, ◌+◌, ◌*◌, ◌<◌, eqb, get_or}
 use mathlib.Core.List.{List, [], ◌∷◌, Memᴰ as In}
-use Rattle.base.specs.Limits.{name_limit, number_limit}
+use Rattle.base.specs.Limits.{name_limit}
 use Rattle.base.specs.Lists.{filter_by}
 use Rattle.model.specs.Fields.{state_ok}
 use Rattle.model.specs.Tables.{Arc, arc}
@@ -16,10 +16,6 @@ StateOk body = state_ok name_limit body ≡ true
 -- the target of the arc at offset i
 abbrev pub target_at : List ℕ → ℕ → ℕ
 target_at body i = 256 * get_or body (i + 1) 0 + get_or body (i + 2) 0
-
-pub record IsTarget (body : List ℕ) (i answer : ℕ) : Type 0 where
-  pub is : answer ≡ target_at body i
-  pub small : answer < number_limit
 
 -- an arc as it is read
 abbrev pub arc_of : read.Arc → Arc

@@ -1,12 +1,11 @@
-// One state's field, over its bytes after mark and length: its arcs, one after another; the target of an arc, the check of first-met
-// numbering, and the names of the arcs to marked states as a set. Every function here requires that the field passed the reader's test.
-ghost use Rattle.std.specs.Prelude.{◌≡◌, ℕ, suc, ◌+◌, ◌≤◌, length, MatchOption};
+// One state's field, over its bytes after mark and length: its arcs, one after another; the check of first-met numbering, and the names of
+// the arcs to marked states as a set. Every function here requires that the field passed the reader's test.
+ghost use Rattle.std.specs.Prelude.{◌≡◌, ℕ, suc, MatchOption};
 ghost use Rattle.base.specs.Limits.{state_limit};
 ghost use Rattle.model.specs.Tables.{state_in, met_by_arcs, target_in, name_set};
-ghost use Rattle.tables.specs.Arcs.{StateOk, IsTarget, TargetsBelow, marked_arcs, arcs_left};
+ghost use Rattle.tables.specs.Arcs.{StateOk, TargetsBelow, marked_arcs, arcs_left};
 
 use base::limits::STATE_LIMIT;
-use base::numbers::two_bytes;
 use base::sets::with_name;
 use std::cmp::Ordering;
 
@@ -53,14 +52,6 @@ impl<'a> Arcs<'a> {
     {
         Arcs { bytes: &state[1..] }
     }
-}
-
-// The target of the arc at an offset, high byte first.
-pub fn target_at(state: &[u8], i: usize) -> usize
-    requires { i + 3 ≤ length state.now }
-    ensures { IsTarget state.now i result }
-{
-    two_bytes(state[i + 1], state[i + 2])
 }
 
 // How many states are met after a state's arcs, `met` being met before; none where an arc leads past the next new one.
