@@ -15,7 +15,6 @@ use Rattle.base.specs.Limits.{name_limit}
 use Rattle.base.proofs.Tests.{eq_dec}
 use Rattle.base.specs.Bits.{bit}
 use Rattle.base.proofs.Bits.{bit-zero, bit-of_set, bit-of_both, bits_told, set-again}
-use Rattle.functions.specs.Parts.{KeyAt}
 
 -- 0 has no bit, a power of 2 has one
 no_bit : (a : ℕ) → bit a 0 ≡ 1 → ⊥
@@ -70,6 +69,13 @@ grown_test before after name is other = go (grown name before after is)
     go (inl same) = absurd (other (sym same))
     go (inr added) =
         lt-ltb (ones before) (ones after) (omega (arith, added.1)) ∙ sym (ap not (ne_eqb after before (λ e. other (sym e))))
+
+-- the key of the arc to v: its name among the arcs that enlarge the seen set, or among those that do not
+pub record KeyAt (enlarge : Bool) (parents names seen : List ℕ) (v answer : ℕ) : Type 0 where
+  pub root : v ≡ 0 → answer ≡ name_limit
+  pub arc :
+      0 < v →
+      answer ≡ cond (beq (eqb (get_or seen v 0) (get_or seen (get_or parents v 0) 0)) enlarge) name_limit (get_or names v 0)
 
 -- a key told by whether the set has grown, and by whether it has not
 key_grown : (same : Bool) (name : ℕ) → cond (not same) name name_limit ≡ cond (beq same true) name_limit name

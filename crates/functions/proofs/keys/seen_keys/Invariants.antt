@@ -1,7 +1,7 @@
 -- The first v keys of both kinds are right.
 use Rattle.std.proofs.Common.{true, false}
 use Rattle.base.proofs.Fills.{Filled}
-use Rattle.functions.specs.Parts.{KeyAt}
+use Rattle.functions.proofs.KeyLaws.{KeyAt}
 use Rattle.functions.proofs.keys.seen_keys.Given as goal
 
 abbrev pub invariant-loop-v : goal.invariant-loop-v
