@@ -1,12 +1,15 @@
 -- The entries of a log from number i on, and what they come to one entry later: the rows in them, where the entry has the chosen number
 -- and where not, and the row of an element at a given depth, where the entry ends it, is in it, or stands deeper. Assumes nothing.
-use mathlib.Core.Path.{◌≡◌, sym, ap, ◌∙◌}
+use mathlib.Core.Path.{◌≡◌, refl, sym, ap, ◌∙◌}
+use mathlib.Core.Bool.{Bool, true, false, cond}
 use mathlib.Core.List.{List, [], ◌∷◌}
-use Prim.Native.Nat.{ℕ, suc, ◌+◌, ◌-◌, ◌≤◌, ◌<◌}
+use lib.Dec.{eqb, leb}
+use lib.ListN.{length}
+use Prim.Native.Nat.{ℕ, zero, suc, ◌+◌, ◌-◌, ◌≤◌, ◌<◌}
 use native.Mathlib.Numerals.{add-one}
 use native.Mathlib.Omega.{arith}
 use borrow.Author.Tests.{le-leb, lt-leb, eq-eqb, ne_eqb}
-use Rattle.written_plans.specs.Reading.{row_after, rows_in}
+use Rattle.written_plans.specs.Reading.{Entry, row_after, rows_in}
 use Rattle.written_plans.specs.Logs.{entry_at, entries_at}
 use Rattle.plan_rows.specs.LoggedRows.{entries_from, row_at}
 
@@ -82,7 +85,32 @@ module _ (log : List ℕ) (count i : ℕ) where
   unfolding row_after
   row_ends depth h = ap (row_after depth) (entries_end h)
 
+-- ---- how many entries a row has
+
+-- as many entries as are asked for
+entries_count : (log : List ℕ) (i n : ℕ) → length (entries_at log i n) ≡ n
+unfolding entries_at
+entries_count log i zero = refl
+entries_count log i (suc n) = ap suc (entries_count log (suc i) n)
+
+-- no more than there are entries left
+row_few : (depth : ℕ) (entries : List Entry) → length (row_after depth entries) ≤ length entries
+unfolding row_after
+row_few depth [] = omega arith
+row_few depth (e ∷ entries) = few (leb e.depth depth) (eqb e.depth (suc depth)) (row_few depth entries)
+  where
+    few : (x y : Bool) → length (row_after depth entries) ≤ length entries
+        → length (cond x [] (cond y (e.number ∷ row_after depth entries) (row_after depth entries))) ≤ suc (length entries)
+    few true y h = omega arith
+    few false true h = omega arith
+    few false false h = omega arith
+
+pub row_length : (log : List ℕ) (count i : ℕ) → length (row_at log count i) ≤ count
+unfolding row_at entries_from
+row_length log count i =
+    omega (arith, row_few (entry_at log i).depth (entries_from log count (i + 1)), entries_count log (i + 1) (count - (i + 1)))
+
 -- the rows in the entries from one on, and the row of an element
 pub ruleset rows_by_entry = (entries_all, rows_chosen, rows_other, rows_end)
 
-pub ruleset row_by_entry = (row_from, row_stops, row_takes, row_passes, row_ends)
+pub ruleset row_by_entry = (row_stops, row_takes, row_passes, row_ends)

@@ -1,66 +1,19 @@
--- The rows in a log written entry by entry: the entries of one row, and the fields of all. Assumes nothing.
+-- The fields of the rows in a log, written entry by entry. Assumes nothing.
 use mathlib.Core.Path.{◌≡◌, sym, ap, ◌∙◌, subst}
 use mathlib.Core.Bool.{true}
-use mathlib.Core.List.{List, [], ◌∷◌, ◌++◌}
+use mathlib.Core.List.{List, ◌++◌}
 use Prim.Native.Nat.{ℕ, ◌+◌, ◌≤◌, ◌<◌}
 use lib.ListN.{length}
 use Rattle.base.specs.Limits.{row_limit, row_mark}
 use Rattle.model.specs.Tables.{field_bytes, row_fields}
-use Rattle.written_plans.specs.Reading.{row_after, rows_in, rows_short, rows_fault}
+use Rattle.written_plans.specs.Reading.{rows_in, rows_short, rows_fault}
 use Rattle.written_plans.specs.Logs.{entry_at}
 use Rattle.writing.specs.Writing.{Fits, Put}
 use Rattle.writing.proofs.TextLaws.{Writing, begins, room, goes, finishes}
 use Rattle.plan_rows.specs.LoggedRows.{entries_from, row_at, log_rows}
-use Rattle.plan_rows.proofs.LogLaws.{row_from, row_stops, row_takes, row_passes, row_ends}
 use Rattle.plan_rows.proofs.LogLaws.{entries_all, rows_chosen, rows_other, rows_end}
 use Rattle.plan_rows.proofs.Faults.{short_first, short_next, rows_passed}
 use Rattle.plan_rows.proofs.Lengths.{row_fields-next, row_fields-none}
-
--- ---- the entries of a row
-
--- none is written yet
-pub row_begins : (log : List ℕ) (count i depth : ℕ) (out : List ℕ) (at : ℕ) → depth ≡ (entry_at log i).depth
-    → Fits out at (row_at log count i)
-    → Writing out at (row_at log count i) out at (row_after depth (entries_from log count (i + 1)))
-row_begins log count i depth out at e fits =
-    rw (← row_from log count i depth e) (begins out at (row_at log count i) fits)
-
-module _ (out₀ : List ℕ) (start : ℕ) (all log : List ℕ) (count j depth : ℕ) (out : List ℕ) (at : ℕ)
-    (p : Writing out₀ start all out at (row_after depth (entries_from log count j))) where
-  -- what is left to write, by what it is
-  left : {rest : List ℕ} → row_after depth (entries_from log count j) ≡ rest → Writing out₀ start all out at rest
-  left e = subst (Writing out₀ start all out at) e p
-
-  module _ (h : j < count) where
-    module _ (child : (entry_at log j).depth ≡ depth + 1) (number : ℕ) (is : number ≡ (entry_at log j).number) where
-      -- the entry's number is the next
-      its_number : Writing out₀ start all out at (number ∷ row_after depth (entries_from log count (j + 1)))
-      its_number =
-          left (row_takes log count j depth h child ∙ ap (λ (n : ℕ). n ∷ row_after depth (entries_from log count (j + 1))) (sym is))
-
-      -- there is room for it
-      pub number_fits : Fits out at (number ∷ [])
-      number_fits = room (number ∷ []) (row_after depth (entries_from log count (j + 1))) its_number
-
-      -- it is written
-      pub number_written : (out' : List ℕ) (next : ℕ) → Put out out' at (number ∷ []) next
-          → Writing out₀ start all out' next (row_after depth (entries_from log count (j + 1)))
-      number_written out' next put = goes (number ∷ []) (row_after depth (entries_from log count (j + 1))) its_number put
-
-    -- the entry stands deeper
-    pub number_passed : depth < (entry_at log j).depth → ((entry_at log j).depth ≡ depth + 1 → ⊥)
-        → Writing out₀ start all out at (row_after depth (entries_from log count (j + 1)))
-    number_passed deep other = left (row_passes log count j depth h deep other)
-
-    -- the entry ends the row
-    pub row_stopped : (entry_at log j).depth ≤ depth → Put out₀ out start all at
-    row_stopped high = finishes (left (row_stops log count j depth h high))
-
-  -- there are no entries left
-  pub row_written : count ≤ j → Put out₀ out start all at
-  row_written h = finishes (left (row_ends log count j depth h))
-
--- ---- the fields of all rows
 
 -- none is written yet, and each is within its limit
 pub rows_begin : (log : List ℕ) (count chosen : ℕ) (out : List ℕ) → Fits out 0 (row_fields (log_rows log count chosen))
@@ -128,6 +81,4 @@ module _ (out₀ all log : List ℕ) (count chosen i : ℕ) (out : List ℕ) (at
   fields_written h = finishes (fields_left (ap row_fields (rows_end log count i chosen h) ∙ row_fields-none))
 
 -- what holds from one entry to the next
-pub ruleset entries_put = (row_begins, number_written, number_passed)
-
 pub ruleset rows_put = (rows_begin, all_short, row_short, rows_still_short, others_short, field_written, field_passed)

@@ -3,6 +3,7 @@
 #![tactic(auto)]
 
 ghost use Rattle.std.specs.Prelude.{◌≡◌, length, ◌≤◌, ◌<◌};
+ghost use Rattle.std.specs.Iterator.{YieldsFirst, item_count};
 ghost use Rattle.model.specs.Tables.{field_bytes, row_fields};
 ghost use Rattle.base.specs.Limits.{row_limit, row_mark};
 ghost use Rattle.written_plans.specs.Reading.{rows_fault};
@@ -29,7 +30,43 @@ pub struct Size {
     pub bytes: usize,
 }
 
-impl Log<'_> {
+// What is left of the row of an element at this depth, from an entry of the log on: the numbers of the tags one deeper, up to the first tag
+// that is not inside it.
+#[derive(Drop)]
+pub struct Row<'a> {
+    pub log: Log<'a>,
+    pub depth: u8,
+    pub at: usize,
+}
+
+impl Iterator for Row<'_> {
+    ghost use Rattle.plan_rows.specs.Rows.{entries_of};
+
+    type Item = u8;
+
+    ghost next_gives = { YieldsFirst entries_of };
+
+    ghost remaining = { item_count entries_of };
+
+    #[tactic(auto, using(crate::proofs::LogLaws::row_by_entry))]
+    fn next(&mut self) -> Option<u8> {
+        for at in self.at..self.log.count {
+            let deep = self.log.depth(at);
+            if deep <= self.depth {
+                return None;
+            }
+            self.at = at + 1;
+            if deep == self.depth + 1 {
+                return Some(self.log.number(at));
+            }
+        }
+        None
+    }
+}
+
+impl<'a> Log<'a> {
+    ghost use Rattle.plan_rows.specs.Rows.{entries_of};
+
     // The number of the name of the tag at entry i.
     fn number(self, i: usize) -> u8
         requires { i < self.count }
@@ -60,24 +97,26 @@ impl Log<'_> {
         rows
     }
 
-    // How many entries the row of the element at entry i has.
-    #[tactic(auto, using(crate::proofs::LogLaws::row_by_entry))]
+    // The entries of the row of the element at entry i.
+    #[tactic(auto, using(crate::proofs::LogLaws::row_from))]
+    fn row(self, i: usize) -> Row<'a>
+        requires { i < self.count }
+        ensures { entries_of result ≡ row_at self.entry.bytes.now self.entry.count i }
+    {
+        Row {
+            log: self,
+            depth: self.depth(i),
+            at: i + 1,
+        }
+    }
+
+    // How many these are.
+    #[tactic(auto, using(crate::proofs::LogLaws::row_length))]
     fn row_len(self, i: usize) -> usize
         requires { i < self.count }
         ensures { result ≡ length (row_at self.entry.bytes.now self.entry.count i) }
     {
-        let depth = self.depth(i);
-        let mut length = 0;
-        for j in i + 1..self.count {
-            let deep = self.depth(j);
-            if deep <= depth {
-                return length;
-            }
-            if deep == depth + 1 {
-                length += 1;
-            }
-        }
-        length
+        self.row(i).count()
     }
 
     // The rows in the log, measured: refusals 7, then 9.
@@ -103,22 +142,14 @@ impl Log<'_> {
     }
 
     // The entries of the row of the element at entry i.
-    #[tactic(auto, using(crate::proofs::Putting::entries_put))]
     fn put_entries(self, i: usize, out: &mut [u8], at: usize) -> usize
         requires i_lt_count { i < self.count }
         requires fits { Fits out.old at (row_at self.bytes.now self.count i) }
         ensures { Put out.old out.new at (row_at self.entry.bytes.now self.entry.count i) result }
     {
-        let depth = self.depth(i);
         let mut next = at;
-        for j in i + 1..self.count {
-            let around = self.depth(j);
-            if around <= depth {
-                return next;
-            }
-            if around == depth + 1 {
-                next = put_byte(out, next, self.number(j));
-            }
+        for number in self.row(i) {
+            next = put_byte(out, next, number);
         }
         next
     }

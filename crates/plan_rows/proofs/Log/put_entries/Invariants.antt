@@ -1,11 +1,9 @@
--- Of the row the entries from entry j on are left to write.
-use Rattle.written_plans.specs.Reading.{row_after}
+-- The rest of the row is left to write.
 use Rattle.writing.proofs.TextLaws.{Writing}
-use Rattle.plan_rows.specs.LoggedRows.{entries_from, row_at}
+use Rattle.plan_rows.specs.LoggedRows.{row_at}
+use Rattle.plan_rows.specs.Rows.{entries_of}
 use Rattle.plan_rows.proofs.Log.put_entries.Given as goal
 
-abbrev pub invariant-loop-j : goal.invariant-loop-j
-invariant-loop-j l =
-    let log = l.self in
-    Writing l.initial.out l.at (row_at log.bytes.now log.count l.i) l.out l.next
-    (row_after l.depth (entries_from log.bytes.now log.count l.j))
+abbrev pub invariant-loop-number : goal.invariant-loop-number
+invariant-loop-number l =
+    Writing l.initial.out l.at (row_at l.self.bytes.now l.self.count l.i) l.out l.next (entries_of l.number-iterator)
