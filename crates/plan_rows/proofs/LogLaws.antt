@@ -94,10 +94,10 @@ entries_count log i zero = refl
 entries_count log i (suc n) = ap suc (entries_count log (suc i) n)
 
 -- no more than there are entries left
-row_few : (depth : ℕ) (entries : List Entry) → length (row_after depth entries) ≤ length entries
+row_at_most : (depth : ℕ) (entries : List Entry) → length (row_after depth entries) ≤ length entries
 unfolding row_after
-row_few depth [] = omega arith
-row_few depth (e ∷ entries) = few (leb e.depth depth) (eqb e.depth (suc depth)) (row_few depth entries)
+row_at_most depth [] = omega arith
+row_at_most depth (e ∷ entries) = few (leb e.depth depth) (eqb e.depth (suc depth)) (row_at_most depth entries)
   where
     few : (x y : Bool) → length (row_after depth entries) ≤ length entries
         → length (cond x [] (cond y (e.number ∷ row_after depth entries) (row_after depth entries))) ≤ suc (length entries)
@@ -105,10 +105,23 @@ row_few depth (e ∷ entries) = few (leb e.depth depth) (eqb e.depth (suc depth)
     few false true h = omega arith
     few false false h = omega arith
 
-pub row_length : (log : List ℕ) (count i : ℕ) → length (row_at log count i) ≤ count
-unfolding row_at entries_from
-row_length log count i =
-    omega (arith, row_few (entry_at log i).depth (entries_from log count (i + 1)), entries_count log (i + 1) (count - (i + 1)))
+-- nor has the log more rows of a number
+rows_at_most : (chosen : ℕ) (entries : List Entry) → length (rows_in chosen entries) ≤ length entries
+unfolding rows_in
+rows_at_most chosen [] = omega arith
+rows_at_most chosen (e ∷ entries) = few (eqb e.number chosen) (rows_at_most chosen entries)
+  where
+    few : (x : Bool) → length (rows_in chosen entries) ≤ length entries
+        → length (cond x (row_after e.depth entries ∷ rows_in chosen entries) (rows_in chosen entries)) ≤ suc (length entries)
+    few true h = omega arith
+    few false h = omega arith
+
+pub row_few : (log : List ℕ) (count depth i : ℕ) → length (row_after depth (entries_from log count i)) ≤ count
+unfolding entries_from
+row_few log count depth i = omega (arith, row_at_most depth (entries_from log count i), entries_count log i (count - i))
+
+pub rows_few : (log : List ℕ) (count chosen : ℕ) → length (rows_in chosen (entries_at log 0 count)) ≤ count
+rows_few log count chosen = omega (arith, rows_at_most chosen (entries_at log 0 count), entries_count log 0 count)
 
 -- the rows in the entries from one on, and the row of an element
 pub ruleset rows_by_entry = (entries_all, rows_chosen, rows_other, rows_end)

@@ -3,7 +3,7 @@
 #![tactic(auto)]
 
 ghost use Rattle.std.specs.Prelude.{◌≡◌, length, ◌≤◌, ◌<◌};
-ghost use Rattle.std.specs.Iterator.{YieldsFirst, item_count};
+ghost use Rattle.std.specs.Iterator.{YieldsFirst, YieldsFirstBy, item_count};
 ghost use Rattle.model.specs.Tables.{field_bytes, row_fields};
 ghost use Rattle.base.specs.Limits.{row_limit, row_mark};
 ghost use Rattle.written_plans.specs.Reading.{rows_fault};
@@ -39,6 +39,14 @@ pub struct Row<'a> {
     pub at: usize,
 }
 
+// What is left of the rows of the elements with the chosen number, from an entry of the log on.
+#[derive(Drop)]
+pub struct Rows<'a> {
+    pub log: Log<'a>,
+    pub chosen: u8,
+    pub at: usize,
+}
+
 impl Iterator for Row<'_> {
     ghost use Rattle.plan_rows.specs.Rows.{entries_of};
 
@@ -64,8 +72,65 @@ impl Iterator for Row<'_> {
     }
 }
 
-impl<'a> Log<'a> {
+impl<'a> Iterator for Rows<'a> {
+    ghost use Rattle.plan_rows.specs.Rows.{entries_of, rows_of};
+
+    type Item = Row<'a>;
+
+    ghost next_gives = { YieldsFirstBy entries_of rows_of };
+
+    ghost remaining = { item_count rows_of };
+
+    #[tactic(auto, using(crate::proofs::LogLaws::rows_by_entry))]
+    fn next(&mut self) -> Option<Row<'a>> {
+        for at in self.at..self.log.count {
+            self.at = at + 1;
+            if self.log.number(at) == self.chosen {
+                return Some(self.log.row(at));
+            }
+        }
+        None
+    }
+}
+
+impl Row<'_> {
     ghost use Rattle.plan_rows.specs.Rows.{entries_of};
+
+    // How many entries it has.
+    #[tactic(auto, using(crate::proofs::LogLaws::row_few))]
+    fn len(self) -> usize
+        ensures { result ≡ length (entries_of self.entry) }
+    {
+        self.count()
+    }
+
+    // Its entries.
+    fn put_entries(self, out: &mut [u8], at: usize) -> usize
+        requires { Fits out.old at (entries_of self) }
+        ensures { Put out.old out.new at (entries_of self.entry) result }
+    {
+        let mut next = at;
+        for number in self {
+            next = put_byte(out, next, number);
+        }
+        next
+    }
+
+    // Its field: the entries, and then the head in front of them, whose length is known from where they end.
+    fn put(self, out: &mut [u8], at: usize) -> usize
+        requires len_bound { length (entries_of self) ≤ row_limit }
+        requires fits { Fits out.old at (field_bytes row_mark (entries_of self)) }
+        ensures { Put out.old out.new at (field_bytes row_mark (entries_of self.entry)) result }
+    {
+        let start = at + 3;
+        let end = self.put_entries(out, start);
+        put_head(out, at, ROW_MARK, end - start);
+        end
+    }
+}
+
+impl<'a> Log<'a> {
+    ghost use Rattle.plan_rows.specs.Rows.{entries_of, rows_of};
 
     // The number of the name of the tag at entry i.
     fn number(self, i: usize) -> u8
@@ -83,21 +148,7 @@ impl<'a> Log<'a> {
         self.bytes[2 * i + 1]
     }
 
-    // How many of the entries have the chosen number.
-    #[tactic(auto, using(crate::proofs::LogLaws::rows_by_entry))]
-    fn count_rows(self, chosen: u8) -> usize
-        ensures { result ≡ length (log_rows self.entry.bytes.now self.entry.count chosen) }
-    {
-        let mut rows = 0;
-        for i in 0..self.count {
-            if self.number(i) == chosen {
-                rows += 1;
-            }
-        }
-        rows
-    }
-
-    // The entries of the row of the element at entry i.
+    // The row of the element at entry i.
     #[tactic(auto, using(crate::proofs::LogLaws::row_from))]
     fn row(self, i: usize) -> Row<'a>
         requires { i < self.count }
@@ -110,17 +161,28 @@ impl<'a> Log<'a> {
         }
     }
 
-    // How many these are.
-    #[tactic(auto, using(crate::proofs::LogLaws::row_length))]
-    fn row_len(self, i: usize) -> usize
-        requires { i < self.count }
-        ensures { result ≡ length (row_at self.entry.bytes.now self.entry.count i) }
+    // The rows of the elements with the chosen number.
+    #[tactic(auto, using(crate::proofs::LogLaws::entries_all))]
+    fn rows(self, chosen: u8) -> Rows<'a>
+        ensures { rows_of result ≡ log_rows self.entry.bytes.now self.entry.count chosen }
     {
-        self.row(i).count()
+        Rows {
+            log: self,
+            chosen,
+            at: 0,
+        }
     }
 
-    // The rows in the log, measured: refusals 7, then 9.
-    #[tactic(auto, using(crate::proofs::Faults::rows_too_many))]
+    // How many these are.
+    #[tactic(auto, using(crate::proofs::LogLaws::rows_few))]
+    fn count_rows(self, chosen: u8) -> usize
+        ensures { result ≡ length (log_rows self.entry.bytes.now self.entry.count chosen) }
+    {
+        self.rows(chosen).count()
+    }
+
+    // These measured: refusals 7, then 9.
+    #[tactic(auto, using(crate::proofs::Faults::rows_too_many, crate::proofs::Measuring::passed_none))]
     pub fn measure_rows(self, chosen: u8) -> Result<Size, Refusal>
         ensures { Measures (log_rows self.entry.bytes.now self.entry.count chosen) result }
     {
@@ -129,56 +191,25 @@ impl<'a> Log<'a> {
             return Err(Refusal::TooMany);
         }
         let mut bytes = 0;
-        for i in 0..self.count {
-            if self.number(i) == chosen {
-                let length = self.row_len(i);
-                if ROW_LIMIT < length {
-                    return Err(Refusal::BadRow);
-                }
-                bytes += 3 + length;
+        for row in self.rows(chosen) {
+            let length = row.len();
+            if ROW_LIMIT < length {
+                return Err(Refusal::BadRow);
             }
+            bytes += 3 + length;
         }
         Ok(Size { rows, bytes })
     }
 
-    // The entries of the row of the element at entry i.
-    fn put_entries(self, i: usize, out: &mut [u8], at: usize) -> usize
-        requires i_lt_count { i < self.count }
-        requires fits { Fits out.old at (row_at self.bytes.now self.count i) }
-        ensures { Put out.old out.new at (row_at self.entry.bytes.now self.entry.count i) result }
-    {
-        let mut next = at;
-        for number in self.row(i) {
-            next = put_byte(out, next, number);
-        }
-        next
-    }
-
-    // The row field of the element at entry i: the entries, and then the head in front of them, whose length is known from where they end.
-    fn put_row(self, i: usize, out: &mut [u8], at: usize) -> usize
-        requires i_lt_count { i < self.count }
-        requires i_len_bound { length (row_at self.bytes.now self.count i) ≤ row_limit }
-        requires fits { Fits out.old at (field_bytes row_mark (row_at self.bytes.now self.count i)) }
-        ensures { Put out.old out.new at (field_bytes row_mark (row_at self.entry.bytes.now self.entry.count i)) result }
-    {
-        let start = at + 3;
-        let end = self.put_entries(i, out, start);
-        put_head(out, at, ROW_MARK, end - start);
-        end
-    }
-
-    // The row fields of the chosen number, at the front of the output.
-    #[tactic(auto, using(crate::proofs::Putting::rows_put))]
+    // Their fields, at the front of the output.
     pub fn put_rows(self, chosen: u8, out: &mut [u8]) -> usize
         requires chosen_value { rows_fault (log_rows self.bytes.now self.count chosen) ≡ 0 }
         requires fits { Fits out.old 0 (row_fields (log_rows self.bytes.now self.count chosen)) }
         ensures { Put out.old out.new 0 (row_fields (log_rows self.entry.bytes.now self.entry.count chosen)) result }
     {
         let mut at = 0;
-        for i in 0..self.count {
-            if self.number(i) == chosen {
-                at = self.put_row(i, out, at);
-            }
+        for row in self.rows(chosen) {
+            at = row.put(out, at);
         }
         at
     }

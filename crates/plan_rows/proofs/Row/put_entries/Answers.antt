@@ -1,7 +1,7 @@
 use mathlib.Core.List.{[], ◌∷◌}
 use Rattle.writing.proofs.TextLaws.{goes}
 use Rattle.plan_rows.specs.Rows.{entries_of}
-use Rattle.plan_rows.proofs.Log.put_entries.Goals as goal
+use Rattle.plan_rows.proofs.Row.put_entries.Goals as goal
 
 pub loop-number-preserved : goal.loop-number-preserved
 loop-number-preserved c =

@@ -7,25 +7,25 @@ use Rattle.base.specs.Limits.{row_mark}
 use Rattle.model.specs.Tables.{field_bytes}
 use Rattle.writing.specs.Writing.{Put, field_head}
 use Rattle.writing.proofs.WritingLaws.{put_before}
-use Rattle.plan_rows.specs.LoggedRows.{row_at}
+use Rattle.plan_rows.specs.Rows.{entries_of}
 use Rattle.plan_rows.proofs.Lengths.{row_field_length}
-use Rattle.plan_rows.proofs.Log.put_row.Goals as goal
+use Rattle.plan_rows.proofs.Row.put.Goals as goal
 
-pub put_entries-end-requires-clause-fits : goal.put_entries-end-requires-clause-fits
-put_entries-end-requires-clause-fits c =
+pub put_entries-end-requires : goal.put_entries-end-requires
+put_entries-end-requires c =
     let fits = c.requires.fits in
-    omega (arith, row_field_length (row_at c.args.self.bytes.now c.args.self.count c.args.i))
+    omega (arith, row_field_length (entries_of c.args.self))
 
 pub put_head-requires-clause-fits : goal.put_head-requires-clause-fits
 put_head-requires-clause-fits c =
     let fits = c.requires.fits in
-    omega (arith, row_field_length (row_at c.args.self.bytes.now c.args.self.count c.args.i), c.put_entries-end.auto.out)
+    omega (arith, row_field_length (entries_of c.args.self), c.put_entries-end.auto.out)
 
 pub returns : goal.returns
 unfolding field_bytes
 returns c =
     let fits = c.requires.fits in
-    let row = row_at c.args.self.bytes.now c.args.self.count c.args.i in
+    let row = entries_of c.args.self in
     let entries = c.put_entries-end in
     let size : entries.result - (c.args.at + 3) ≡ length row = omega (arith, entries.ensures.ends) in
     put_before entries.ensures
