@@ -17,6 +17,7 @@ fn enlarges(before: u64, after: u64) -> bool
 }
 
 // The key of an arc by its name where it has one, else no key.
+// Stays: NAME_LIMIT for none (the clauses KeysWhere speak of it, and an array of u8 has room for no Option).
 fn key_if(keyed: bool, name: u8) -> u8
     ensures { result ≡ cond keyed name name_limit }
 {
