@@ -27,7 +27,7 @@ use Rattle.written_plans.specs.Reading.{Reading, read_plan, entry_of, rows_in, r
 use Rattle.written_plans.specs.Calls.{plan_reading, plan_rows, asked_fault, plan_fault}
 use Rattle.written_plans.proofs.Numbers.{plan-refusal}
 use Rattle.plan_reading.specs.Turns.{Room, Logged, RefusedAs}
-use Rattle.plan_rows.specs.LoggedRows.{Held, log_rows, MeasuredAs}
+use Rattle.plan_rows.specs.LoggedRows.{log_rows, MeasuredAs}
 use Rattle.plan_rows.proofs.Faults.{rows_passed, rows_low}
 use Rattle.plan_rows.proofs.Lengths.{rows_length}
 use Rattle.results.specs.declared.PlanRows.{PlanRows}
@@ -115,12 +115,6 @@ rows_read names chosen read logged outs outs' r gives =
     let is = ap (rows_in chosen) logged.logged in
     subst (λ (n : ℕ). Gives (rows_or (first_of n (rows_fault rows)) read.place rows) outs outs' r) (sym logged.no_fault)
     (written_at read.place rows outs outs' r (subst (λ (l : List (List ℕ)). Gives (writing_rows l) outs outs' r) is gives))
-
--- a log that holds a plan's tags
-pub log_held :
-    {names : List (List ℕ)} {read : Reading} {s log : List ℕ} {count : ℕ} → Room s log → Logged names read s log count → Held log count
-log_held room logged =
-    record { within = omega (arith, room.short, room.long, logged.few); few = omega (arith, room.short, logged.few) }
 
 module _ (names : List (List ℕ)) (name s : List ℕ) {k p : ℕ} (refused : RefusedAs (read_plan names name s) k p) where
   -- the place of a refusal

@@ -355,16 +355,6 @@ module _ (s : List ℕ) (opens : List Open) (depth : ℕ) (r : Reached) where
 abbrev may_stand : ℕ → ℕ → Bool
 may_stand depth b = cond (eqb depth 0) (is_white b) (is_text b)
 
--- outside the outermost element it is white space
-pub before-white : (s : List ℕ) (depth at e : ℕ) → depth ≡ 0 → Skipped is_white s at e → BeforeTag s depth at e
-before-white s depth at e h run =
-    subst (λ (z : Bool). Skipped (λ (b : ℕ). cond z (is_white b) (is_text b)) s at e) (sym (eq-eqb depth 0 h)) run
-
--- inside it is text
-pub before_text : (s : List ℕ) (depth at e : ℕ) → (depth ≡ 0 → ⊥) → Skipped is_text s at e → BeforeTag s depth at e
-before_text s depth at e h run =
-    subst (λ (z : Bool). Skipped (λ (b : ℕ). cond z (is_white b) (is_text b)) s at e) (sym (ne_eqb depth 0 h)) run
-
 module _ (s : List ℕ) (opens : List Open) (tags b : ℕ) where
   -- reading stays in its place
   next_stays : (depth : ℕ) → may_stand depth b ≡ true

@@ -159,10 +159,6 @@ some_number refusal.BadPlan = omega arith
 some_number refusal.TooDeep = omega arith
 some_number refusal.UnknownChild = omega arith
 
--- a byte that no plan can have there
-pub turn_stops : (judge : Tag → ℕ) (s : List ℕ) (q : Place) (i p : ℕ) → Stops s q i p → RefusedAs (reads judge s q i) bad_plan p
-turn_stops judge s q i p stops = refused_as (reads judge s q i) [] bad_plan p (stops judge) (omega arith)
-
 module _ (names : List (List ℕ)) (judge : Tag → ℕ) (s : List ℕ) (stack : Stack) (log : List ℕ) (r : Reached)
     (stands : Standing names s stack.opens stack.depth r) where
   -- where reading stands
