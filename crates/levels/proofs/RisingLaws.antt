@@ -14,7 +14,7 @@ use Rattle.model.specs.Tables.{Arc, State, empty_state, state_in}
 use Rattle.model.specs.Calls.{table_states}
 use Rattle.tables.specs.Arcs.{StateOk}
 use Rattle.tables.specs.Accepting.{Ready}
-use Rattle.tables.proofs.ArcLaws.{state-accepts}
+use Rattle.tables.proofs.ArcReads.{state-accepts}
 use Rattle.tables.proofs.ReadyLaws.{ready_ascends, targets_inside}
 use Rattle.endings.specs.Live.{ArcsAscend, is_live}
 use Rattle.endings.proofs.Levels.{tells_live}

@@ -6,7 +6,7 @@ use mathlib.Core.List.{List, [], ◌∷◌}
 use Prim.Native.Nat.{ℕ, zero, suc, ◌+◌, ◌*◌, ◌-◌, ◌≤◌, ◌<◌}
 use native.Mathlib.Omega.{arith}
 use borrow.Author.Tests.{eq-eqb, ne_eqb}
-use lib.Dec.{leb, ltb}
+use lib.Dec.{eqb, leb, ltb}
 use lib.ListN.{length, get_or, take, drop, length-drop}
 use Rattle.std.proofs.lemmas.List.{take_all}
 use Rattle.base.specs.Limits.{name_limit}
@@ -18,6 +18,18 @@ use Rattle.tables.specs.Arcs.{StateOk, arcs_of_bytes}
 -- the part from an offset on
 part : (s : List ℕ) (n : ℕ) → n ≤ length s → take (length s - n) (drop n s) ≡ drop n s
 part s n h = take_all (length s - n) (drop n s) (omega (arith, length-drop n s))
+
+-- a state field has a first byte
+pub state-some : (s : List ℕ) → StateOk s → 0 < length s
+unfolding state_ok
+state-some [] ok = absurd (false≢true ok)
+state-some (b ∷ s) ok = omega arith
+
+-- which says whether it accepts
+pub state-accepts : (s : List ℕ) → StateOk s → eqb (get_or s 0 0) 1 ≡ (state_in s).accepts
+unfolding state_ok state_in
+state-accepts [] ok = absurd (false≢true ok)
+state-accepts (b ∷ s) ok = refl
 
 -- fewer than three bytes are no arc
 pub reads_none : (s : List ℕ) → length s < 3 → arcs_of_bytes s ≡ []

@@ -1,5 +1,5 @@
--- One state's field by its bytes: that it passed the reader's test, its arcs as they are read one after another, the target of the arc at an
--- offset, and the arcs to marked states. Assumes nothing.
+-- One state's field by its bytes: that it passed the reader's test, its arcs as they are read one after another, and the arcs
+-- to marked states. Assumes nothing.
 use Rattle.std.specs.Prelude.{◌≡◌, Bool, true, not, ℕ, ◌+◌, ◌*◌, ◌<◌, eqb, get_or}
 use mathlib.Core.List.{List, [], ◌∷◌, Memᴰ as In}
 use Rattle.base.specs.Limits.{name_limit}
@@ -12,10 +12,6 @@ use Rattle.tables.specs.declared.arcs.Arcs as reader
 -- the bytes are a state field over at most 64 names: its arcs are whole, and their names ascend
 abbrev pub StateOk : List ℕ → Type 0
 StateOk body = state_ok name_limit body ≡ true
-
--- the target of the arc at offset i
-abbrev pub target_at : List ℕ → ℕ → ℕ
-target_at body i = 256 * get_or body (i + 1) 0 + get_or body (i + 2) 0
 
 -- an arc as it is read
 abbrev pub arc_of : read.Arc → Arc

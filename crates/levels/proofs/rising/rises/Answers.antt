@@ -3,7 +3,7 @@ use mathlib.Core.Path.{sym, ap, ◌∙◌}
 use native.Mathlib.Omega.{arith}
 use Rattle.base.specs.Lists.{any}
 use Rattle.tables.specs.Arcs.{arcs_left}
-use Rattle.tables.proofs.ArcLaws.{state-some}
+use Rattle.tables.proofs.ArcReads.{state-some}
 use Rattle.levels.proofs.RisingLaws.{up, rises-accepting, rises-by_arcs, up-found, up-goes, up-end}
 use Rattle.levels.proofs.rising.rises.Goals as goal
 

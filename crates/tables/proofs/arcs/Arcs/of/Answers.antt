@@ -1,6 +1,6 @@
 -- A state field has a first byte, and its arcs stand after it.
 use native.Mathlib.Omega.{arith}
-use Rattle.tables.proofs.ArcLaws.{state-some}
+use Rattle.tables.proofs.ArcReads.{state-some}
 use Rattle.tables.proofs.ArcReads.{arcs_of_field}
 use Rattle.tables.proofs.arcs.Arcs.of.Goals as goal
 

@@ -2,7 +2,7 @@
 use mathlib.Core.Path.{ap, ◌∙◌}
 use native.Mathlib.Omega.{arith}
 use Rattle.model.specs.Tables.{State}
-use Rattle.tables.proofs.ArcLaws.{state-some, state-accepts}
+use Rattle.tables.proofs.ArcReads.{state-some, state-accepts}
 use Rattle.tables.proofs.opened.Opened.accepts.Goals as goal
 
 pub bounds-state-0 : goal.bounds-state-0
