@@ -79,7 +79,8 @@ SmallOf (Err k) = Unit {0}
 
 module _ (settings : Settings) (wanted : Bool) (book work : List ℕ) (outs : List (List ℕ)) where
   pub build_sizes_refused :
-      (k : Refusal) → number_of k ≡ sizes_fault book work → Gives (building_counted settings wanted book work) outs outs (not_counted (number_of k))
+      (k : Refusal) → number_of k ≡ sizes_fault book work →
+      Gives (building_counted settings wanted book work) outs outs (not_counted (number_of k))
   unfolding building_counted build_fault
   build_sizes_refused k e =
       call-refused (building_counted settings wanted book work) outs
@@ -138,7 +139,9 @@ module _ (settings : Settings) (wanted : Bool) (book work : List ℕ) (outs : Li
 
   module _ (p : Place) (read : ReadAs settings fields.book book (Ok p)) (outs' : List (List ℕ)) where
     -- what inference gives back of the place is what it gives back of the book
-    of_book : (i : Result Inferred Refusal) → Infers wanted (file_of book p) outs outs' i → Infers wanted (book_of settings book) outs outs' i
+    of_book :
+        (i : Result Inferred Refusal) → Infers wanted (file_of book p) outs outs' i →
+        Infers wanted (book_of settings book) outs outs' i
     of_book i gives = subst (λ (f : File). Infers wanted f outs outs' i) (book_read_as settings book p read).file_is gives
 
     pub build_from :

@@ -310,14 +310,18 @@ module _ {book : List ℕ} {start items : ℕ} {work₀ : List ℕ} {s : Store} 
   -- the answer tells whether the row is among the first i
   module _ {s' : Store} {n' next : ℕ} (kept : length s'.work ≡ length s.work)
       (e : next ≡ next_at book at) where
-    pub adding_new : {again : Bool} → RowOf (body_at book at) n s s' n' (Ok again) → again ≡ false → Adding book start items work₀ s' n' (distinct + 1) next (i + 1)
+    pub adding_new :
+        {again : Bool} → RowOf (body_at book at) n s s' n' (Ok again) → again ≡ false →
+        Adding book start items work₀ s' n' (distinct + 1) next (i + 1)
     adding_new is e-false =
         let told = is.told (tree_of (fields_at book start i)) (fields_at book start i) a.grown ∙ e-false in
         let out = not_told (tells_has_row (body_at book at) (fields_at book start i)) told in
         let one_more = different_new (fields_at book start i) (body_at book at) out in
         adding_next is.tree.0 (omega (arith, one_more, a.different)) kept e
 
-    pub adding_again : {again : Bool} → RowOf (body_at book at) n s s' n' (Ok again) → again ≡ true → Adding book start items work₀ s' n' distinct next (i + 1)
+    pub adding_again :
+        {again : Bool} → RowOf (body_at book at) n s s' n' (Ok again) → again ≡ true →
+        Adding book start items work₀ s' n' distinct next (i + 1)
     adding_again is e-true =
         let told = is.told (tree_of (fields_at book start i)) (fields_at book start i) a.grown ∙ e-true in
         let met = (tells_has_row (body_at book at) (fields_at book start i)).fact told in

@@ -1,6 +1,7 @@
--- The prefix tree as it grows in lent arrays. In order: the arrays, the tree that they hold so far, and what each function
--- promises: a child looked up, a state appended, one step, an end counted, one row, with whether it was there, and all rows. Assumes nothing.
-use Rattle.std.specs.Prelude.{◌≡◌, Option, None, Some, Result, Ok, Err, Bool, true, false, not, cond, ℕ, ◌+◌, ◌<◌, ◌≤◌, eqb, length, get_or, take, set}
+-- The prefix tree as it grows in arrays. In order: the arrays, the tree that they hold so far, and what each function promises: a
+-- child looked up, a state appended, one step, an end counted, one row, with whether it was there, and all rows. Assumes nothing.
+use Rattle.std.specs.Prelude.{◌≡◌, Option, None, Some, Result, Ok, Err, Bool, true, false, not, cond}
+use Rattle.std.specs.Prelude.{ℕ, ◌+◌, ◌<◌, ◌≤◌, eqb, length, get_or, take, set}
 use mathlib.Core.List.{List, [], ◌∷◌, ◌++◌, Memᴰ as In}
 use Rattle.base.specs.Lists.{has_row, copies}
 use Rattle.base.specs.Limits.{name_limit, book_rows, state_limit, work_bytes}

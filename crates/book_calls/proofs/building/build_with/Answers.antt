@@ -10,23 +10,28 @@ use Rattle.book_calls.proofs.building.build_with.Goals as goal
 
 pub overflow_cast-result : goal.overflow_cast-result
 overflow_cast-result c =
-    omega (arith, (inferred_small _ _ _ c.args.work.now _ c.in_ok-place.place c.in_ok-place.ensures _ c.requires c.in_ok-inferred.ensures).length_small)
+    let small = inferred_small _ _ _ c.args.work.now _ c.in_ok-place.place c.in_ok-place.ensures _ c.requires c.in_ok-inferred.ensures in
+    omega (arith, small.length_small)
 
 pub overflow_cast-result-2 : goal.overflow_cast-result-2
 overflow_cast-result-2 c =
-    omega (arith, (inferred_small _ _ _ c.args.work.now _ c.in_ok-place.place c.in_ok-place.ensures _ c.requires c.in_ok-inferred.ensures).states_small)
+    let small = inferred_small _ _ _ c.args.work.now _ c.in_ok-place.place c.in_ok-place.ensures _ c.requires c.in_ok-inferred.ensures in
+    omega (arith, small.states_small)
 
 pub overflow_cast-result-3 : goal.overflow_cast-result-3
 overflow_cast-result-3 c =
-    omega (arith, (inferred_small _ _ _ c.args.work.now _ c.in_ok-place.place c.in_ok-place.ensures _ c.requires c.in_ok-inferred.ensures).joins_small)
+    let small = inferred_small _ _ _ c.args.work.now _ c.in_ok-place.place c.in_ok-place.ensures _ c.requires c.in_ok-inferred.ensures in
+    omega (arith, small.joins_small)
 
 pub overflow_cast-result-4 : goal.overflow_cast-result-4
 overflow_cast-result-4 c =
-    omega (arith, (inferred_small _ _ _ c.args.work.now _ c.in_ok-place.place c.in_ok-place.ensures _ c.requires c.in_ok-inferred.ensures).distinct_small)
+    let small = inferred_small _ _ _ c.args.work.now _ c.in_ok-place.place c.in_ok-place.ensures _ c.requires c.in_ok-inferred.ensures in
+    omega (arith, small.distinct_small)
 
 pub overflow_cast-result-5 : goal.overflow_cast-result-5
 overflow_cast-result-5 c =
-    omega (arith, (inferred_small _ _ _ c.args.work.now _ c.in_ok-place.place c.in_ok-place.ensures _ c.requires c.in_ok-inferred.ensures).counts_small)
+    let small = inferred_small _ _ _ c.args.work.now _ c.in_ok-place.place c.in_ok-place.ensures _ c.requires c.in_ok-inferred.ensures in
+    omega (arith, small.counts_small)
 
 pub returns-in_err-judge_sizes-clause-gives : goal.returns-in_err-judge_sizes-clause-gives
 unfolding sizes_fault

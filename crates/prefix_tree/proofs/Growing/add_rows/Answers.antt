@@ -39,8 +39,12 @@ loop-preserved c =
     let at = c.loop.invariant in
     let rowed = rw c.body.ensures at c.in_ok-add_row.ensures in
     elim c.if-not-branch.branch [
-      | then-not-branch w ↦ rw w.distinct-is (adding_new at (omega arith) c.add_row.auto.work c.next_field-at.ensures rowed w.if-not-branch.true)
-      | else-not-branch w ↦ rw w.distinct-is (adding_again at (omega arith) c.add_row.auto.work c.next_field-at.ensures rowed w.if-not-branch.false)
+      | then-not-branch w ↦
+          rw w.distinct-is
+          (adding_new at (omega arith) c.add_row.auto.work c.next_field-at.ensures rowed w.if-not-branch.true)
+      | else-not-branch w ↦
+          rw w.distinct-is
+          (adding_again at (omega arith) c.add_row.auto.work c.next_field-at.ensures rowed w.if-not-branch.false)
     ]
 
 pub returns : goal.returns
