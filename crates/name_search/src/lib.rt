@@ -67,6 +67,7 @@ impl<'a> Index<'a> {
     }
 
     // The bytes of the name with this number.
+    #[tactic(auto, using(crate::proofs::SearchLaws::noted_within, crate::proofs::SearchLaws::noted_name))]
     fn name(&self, number: u8) -> &'a [u8]
         requires { number < self.now.count }
         ensures { result.now ≡ name_at self.now.list.now self.now.count number }
