@@ -15,7 +15,8 @@ UNREAD_IN_CLAUSE = re.compile(r'"|--|\{-|//|/\*')
 # What asks for a proof's tactics is no code, also inside a function.
 TACTIC = re.compile(r"#!?\[\s*tactic\b[^\]]*\]")
 USE = re.compile(r"\b(ghost\s+|pub\s+)?use\s+([^;]*);")
-METHODS = re.compile(r"\bimpl\b[^{]*?(\w+)\s*(?:<[^{]*>\s*)?(?=\{)")
+# an impl: the trait and what it is given, where it is a trait's; the type
+METHODS = re.compile(r"\bimpl\b(?:\s*<[^{]*?>)?\s+(?:(\w+)\s*(?:<([^{]*?)>)?\s+for\s+)?(\w+)\s*(?:<[^{]*?>\s*)?(?=\{)")
 FUNCTION = re.compile(r"\bfn\s+(\w+)(?:[^{;]|;[^{;\]]*\])*(?=\{)")
 EXPORTED = re.compile(r"#\[unsafe\(no_mangle\)\]\s*pub\s+extern\s+fn\s+(\w+)")
 # a path; a dot before it that makes it a field or a method; what makes it a call
@@ -23,9 +24,19 @@ NAMED = re.compile(r"((?<!\.)\.\s*)?\b([^\W\d]\w*(?:\s*::\s*\w+)*)((?:\s*::\s*<[
 DIVISION = re.compile(r"[/%]=?\s*(\w*(?:\s+as\b|\.(?!\.))?)")
 BYTE = re.compile(r"256(?:u16|u32|u64|usize)?")
 
-# Words before a parenthesis that call nothing, and the calls that Rattle itself has on slices and integers: none of these divides.
-KEYWORDS = {"if", "while", "match", "return", "break", "let", "in", "mut"}
-OWN_CALLS = re.compile(r"\.len|[iu](?:8|16|32|64|size)::(?:count_ones|leading_zeros|trailing_zeros)")
+# Words before a parenthesis that call nothing, and the calls of Rattle's library that the sources make: none of these divides. What they
+# come to is in the archive, too, which is read instruction by instruction.
+KEYWORDS = {"if", "while", "match", "return", "break", "let", "in", "mut", "else", "for", "matches"}
+LIBRARY_METHODS = (
+    "all any checked_sub chunks_exact cmp contains copied copy_from_slice count enumerate fill first fold into into_iter is_empty is_some iter iter_mut last len "
+    "map min ok_or position rev skip step_by take to_be_bytes unwrap unwrap_or unwrap_or_else wrapping_add wrapping_mul zip"
+).split()
+NUMBER = r"[iu](?:8|16|32|64|size)"
+OWN_CALLS = re.compile(
+    rf"\w+::default|{NUMBER}::(?:count_ones|leading_zeros|trailing_zeros|from_be_bytes|from)|\.(?:{'|'.join(LIBRARY_METHODS)})"
+)
+# What calls a method without naming it: a loop over an iterator, and what turns one type into another.
+UNNAMED = {"next": re.compile(r"\bfor\b[^{;]*\bin\b"), "from": re.compile(r"\?|\.\s*into\s*\(")}
 
 
 class Function(NamedTuple):
@@ -50,6 +61,11 @@ class Reached(NamedTuple):
 def blank(text: str) -> str:
     """As many spaces, so that what follows keeps its place and its line."""
     return re.sub(r"[^\n]", " ", text)
+
+
+def capital(name: str) -> str:
+    """A type's name as it stands in the name of an impl."""
+    return name[:1].upper() + name[1:]
 
 
 def closing(code: str, start: int) -> int:
@@ -110,7 +126,7 @@ class Module:
         several = re.fullmatch(r"((?:\w+::)*)\{(.*)\}", path, re.DOTALL)
         if several:
             for part in parted(several.group(2)):
-                self.use(several.group(1) + part)
+                self.use(several.group(1).removesuffix("::") if part == "self" else several.group(1) + part)
             return
         name = path.split("::")[-1]
         if not re.fullmatch(r"(?!(?:self|super)\b)\w+(::(?!self\b)\w+)*", path) or name in self.uses:
@@ -118,11 +134,14 @@ class Module:
         self.uses[name] = re.sub(r"^crate\b", self.crate, path)
 
     def read_functions(self) -> Iterator[Function]:
-        types = [(found.end(), closing(self.code, found.end()), found.group(1)) for found in METHODS.finditer(self.code)]
+        types = [(found.end(), closing(self.code, found.end()), *found.groups()) for found in METHODS.finditer(self.code)]
         for found in FUNCTION.finditer(self.code):
-            owner = "::".join([self.path] + [name for start, end, name in types if start < found.start() < end])
+            around = [rest for start, end, *rest in types if start < found.start() < end]
+            owner = "::".join([self.path] + [name for _, _, name in around])
+            # as the compiler names an impl of a trait: RuleTryFromClass for that of TryFrom<Class> for Rule
+            impl = "::".join([self.path] + ["".join(map(capital, [name, trait or "", given or ""])) for trait, given, name in around])
             end = closing(self.code, found.end())
-            yield Function(f"{owner}::{found.group(1)}", owner, self, found.end(1), found.end(), end)
+            yield Function(f"{impl}::{found.group(1)}", owner, self, found.end(1), found.end(), end)
 
     def line(self, place: int) -> str:
         return f"{self.file}:{self.code.count(chr(10), 0, place) + 1}"
@@ -134,22 +153,33 @@ class Sources:
     def __init__(self, modules: List[Module]):
         self.modules = modules
         self.functions = {function.path: function for module in modules for function in module.functions}
+        self.methods = [function for function in self.functions.values() if function.owner != function.module.path]
 
     def entries(self) -> Dict[str, str]:
         """The functions exported for C, by their names there, as paths."""
         return {name: f"{module.path}::{name}" for module in self.modules for name in EXPORTED.findall(module.code)}
 
     def meant(self, function: Function, field: bool, path: str) -> List[str]:
-        """The functions that a name inside a function may mean: a path begins with a crate or in the module; of a method, all methods with
-        its name."""
+        """The functions that a name inside a function may mean: a path begins with a crate or in the module, and may lead to a type's method;
+        of a method, all methods with its name."""
         if field:
-            methods = (other for other in self.functions.values() if other.owner != other.module.path)
-            return [method.path for method in methods if method.path == f"{method.owner}::{path}"]
+            return self.named(path)
         module = function.module
         first, *rest = path.split("::")
         owners = {"Self": function.owner, "self": module.path, "super": module.path.rpartition("::")[0], "crate": module.crate}
         whole = "::".join([owners.get(first) or module.uses.get(first) or first, *rest])
-        return [each for each in (whole, f"{module.path}::{whole}") if each in self.functions]
+        owner, _, name = whole.rpartition("::")
+        of_a_type = [method for method in self.named(name) if self.functions[method].owner in (owner, f"{module.path}::{owner}")]
+        return [each for each in (whole, f"{module.path}::{whole}") if each in self.functions] + of_a_type
+
+    def named(self, name: str) -> List[str]:
+        """All methods with a name."""
+        return [method.path for method in self.methods if method.path.rpartition("::")[2] == name]
+
+    def unnamed(self, function: Function) -> List[str]:
+        """The methods that a function calls without naming them."""
+        code = function.module.code
+        return [method for name, form in UNNAMED.items() if form.search(code, function.start, function.end) for method in self.named(name)]
 
     def reached(self, root: str) -> Reached:
         """All functions that calls lead to, and the calls that lead nowhere."""
@@ -166,6 +196,9 @@ class Sources:
                     unfollowed.append(f"{function.module.line(named.start())}: {function.path} calls {path}, which is not followed")
                 todo += [target for target in targets if target not in found]
                 found.update({target: self.functions[target] for target in targets})
+            targets = self.unnamed(function)
+            todo += [target for target in targets if target not in found]
+            found.update({target: self.functions[target] for target in targets})
         return Reached(found, unfollowed)
 
 

@@ -1,7 +1,9 @@
 """Nothing that build reaches divides, but by 256 to split a number into its bytes: over the sources. How these are read is held against
 the compiler's own reading (mir/, beside the archive), and divisions put into a copy are found."""
 import json
+import re
 import unittest
+from collections import defaultdict
 from typing import Any, Dict, Iterator, List, Set, Tuple
 
 from entries import BUILDS, DIVIDING, READ, ROOT
@@ -29,7 +31,7 @@ FOUND = {
     "let seed = row % 256 / 3;": "divides by 3",
     "let seed = [1, row / 3];": "divides by 3",
     "let seed = listings::words::put_first_line(row, column);": "writing::decimals::put_decimal divides by 10",
-    "let seed = name_search::hash;": "name_search::hash divides by HASHES",
+    "let seed = name_search::Index::number_of;": "name_search::Index::number_of divides by 2",
     "let seed = std::num::quotient(row, 3);": "calls std::num::quotient, which is not followed",
     "let seed = row.div_euclid(3);": "calls div_euclid, which is not followed",
     "let seed = quotient!(row, 3);": "calls quotient, which is not followed",
@@ -58,7 +60,6 @@ NOT_FOUND = [
 ]
 NOT_READ = [
     "use writing::*;",
-    "use writing::{self};",
     "use writing::{put_two as two};",
     "use writing::{put_two, *};",
     "use writing::put_two as two;",
@@ -72,13 +73,26 @@ NOT_READ = [
     "fn third(x: usize) -> usize ensures { result ≡ {- } { -} x } { x / 3 }",
     'fn third(x: usize) -> usize ensures { result ≡ "} {" } { x / 3 }',
 ]
+# Rattle's own library: what becomes of its calls is read in the archive
+BEYOND = re.compile(r"(?:core|std)::")
 # the divisions among what the compiler makes of two numbers
 DIVIDE = {"Div", "Rem", "FloatDiv", "FloatRem"}
 
 
+def written_in(name: str) -> str:
+    """The function that the compiler's name stands for: that in which a closure stands, else itself."""
+    parts = name.replace("::fn::", "::").split("::")
+    paths = ("::".join(parts[:length]) for length in range(len(parts), 0, -1))
+    return next((path for path in paths if path in TREE.functions), name) if "::fn::" in name else name
+
+
 def compiled() -> Dict[str, Any]:
-    """What the compiler makes of each function of the library before it optimises."""
-    return {name: made["body"] for file in READ.glob("*.json") for name, made in json.loads(file.read_text())}
+    """What the compiler makes of each function of the library before it optimises, with the closures in it, and of what derives write."""
+    made: Dict[str, Any] = defaultdict(list)
+    for file in READ.glob("*.json"):
+        for name, each in json.loads(file.read_text()):
+            made[written_in(name)].append(each["body"])
+    return made
 
 
 def parts(made: Any) -> Iterator[Tuple[str, Any]]:
@@ -104,7 +118,7 @@ def compiled_reach(functions: Dict[str, Any], root: str) -> Set[str]:
     todo = [root]
     while todo:
         made = functions.get(todo.pop(), [])
-        called = {part[0] for kind, part in parts(made) if kind == "Fn"}
+        called = {written_in(part[0]) for kind, part in parts(made) if kind == "Fn" and not BEYOND.match(part[0])}
         called |= {f"a call of {list(part[0])}" for kind, part in parts(made) if kind == "Call" and "Fn" not in part[0]}
         todo += called - found
         found |= called
@@ -140,10 +154,10 @@ class Entries(unittest.TestCase):
             with self.subTest(name):
                 read = TREE.reached(path).functions
                 followed = compiled_reach(functions, path)
-                self.assertEqual(followed - set(read), set())
+                self.assertEqual({function for function in followed - set(read) if function not in functions or function in TREE.functions}, set())
                 for function in followed:
                     made = divided_by(functions[function])
-                    self.assertEqual(len(divisions(read[function])), len(made), function)
+                    self.assertEqual(len(divisions(read[function])) if function in read else 0, len(made), function)
                     if name not in DIVIDING:
                         self.assertEqual(set(made) - {"256"}, set(), function)
 
@@ -188,8 +202,9 @@ class Seeds(unittest.TestCase):
                 self.assertTrue(found.endswith("deep divides by 3"), found)
 
     def test_names_in_braces(self):
-        used = Module("crates/t/src/m.rt", "use a::{b, c::{d, e}, f::g,};\nuse crate::{\n    h,\n    i,\n};").uses
-        self.assertEqual(used, {"b": "a::b", "d": "a::c::d", "e": "a::c::e", "g": "a::f::g", "h": "t::h", "i": "t::i"})
+        used = Module("crates/t/src/m.rt", "use a::{b, c::{d, e}, f::{self, g},};\nuse crate::{\n    h,\n    i,\n};").uses
+        expected = {"b": "a::b", "d": "a::c::d", "e": "a::c::e", "f": "a::f", "g": "a::f::g", "h": "t::h", "i": "t::i"}
+        self.assertEqual(used, expected)
 
     def test_what_asks_for_tactics_is_no_code(self):
         seed = "#[tactic(auto, using(crate::proofs::Laws::third))] let seed = row;"
