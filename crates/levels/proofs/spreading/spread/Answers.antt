@@ -33,14 +33,13 @@ loop-first-preserved c =
     let grown = c.reach_from in
     let t = get_or loop.reached.queue loop.first 0 in
     let next : t + 1 ≡ suc t = omega arith in
-    let level_is : get_or loop.reached.levels t 0 + 1 ≡ suc (get_or loop.reached.levels t 0) = omega arith in
     let one_more : suc loop.first ≡ loop.first + 1 = omega arith in
     subst
     (λ (k : ℕ).
     LevelsSoFar (table_states c.args.table.s.now) grown.new.self.levels grown.new.self.queue k grown.new.self.last)
     one_more
     (levels-go loop.invariant c.loop-first-test.true t refl c.requires
-    (ready_ascends _ _ c.args.table.ready) refl (ap (λ (k : ℕ). get_or c.args.ends.now k 0) next) level_is grown.ensures)
+    (ready_ascends _ _ c.args.table.ready) refl (ap (λ (k : ℕ). get_or c.args.ends.now k 0) next) (omega arith) grown.ensures)
 
 pub returns : goal.returns
 returns c = levels_end (ready_ascends _ _ c.args.table.ready) c.loop-first.invariant c.loop-first-test.false
