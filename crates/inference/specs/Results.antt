@@ -1,10 +1,12 @@
 -- What is given back for an accepted book (docs/SCOPE.md, sections 4 and 12): 10, then 13, and where neither is the table's bytes in one
 -- output and the counts in another, where they are wanted; how long they are, the states, the joins and the different rows. First how two
 -- things are written. Assumes nothing.
-use Rattle.std.specs.Prelude.{◌≡◌, Bool, true, false, Result, Ok, Err, List, [], ◌∷◌, ℕ, length}
+use Rattle.std.specs.Prelude.{◌≡◌, Bool, true, false, Result, Ok, Err, List, [], ◌∷◌, ℕ, ltb, length}
+use Rattle.base.specs.Limits.{state_limit, tree_too_large, when}
 use Rattle.model.specs.Fields.{File}
 use Rattle.model.specs.Quotients.{book_states, book_table}
-use Rattle.model.specs.Calls.{Call, Gives, too_short, fronts, tree_fault, joins_of, distinct_of}
+use Rattle.model.specs.Calls.{Call, Gives, too_short, fronts, joins_of, distinct_of}
+use Rattle.model.specs.Joinings.{tree_of}
 use Rattle.counts.specs.Counts.{counts_if}
 use Rattle.base.specs.Refusals.{number_of}
 use Rattle.base.specs.declared.refusals.Refusal.{Refusal}
@@ -49,7 +51,7 @@ unfoldable pub inferring : Bool → File → Call (Result Inferred ℕ)
 inferring wanted f =
     let counts = counts_if wanted (book_states f) f.items in
     record {
-      refusal = tree_fault f.items;
+      refusal = when (ltb state_limit (length (tree_of f.items))) tree_too_large;
       none = λ k. Err k;
       answer =
           Ok (record {

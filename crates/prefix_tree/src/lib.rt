@@ -12,7 +12,8 @@ use base::limits::{NAME_LIMIT, STATE_LIMIT};
 use base::refusals::Refusal;
 use judging::offsets::{body, next_field};
 
-// The states so far are the first `count` places.
+// The states so far are the first `count` places; the root's name is NAME_LIMIT, which is no name.
+// Stays: arrays side by side, and that name: `TreeArrays` has both, and `Tree` lends two of the arrays.
 #[derive(Drop)]
 pub struct Growing {
     pub parents: [u16; STATE_LIMIT],
