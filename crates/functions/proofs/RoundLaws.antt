@@ -1,5 +1,4 @@
--- Laws of the parts of a joining: it is ready to be closed after the partition by ends, closed it is finished, and it is closed
--- already where the ends join nothing. Assumes nothing.
+-- Laws of a joining whose ends join nothing: it is closed already. Assumes nothing.
 use mathlib.Core.Path.{◌≡◌, ap}
 use mathlib.Core.List.{List}
 use Prim.Native.Nat.{ℕ}

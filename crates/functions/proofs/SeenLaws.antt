@@ -1,4 +1,4 @@
--- Laws of seen sets, filled in from the root on. Assumes nothing.
+-- Seen sets, filled in from the root on: what is so of the first of them. Assumes nothing.
 use mathlib.Core.Path.{◌≡◌}
 use mathlib.Core.List.{List}
 use Prim.Native.Nat.{ℕ, ◌^◌, ◌<◌}

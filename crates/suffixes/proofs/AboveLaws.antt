@@ -1,6 +1,5 @@
 -- Laws of the name before the last j: it is the first of a code of j + 1 names, and the code of j names is the rest. Then of
--- codes and such names filled in from the root on, and states with one code are one state or have the same last j names.
--- Assumes nothing.
+-- such names filled in from the root on, and states with one code are one state or have the same last j names. Assumes nothing.
 use mathlib.Core.Path.{◌≡◌, refl, sym, ap, ◌∙◌, subst}
 use mathlib.Core.Logic.{◌⊎◌, inl, inr, ⊎_elim}
 use mathlib.Core.List.{List}

@@ -1,5 +1,5 @@
--- Laws of the lists of first accepting states by their value's bucket: a bucket; a search down a list, found and not found; one
--- state more, put into its list where it is the first with its value. Assumes nothing.
+-- Laws of the lists of first accepting states by their value's bucket: a search down a list that found none; one state more, put
+-- into its list where it is the first with its value. Assumes nothing.
 use mathlib.Core.Path.{◌≡◌, refl, sym, ap, ◌∙◌}
 use mathlib.Core.List.{List}
 use Prim.Native.Nat.{ℕ, zero, suc, ◌+◌, ◌<◌, ◌≤◌}
@@ -14,19 +14,6 @@ use Rattle.values.specs.Buckets.{bucket_of, Listed, Buckets, FirstEnd}
 -- a state has the value of v
 abbrev pub SameValue : List ℕ → ℕ → ℕ → Type 0
 SameValue values v u = get_or values u 0 ≡ get_or values v 0
-
--- the search comes to a state with the value
-pub first_found :
-    (ends values : List ℕ) (v b at u : ℕ) → at ≡ suc u → SameValue values v u →
-    Searched v (Listed ends values) (SameValue values v) b at → FirstEnd ends values v u
-first_found ends values v b at u is alike searched =
-    let listed : Listed ends values b u = searched.here u is in
-    record {
-      low = omega (arith, searched.low);
-      accepting = listed.0;
-      alike = alike;
-      first = λ k h accepting e. listed.2 k h accepting (e ∙ sym alike);
-    }
 
 -- the search comes to the list's end: an accepting state with the value would have a first one, and that would be in the list
 pub first_itself :

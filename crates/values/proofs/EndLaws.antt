@@ -1,5 +1,4 @@
--- Laws of the groups of accepting states with one value: a state's group, the partition, states that are each by itself, and the
--- classes that it is where all states accept. Assumes nothing.
+-- A law of the groups of accepting states with one value: they are the classes of values where all states accept. Assumes nothing.
 use mathlib.Core.Path.{ap}
 use mathlib.Core.Logic.{inr, ⊎_elim}
 use mathlib.Core.List.{List}

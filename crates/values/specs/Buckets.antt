@@ -1,6 +1,5 @@
 -- Lists of first accepting states, those in which rows end, by the buckets of their values: the bucket of a value, the states in a
--- list, all lists of the first states, a state put into its list, the first accepting state with a value, and the group that it
--- gives a state. Assumes nothing.
+-- list, all lists of the first states, the first accepting state with a value, and the group that it gives a state. Assumes nothing.
 use Rattle.std.specs.Prelude.{◌≡◌, List, ℕ, ◌*◌, ◌/◌, ◌<◌, ◌≤◌, length, get_or}
 use Rattle.std.specs.Int.Bits.{bit_and, bit_xor}
 use Rattle.base.specs.Limits.{state_limit}
