@@ -14,24 +14,19 @@ use Rattle.std.specs.Prelude.{Err}
 use Rattle.model.specs.Fields.{File, row_ok}
 use Rattle.model.specs.Tables.{State, plain_walk, walk}
 use Rattle.model.specs.Claims.{AllBytes}
-use Rattle.model.specs.Calls.{Gives, Refuses, too_short, unless, table_of, table_states, table_fault, walk_fault}
+use Rattle.model.specs.Calls.{Gives, too_short, unless, table_of, table_states, table_fault, walk_fault}
 use Rattle.model.proofs.CallLaws.{refuses_first, refuses_then, refuses_none, refuses_when}
 use Rattle.model.proofs.CallLaws.{call-refused, call_answered, answer_by, fault_roomy, call-one_short, call-one_wrote}
 use Rattle.model.proofs.Reading.{rewrites_same}
 use Rattle.endings.specs.Live.{is_live, trimmed, nowhere, live_walk}
 use Rattle.fields.specs.declared.Place.{Place}
 use Rattle.fields.proofs.Parts.{length-names}
-use Rattle.fields.proofs.PlaceLaws.{number_some}
 use Rattle.writing.specs.Writing.{Written}
 use Rattle.writing.proofs.WritingLaws.{written-from_zero}
 use Rattle.tables.specs.Accepting.{TableRead, OpenedAs}
+use Rattle.tables.proofs.TableLaws.{opened_refused}
 use Rattle.results.specs.declared.Walked.{Walked}
 use Rattle.results.specs.Says.{rewritten_as, not_rewritten, rewriting, not_walked, walked_over, walking}
-
--- a table that is not opened is refused
-opened_refused :
-    {table work after : List ℕ} {k : Refusal} → OpenedAs table work after (Err k) → Refuses (table_fault table work) (number_of k)
-opened_refused {k = k} opened = record { is = sym opened.number; some = number_some k }
 
 -- ---- a table rewritten
 

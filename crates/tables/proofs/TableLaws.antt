@@ -27,7 +27,7 @@ use Rattle.fields.proofs.PlaceLaws.{number_some}
 use Rattle.judging.proofs.OffsetLaws.{offset_suc, field_within, length_fields, field_at_lem}
 use Rattle.tables.specs.Arcs.{StateOk}
 use Rattle.tables.specs.KeptFields.{field_at, with_field}
-use Rattle.tables.specs.Accepting.{TableRead, StateField, OpenedAs}
+use Rattle.tables.specs.Accepting.{TableRead, StateField, TableAt, OpenedAs}
 use Rattle.tables.proofs.KeptLaws.{length-with_field, field_same, field_other}
 use Rattle.tables.proofs.MetLaws.{states-stop, states-go, states_end, first_met_some}
 
@@ -248,3 +248,16 @@ opened_bad s lent k e =
       kept = tt;
       same_length = refl;
     }
+
+-- ---- what an opened table is, and one that is refused
+
+pub record TableOpened (s before after : List ℕ) (p : Place) : Type 0 where
+  pub not_refused : table_fault s before ≡ 0
+  pub kept : TableAt s after p
+
+pub opened_table : {s before after : List ℕ} {p : Place} → OpenedAs s before after (Ok p) → TableOpened s before after p
+opened_table opened = record { not_refused = sym opened.number; kept = opened.kept }
+
+pub opened_refused :
+    {s before after : List ℕ} {k : Refusal} → OpenedAs s before after (Err k) → Refuses (table_fault s before) (number_of k)
+opened_refused {k = k} opened = record { is = sym opened.number; some = number_some k }

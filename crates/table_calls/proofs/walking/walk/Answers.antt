@@ -3,6 +3,7 @@ use mathlib.Core.Path.{sym, ◌∙◌}
 use native.Mathlib.Omega.{arith}
 use Rattle.std.proofs.lemmas.Result.{err_from_is_err_and}
 use Rattle.tables.proofs.ReadyLaws.{few_arcs}
+use Rattle.tables.proofs.TableLaws.{opened_table}
 use Rattle.table_calls.proofs.CallLaws.{names_count, walk_refused, walk-row-refused, walk-ended}
 use Rattle.table_calls.proofs.walking.walk.Goals as goal
 
@@ -14,17 +15,17 @@ returns-in_err-place c =
 pub returns-then-not-row_ok : goal.returns-then-not-row_ok
 returns-then-not-row_ok c =
     let table = c.args.table.now in
-    let opened = c.in_ok-place.ensures in
-    walk-row-refused table c.args.row.now c.args.work.now _ (sym opened.number)
+    let opened = opened_table c.in_ok-place.ensures in
+    walk-row-refused table c.args.row.now c.args.work.now _ opened.not_refused
     (names_count table c.in_ok-place.place opened.kept.read) (sym c.row_ok.ensures ∙ c.if-not-row_ok.true)
 
 pub walk_over-requires-clause-few_arcs : goal.walk_over-requires-clause-few_arcs
 walk_over-requires-clause-few_arcs c =
-    few_arcs c.args.table.now c.args.work.now (λ i h. omega (arith, c.type_inv.table i)) (sym c.in_ok-place.ensures.number)
+    few_arcs c.args.table.now c.args.work.now (λ i h. omega (arith, c.type_inv.table i)) (opened_table c.in_ok-place.ensures).not_refused
 
 pub returns : goal.returns
 returns c =
     let table = c.args.table.now in
-    let opened = c.in_ok-place.ensures in
-    walk-ended table c.args.row.now c.args.work.now _ (sym opened.number) (names_count table c.in_ok-place.place opened.kept.read)
+    let opened = opened_table c.in_ok-place.ensures in
+    walk-ended table c.args.row.now c.args.work.now _ opened.not_refused (names_count table c.in_ok-place.place opened.kept.read)
     (sym c.row_ok.ensures ∙ c.if-not-row_ok.false) c.walk_over.ensures
