@@ -24,7 +24,7 @@ impl Stack {
     ghost use Rattle.plan_reading.specs.Pieces.{IsInnermost};
 
     // No element is open.
-    pub fn new() -> Stack
+    pub(crate) fn new() -> Stack
         ensures room { length result.opens ≡ plan_depth }
         ensures none_open { result.depth ≡ 0 }
     {
@@ -40,14 +40,14 @@ impl Stack {
     }
 
     // The innermost open element.
-    pub fn innermost(&self) -> Option<Open>
+    pub(crate) fn innermost(&self) -> Option<Open>
         ensures { IsInnermost self.now.opens self.now.depth result }
     {
         self.opens[..self.depth].last().copied()
     }
 
     // One element more is open, inside the others.
-    pub fn push(&mut self, element: Open)
+    pub(crate) fn push(&mut self, element: Open)
         requires { self.old.depth < plan_depth }
         ensures opens_after { self.new.opens ≡ slice_set self.old.opens self.old.depth element }
         ensures depth_after { self.new.depth ≡ self.old.depth + 1 }
@@ -57,7 +57,7 @@ impl Stack {
     }
 
     // The innermost element is open no longer.
-    pub fn pop(&mut self)
+    pub(crate) fn pop(&mut self)
         requires { 0 < self.old.depth }
         ensures opens_unchanged { self.new.opens ≡ self.old.opens }
         ensures depth_after { self.new.depth ≡ self.old.depth - 1 }

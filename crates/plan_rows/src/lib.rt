@@ -33,18 +33,18 @@ pub struct Size {
 // What is left of the row of an element at this depth, from an entry of the log on: the numbers of the tags one deeper, up to the first tag
 // that is not inside it.
 #[derive(Drop)]
-pub struct Row<'a> {
-    pub log: Log<'a>,
-    pub depth: u8,
-    pub at: usize,
+struct Row<'a> {
+    log: Log<'a>,
+    depth: u8,
+    at: usize,
 }
 
 // What is left of the rows of the elements with the chosen number, from an entry of the log on.
 #[derive(Drop)]
-pub struct Rows<'a> {
-    pub log: Log<'a>,
-    pub chosen: u8,
-    pub at: usize,
+struct Rows<'a> {
+    log: Log<'a>,
+    chosen: u8,
+    at: usize,
 }
 
 impl Iterator for Row<'_> {
