@@ -1,12 +1,12 @@
 // The three kinds of arcs that `close` goes by, with their lists and the queue.
 use crate::lists::{Lists, Queue};
-use indexed::Tree;
 
 // What a partition is to be closed under: the tree's arcs by their names, with the states' own numbers, and one set of keys against
 // them, or two.
 #[derive(Clone, Copy)]
 pub struct Rules<'a> {
-    pub tree: Tree<'a>,
+    pub parents: &'a [u16],
+    pub names: &'a [u8],
     pub numbers: &'a [u16],
     pub keys: &'a [u8],
     pub more: Option<&'a [u8]>,

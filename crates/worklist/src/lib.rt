@@ -18,8 +18,8 @@ ghost use Rattle.worklist.specs.Kinds.{ReadyBy, NoArcs, FilledBy, ListedBy, Merg
 
 use crate::arcs::Arcs;
 use crate::kinds::{Kinds, Rules};
-use indexed::Tree;
-use partition::forest::{self, Roots};
+use partition::forest;
+use partition::forest::Roots;
 
 // Puts all arcs of three kinds into their lists, of two where there is no second set of keys.
 fn fill_all(rules: Rules, groups: &[u16], kinds: &mut Kinds)
@@ -28,26 +28,25 @@ fn fill_all(rules: Rules, groups: &[u16], kinds: &mut Kinds)
     ensures { FilledBy (length groups.now) rules.entry groups.now kinds.old kinds.new }
 {
     let Rules {
-        tree,
+        parents,
+        names,
         numbers,
         keys,
         more,
     } = rules;
     let forks = Arcs {
         outs: numbers,
-        keys: tree.names,
+        keys: names,
     };
-    kinds
-        .forks
-        .fill(tree.parents, forks, groups, &mut kinds.queue);
+    kinds.forks.fill(parents, forks, groups, &mut kinds.queue);
     let backs = Arcs {
-        outs: tree.parents,
+        outs: parents,
         keys,
     };
     kinds.backs.fill(numbers, backs, groups, &mut kinds.queue);
     if let Some(keys) = more {
         let others = Arcs {
-            outs: tree.parents,
+            outs: parents,
             keys,
         };
         kinds.others.fill(numbers, others, groups, &mut kinds.queue);
@@ -57,33 +56,34 @@ fn fill_all(rules: Rules, groups: &[u16], kinds: &mut Kinds)
 // Merges the lists of two groups, of all kinds.
 fn merge_all(rules: Rules, kinds: &mut Kinds, to: usize, from: usize)
     requires listed { (rows1 rows2 rows3 : List ℕ) ×
-        ListedBy (length rules.tree.parents.now) rules rows1 rows2 rows3 kinds.old }
-    requires numbers_size { length rules.numbers.now ≡ length rules.tree.parents.now }
+        ListedBy (length rules.parents.now) rules rows1 rows2 rows3 kinds.old }
+    requires numbers_size { length rules.numbers.now ≡ length rules.parents.now }
     requires lower { to < from }
     requires inside { from < state_limit }
     ensures { (rows1 rows2 rows3 : List ℕ) →
-        ListedBy (length rules.entry.tree.parents.now) rules.entry rows1 rows2 rows3 kinds.old →
-        MergedBy (length rules.entry.tree.parents.now) rules.entry rows1 rows2 rows3 to from kinds.old kinds.new }
+        ListedBy (length rules.entry.parents.now) rules.entry rows1 rows2 rows3 kinds.old →
+        MergedBy (length rules.entry.parents.now) rules.entry rows1 rows2 rows3 to from kinds.old kinds.new }
 {
     let Rules {
-        tree,
+        parents,
+        names,
         numbers,
         keys,
         more,
     } = rules;
     let forks = Arcs {
         outs: numbers,
-        keys: tree.names,
+        keys: names,
     };
     kinds.forks.merge(forks, &mut kinds.queue, to, from);
     let backs = Arcs {
-        outs: tree.parents,
+        outs: parents,
         keys,
     };
     kinds.backs.merge(backs, &mut kinds.queue, to, from);
     if let Some(keys) = more {
         let others = Arcs {
-            outs: tree.parents,
+            outs: parents,
             keys,
         };
         kinds.others.merge(others, &mut kinds.queue, to, from);
@@ -92,9 +92,9 @@ fn merge_all(rules: Rules, kinds: &mut Kinds, to: usize, from: usize)
 
 // Joins pair after pair, until none is left in the queue.
 fn settle(rules: Rules, groups: &mut [u16], kinds: &mut Kinds)
-    requires forest { Forest (length rules.tree.parents.now) groups.old }
-    requires settling { SettlingBy (length rules.tree.parents.now) rules (roots_of groups.old) (roots_of groups.old) kinds.old 0 }
-    ensures { SettledBy (length rules.entry.tree.parents.now) rules.entry groups.old groups.new }
+    requires forest { Forest (length rules.parents.now) groups.old }
+    requires settling { SettlingBy (length rules.parents.now) rules (roots_of groups.old) (roots_of groups.old) kinds.old 0 }
+    ensures { SettledBy (length rules.entry.parents.now) rules.entry groups.old groups.new }
 {
     let mut done = 0;
     while let Some((v, w)) = kinds.queue.pair(done) {
@@ -107,16 +107,24 @@ fn settle(rules: Rules, groups: &mut [u16], kinds: &mut Kinds)
 
 // Joins groups until the partition is closed under forks and under both sets of keys against the arcs, or under one where there is
 // no other. Where no pair is queued the partition is closed as it is, and is left.
-pub fn close(tree: Tree, numbers: &[u16], keys: &[u8], more: Option<&[u8]>, groups: &mut [u16])
-    requires ready { RoundReady (length groups.old) tree.parents.now tree.names.now numbers.now keys.now
+pub fn close(
+    parents: &[u16],
+    names: &[u8],
+    numbers: &[u16],
+    keys: &[u8],
+    more: Option<&[u8]>,
+    groups: &mut [u16],
+)
+    requires ready { RoundReady (length groups.old) parents.now names.now numbers.now keys.now
         (given_keys (length groups.old) (option_copied more)) groups.old }
     ensures { JoinedUntil
-        (RoundClosed (length groups.old) tree.entry.parents.now tree.entry.names.now numbers.now
+        (RoundClosed (length groups.old) parents.now names.now numbers.now
         keys.now (given_keys (length groups.old) (option_copied more.entry)))
         (length groups.old) groups.old groups.new }
 {
     let rules = Rules {
-        tree,
+        parents,
+        names,
         numbers,
         keys,
         more,

@@ -31,7 +31,7 @@ returns-in_default c =
       backs = c.fill-2.ensures;
       others =
           rw c.in_default.is
-          (filled_none n c.args.rules.numbers.now c.args.rules.tree.parents.now (replicate n name_limit) c.args.groups.now
+          (filled_none n c.args.rules.numbers.now c.args.rules.parents.now (replicate n name_limit) c.args.groups.now
           c.args.kinds.now.others.links c.args.kinds.now.others.heads c.fill-2.new.queue.firsts c.fill-2.new.queue.seconds
           c.fill-2.new.queue.tail c.requires.ready.few (length-replicate {A = ℕ} n name_limit) c.requires.empty.others
           (given_none n));

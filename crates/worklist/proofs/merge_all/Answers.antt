@@ -35,6 +35,6 @@ returns-in_default c =
       forks = merged-by_states listed.forks (c.merge.ensures rows₁);
       backs = merged-by_states listed.backs (c.merge-2.ensures rows₂);
       others =
-          merged_none c.args.rules.tree.parents.now c.args.to c.merge-2.new.queue.firsts c.merge-2.new.queue.seconds
-          c.merge-2.new.queue.tail listed.others (given_none (length c.args.rules.tree.parents.now)) c.requires.inside;
+          merged_none c.args.rules.parents.now c.args.to c.merge-2.new.queue.firsts c.merge-2.new.queue.seconds
+          c.merge-2.new.queue.tail listed.others (given_none (length c.args.rules.parents.now)) c.requires.inside;
     })

@@ -8,8 +8,8 @@ use Rattle.worklist.proofs.settle.Given as goal
 
 abbrev pub invariant-loop-v : goal.invariant-loop-v
 invariant-loop-v l =
-    Forest (length l.rules.tree.parents.now) l.groups
-    × SettlingBy (length l.rules.tree.parents.now) l.rules (roots_of l.initial.groups) (roots_of l.groups) l.kinds l.done
+    Forest (length l.rules.parents.now) l.groups
+    × SettlingBy (length l.rules.parents.now) l.rules (roots_of l.initial.groups) (roots_of l.groups) l.kinds l.done
 
 abbrev pub decreases-loop-v : goal.decreases-loop-v
 decreases-loop-v l = pair_limit - l.done

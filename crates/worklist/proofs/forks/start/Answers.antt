@@ -10,7 +10,7 @@ invariant_of-arcs c = record { even = own-size c.requires.ready.own ∙ sym c.re
 
 pub settle-requires-clause-closing : goal.settle-requires-clause-closing
 settle-requires-clause-closing c = (
-  c.args.tree.parents.now,
+  c.args.parents.now,
   c.args.groups.now,
   closing-opened (closing_filled c.requires.ready c.requires.labelled c.args.forks.now.queue.room c.fill.ensures),
 )
