@@ -16,7 +16,6 @@ ghost use Rattle.worklist.specs.Keys.{given_keys};
 ghost use Rattle.worklist.specs.Settling.{RoundReady, RoundClosed, JoinedUntil};
 ghost use Rattle.worklist.specs.Kinds.{ReadyBy, NoArcs, FilledBy, ListedBy, MergedBy, SettlingBy, SettledBy};
 
-use crate::arcs::Arcs;
 use crate::kinds::{Kinds, Rules};
 use partition::forest;
 use partition::forest::Roots;
@@ -27,29 +26,16 @@ fn fill_all(rules: Rules, groups: &[u16], kinds: &mut Kinds)
     requires empty { NoArcs kinds.old }
     ensures { FilledBy (length groups.now) rules.entry groups.now kinds.old kinds.new }
 {
-    let Rules {
-        parents,
-        names,
-        numbers,
-        keys,
-        more,
-    } = rules;
-    let forks = Arcs {
-        outs: numbers,
-        keys: names,
-    };
-    kinds.forks.fill(parents, forks, groups, &mut kinds.queue);
-    let backs = Arcs {
-        outs: parents,
-        keys,
-    };
-    kinds.backs.fill(numbers, backs, groups, &mut kinds.queue);
-    if let Some(keys) = more {
-        let others = Arcs {
-            outs: parents,
-            keys,
-        };
-        kinds.others.fill(numbers, others, groups, &mut kinds.queue);
+    kinds
+        .forks
+        .fill(rules.parents, rules.forks(), groups, &mut kinds.queue);
+    kinds
+        .backs
+        .fill(rules.numbers, rules.backs(), groups, &mut kinds.queue);
+    if let Some(others) = rules.others() {
+        kinds
+            .others
+            .fill(rules.numbers, others, groups, &mut kinds.queue);
     }
 }
 
@@ -57,35 +43,15 @@ fn fill_all(rules: Rules, groups: &[u16], kinds: &mut Kinds)
 fn merge_all(rules: Rules, kinds: &mut Kinds, to: usize, from: usize)
     requires listed { (rows1 rows2 rows3 : List ℕ) ×
         ListedBy (length rules.parents.now) rules rows1 rows2 rows3 kinds.old }
-    requires numbers_size { length rules.numbers.now ≡ length rules.parents.now }
     requires lower { to < from }
     requires inside { from < state_limit }
     ensures { (rows1 rows2 rows3 : List ℕ) →
         ListedBy (length rules.entry.parents.now) rules.entry rows1 rows2 rows3 kinds.old →
         MergedBy (length rules.entry.parents.now) rules.entry rows1 rows2 rows3 to from kinds.old kinds.new }
 {
-    let Rules {
-        parents,
-        names,
-        numbers,
-        keys,
-        more,
-    } = rules;
-    let forks = Arcs {
-        outs: numbers,
-        keys: names,
-    };
-    kinds.forks.merge(forks, &mut kinds.queue, to, from);
-    let backs = Arcs {
-        outs: parents,
-        keys,
-    };
-    kinds.backs.merge(backs, &mut kinds.queue, to, from);
-    if let Some(keys) = more {
-        let others = Arcs {
-            outs: parents,
-            keys,
-        };
+    kinds.forks.merge(rules.forks(), &mut kinds.queue, to, from);
+    kinds.backs.merge(rules.backs(), &mut kinds.queue, to, from);
+    if let Some(others) = rules.others() {
         kinds.others.merge(others, &mut kinds.queue, to, from);
     }
 }

@@ -4,7 +4,18 @@ use native.Mathlib.Omega.{arith}
 use lib.ListN.{length}
 use Rattle.partition.proofs.ForestLaws.{flat_roots}
 use Rattle.worklist.proofs.SettleLaws.{settling_filled, settling-done}
+use Rattle.worklist.proofs.SizeLaws.{own-size}
 use Rattle.worklist.proofs.close.Goals as goal
+
+pub invariant_of-rules : goal.invariant_of-rules
+invariant_of-rules c =
+    let ready = c.requires.ready in
+    record {
+      names_size = rw ready.parents_size ready.names_size;
+      numbers_size = rw ready.parents_size (own-size ready.own);
+      keys_size = rw ready.parents_size ready.keys_size;
+      more_size = rw ready.parents_size ready.more_size;
+    }
 
 pub returns-then-kinds-eq0 : goal.returns-then-kinds-eq0
 returns-then-kinds-eq0 c =

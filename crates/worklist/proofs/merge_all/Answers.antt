@@ -7,7 +7,7 @@ use Rattle.worklist.proofs.merge_all.Goals as goal
 
 pub returns-in-Some : goal.returns-in-Some
 returns-in-Some c =
-    rw c.in-Some.is
+    rw c.in-Some.ensures.1
     (λ rows₁ rows₂ rows₃ listed.
     record {
       firsts₁ = c.merge.new.queue.firsts;
@@ -16,14 +16,14 @@ returns-in-Some c =
       firsts₂ = c.merge-2.new.queue.firsts;
       seconds₂ = c.merge-2.new.queue.seconds;
       tail₂ = c.merge-2.new.queue.tail;
-      forks = merged-by_states listed.forks (c.merge.ensures rows₁);
-      backs = merged-by_states listed.backs (c.merge-2.ensures rows₂);
-      others = merged-by_states listed.others (c.merge-in-Some.ensures rows₃);
+      forks = merged-by_states listed.forks (rw (c.forks.ensures.outs, c.forks.ensures.keys) at (c.merge.ensures rows₁));
+      backs = merged-by_states listed.backs (rw (c.backs.ensures.outs, c.backs.ensures.keys) at (c.merge-2.ensures rows₂));
+      others = merged-by_states listed.others (rw c.in-Some.ensures.0 at (c.merge-in-Some.ensures rows₃));
     })
 
 pub returns-in_default : goal.returns-in_default
 returns-in_default c =
-    rw c.in_default.is
+    rw c.in_default.ensures
     (λ rows₁ rows₂ rows₃ listed.
     record {
       firsts₁ = c.merge.new.queue.firsts;
@@ -32,8 +32,8 @@ returns-in_default c =
       firsts₂ = c.merge-2.new.queue.firsts;
       seconds₂ = c.merge-2.new.queue.seconds;
       tail₂ = c.merge-2.new.queue.tail;
-      forks = merged-by_states listed.forks (c.merge.ensures rows₁);
-      backs = merged-by_states listed.backs (c.merge-2.ensures rows₂);
+      forks = merged-by_states listed.forks (rw (c.forks.ensures.outs, c.forks.ensures.keys) at (c.merge.ensures rows₁));
+      backs = merged-by_states listed.backs (rw (c.backs.ensures.outs, c.backs.ensures.keys) at (c.merge-2.ensures rows₂));
       others =
           merged_none c.args.rules.parents.now c.args.to c.merge-2.new.queue.firsts c.merge-2.new.queue.seconds
           c.merge-2.new.queue.tail listed.others (given_none (length c.args.rules.parents.now)) c.requires.inside;

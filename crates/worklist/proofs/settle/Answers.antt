@@ -1,15 +1,11 @@
 -- The groups of both states of a pair are made one, and where they were two, their lists are merged.
 use mathlib.Core.Path.{refl}
 use native.Mathlib.Numerals.{add-one}
-use native.Mathlib.Omega.{arith}
 use Rattle.partition.specs.Forests.{roots_of}
-use Rattle.worklist.proofs.SizeLaws.{own-size, roots_by_states}
-use Rattle.worklist.proofs.SettleLaws.{settling-done, listed-all, settled-skipped, settled_joined}
+use Rattle.worklist.proofs.SizeLaws.{roots_by_states}
+use Rattle.worklist.proofs.SettleLaws.{settling-done, settled-skipped, settled_joined}
 use Rattle.worklist.proofs.settle.Goals as goal
 use Rattle.worklist.proofs.settle.Goals.{in-Some-join, in_default-join}
-
-pub merge_all-requires-clause-numbers_size : goal.merge_all-requires-clause-numbers_size
-merge_all-requires-clause-numbers_size c = own-size c.loop-v.invariant.1.ready.own
 
 pub loop-v-preserved : goal.loop-v-preserved
 loop-v-preserved c =
