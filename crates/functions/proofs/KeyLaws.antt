@@ -1,18 +1,22 @@
 -- Laws of the keys of one arc: what its name adds to the seen set before it, and which keys that gives. Assumes nothing.
 use mathlib.Core.Path.{◌≡◌, refl, sym, ap, ◌∙◌, subst}
 use mathlib.Core.Logic.{◌⊎◌, inl, inr, ⊎_elim}
-use mathlib.Core.Bool.{Bool, true, false, not, cond, beq}
+use mathlib.Core.Bool.{Bool, true, false, not, cond, beq, true≢false, false≢true}
 use mathlib.Core.List.{List}
-use Prim.Native.Nat.{ℕ, zero, suc, ◌+◌, ◌*◌, ◌/◌, ◌%◌, ◌^◌, ◌<◌, min}
+use Prim.Native.Nat.{ℕ, zero, suc, ◌+◌, ◌-◌, ◌*◌, ◌/◌, ◌%◌, ◌^◌, ◌<◌, ◌≤◌, min}
 use native.Mathlib.Nat.{pow-suc}
 use native.Mathlib.Omega.{arith}
 use lib.Bits.{bit_and, bit_or, and_step, or_zero_l, or_disjoint}
-use lib.Count.{ones, ones_step}
-use lib.Dec.{eqb, ltb}
+use lib.Count.{ones, ones_step, count_trailing_zeros}
+use lib.Dec.{eqb}
 use lib.ListN.{get_or}
-use borrow.Author.Tests.{lt-ltb, ne_eqb}
+use lib.Pow.{pow_pos}
+use borrow.Author.Tests.{eq-eqb, ne_eqb}
+use Rattle.std.specs.Prelude.{Option, None, Some}
+use Rattle.std.specs.Option.{unwrap_or, is_some}
 use Rattle.base.specs.Limits.{name_limit}
 use Rattle.base.proofs.Tests.{eq_dec}
+use Rattle.model.proofs.NameSets.{trailing_shifted}
 use Rattle.base.specs.Bits.{bit}
 use Rattle.base.proofs.Bits.{bit-zero, bit-of_set, bit-of_both, bits_told, set-again}
 
@@ -59,16 +63,29 @@ grown name before after is = ⊎_elim (λ one. inl (is ∙ set-again before name
         let more : after ≡ before + 2 ^ name = is ∙ or_disjoint before (2 ^ name) none in
         (more, ap ones more ∙ ones_more name before none)
 
--- where the set is another after the arc, whether it has more names tells whether it is
-pub grown_test :
-    (before after name : ℕ) → after ≡ bit_or before (2 ^ name) → (before ≡ after → ⊥) →
-    ltb (ones before) (ones after) ≡ not (eqb after before)
-grown_test before after name is other = go (grown name before after is)
+pub not_less : (name before after : ℕ) → after ≡ bit_or before (2 ^ name) → before ≤ after
+not_less name before after is = ⊎_elim (λ same. omega arith) (λ more. omega (arith, more.0)) (grown name before after is)
+
+-- where the set has more names after the arc, the lowest name added is the arc's
+pub added_name :
+    (before after name : ℕ) → ones before < ones after → name < name_limit → after ≡ bit_or before (2 ^ name) →
+    Some (count_trailing_zeros 64 (after - before)) ≡ cond (eqb after before) None (Some name)
+added_name before after name more below is = go (grown name before after is)
   where
-    go : Grown name before after → ltb (ones before) (ones after) ≡ not (eqb after before)
-    go (inl same) = absurd (other (sym same))
+    go : Grown name before after → Some (count_trailing_zeros 64 (after - before)) ≡ cond (eqb after before) None (Some name)
+    go (inl same) = absurd (omega (arith, ap ones same))
     go (inr added) =
-        lt-ltb (ones before) (ones after) (omega (arith, added.1)) ∙ sym (ap not (ne_eqb after before (λ e. other (sym e))))
+        let difference : after - before ≡ 1 * 2 ^ name = omega (arith, added.0) in
+        ap (λ (n : ℕ). Some (count_trailing_zeros 64 n)) difference ∙ ap Some (trailing_shifted 64 1 name refl below)
+        ∙ sym (ap (λ (b : Bool). cond b None (Some name)) (ne_eqb after before (λ e. omega (arith, added.0, pow_pos name))))
+
+-- and where it has no more, none is added
+pub added_none :
+    (before after name : ℕ) → (ones before < ones after → ⊥) → after ≡ bit_or before (2 ^ name) →
+    None ≡ cond (eqb after before) None (Some name)
+added_none before after name no_more is =
+    let same : after ≡ before = ⊎_elim (λ e. e) (λ added. absurd (no_more (omega (arith, added.1)))) (grown name before after is) in
+    sym (ap (λ (b : Bool). cond b None (Some name)) (eq-eqb after before same))
 
 -- the key of the arc to v: its name among the arcs that enlarge the seen set, or among those that do not
 pub record KeyAt (enlarge : Bool) (parents names seen : List ℕ) (v answer : ℕ) : Type 0 where
@@ -77,33 +94,38 @@ pub record KeyAt (enlarge : Bool) (parents names seen : List ℕ) (v answer : �
       0 < v →
       answer ≡ cond (beq (eqb (get_or seen v 0) (get_or seen (get_or parents v 0) 0)) enlarge) name_limit (get_or names v 0)
 
--- a key told by whether the set has grown, and by whether it has not
-key_grown : (same : Bool) (name : ℕ) → cond (not same) name name_limit ≡ cond (beq same true) name_limit name
-key_grown true name = refl
-key_grown false name = refl
+-- a key told by the name added, and by whether there is none
+key_added : (same : Bool) (name : ℕ) → unwrap_or (cond same None (Some name)) name_limit ≡ cond (beq same true) name_limit name
+key_added true name = refl
+key_added false name = refl
 
-key_kept : (same : Bool) (name : ℕ) → cond (not (not same)) name name_limit ≡ cond (beq same false) name_limit name
-key_kept true name = refl
-key_kept false name = refl
+key_kept :
+    (same none : Bool) (name : ℕ) → is_some (cond same None (Some name)) ≡ not none →
+    cond none name name_limit ≡ cond (beq same false) name_limit name
+key_kept true true name e = refl
+key_kept true false name e = absurd (false≢true e)
+key_kept false true name e = absurd (true≢false e)
+key_kept false false name e = refl
 
 -- the keys of an arc, by the sets at its ends
-module _ (parents names seen : List ℕ) (v x : ℕ) (grown : Bool) (some : 0 < v)
-    (is : grown ≡ not (eqb (get_or seen v 0) (get_or seen (get_or parents v 0) 0))) where
+module _ (parents names seen : List ℕ) (v x : ℕ) (lowest : Option ℕ) (some : 0 < v)
+    (is : lowest ≡ cond (eqb (get_or seen v 0) (get_or seen (get_or parents v 0) 0)) None (Some (get_or names v 0))) where
   same : Bool
   same = eqb (get_or seen v 0) (get_or seen (get_or parents v 0) 0)
 
-  pub key_enlarging : x ≡ cond grown (get_or names v 0) name_limit → KeyAt true parents names seen v x
+  pub key_enlarging : x ≡ unwrap_or lowest name_limit → KeyAt true parents names seen v x
   unfolding same
   key_enlarging e =
       record {
         root = λ q. absurd (omega arith);
-        arc = λ h. e ∙ ap (λ (b : Bool). cond b (get_or names v 0) name_limit) is ∙ key_grown same (get_or names v 0);
+        arc = λ h. e ∙ ap (λ (o : Option ℕ). unwrap_or o name_limit) is ∙ key_added same (get_or names v 0);
       }
 
-  pub key_other : x ≡ cond (not grown) (get_or names v 0) name_limit → KeyAt false parents names seen v x
+  pub key_other :
+      (none : Bool) → is_some lowest ≡ not none → x ≡ cond none (get_or names v 0) name_limit → KeyAt false parents names seen v x
   unfolding same
-  key_other e =
+  key_other none empty e =
       record {
         root = λ q. absurd (omega arith);
-        arc = λ h. e ∙ ap (λ (b : Bool). cond (not b) (get_or names v 0) name_limit) is ∙ key_kept same (get_or names v 0);
+        arc = λ h. e ∙ key_kept same none (get_or names v 0) (sym (ap is_some is) ∙ empty);
       }

@@ -1,5 +1,5 @@
 // Keys of arcs for passes against them: names by whether the seen set grows.
-ghost use Rattle.std.specs.Prelude.{◌≡◌, true, false, cond, not, ℕ, ◌^◌, ◌<◌, eqb, length};
+ghost use Rattle.std.specs.Prelude.{◌≡◌, true, false, cond, ℕ, ◌^◌, ◌<◌, eqb, None, Some, length};
 ghost use Rattle.std.specs.Int.Bits.{bit_or};
 ghost use Rattle.base.specs.Limits.{name_limit};
 ghost use Rattle.indexed.specs.Passes.{SeenSets, KeysWhere};
@@ -7,24 +7,20 @@ ghost use Rattle.indexed.specs.Passes.{SeenSets, KeysWhere};
 use base::limits::NAME_LIMIT;
 use indexed::Tree;
 
-// Whether an arc enlarges the seen set, by the sets before and after it: where the set after it has more names than the set before it.
-// The names of equal sets are not counted.
-#[tactic(auto, using(crate::proofs::KeyLaws::grown_test))]
-fn enlarges(before: u64, after: u64) -> bool
-    ensures { (name : ℕ) → after ≡ bit_or before (2 ^ name) → result ≡ not (eqb after before) }
+// The name that an arc adds to the seen set, by the sets before and after it. It adds one where the set after it has more names than
+// the set before it: the lowest name added. The names of equal sets are not counted.
+fn added(before: u64, after: u64) -> Option<u8>
+    requires with_name { (name : ℕ) × (name < name_limit) × (after ≡ bit_or before (2 ^ name)) }
+    ensures { (name : ℕ) → name < name_limit → after ≡ bit_or before (2 ^ name) → result ≡ cond (eqb after before) None (Some name) }
 {
-    before != after && u64::count_ones(before) < u64::count_ones(after)
-}
-
-// The key of an arc by its name where it has one, else no key.
-// Stays: NAME_LIMIT for none (the clauses KeysWhere speak of it, and an array of u8 has room for no Option).
-fn key_if(keyed: bool, name: u8) -> u8
-    ensures { result ≡ cond keyed name name_limit }
-{
-    if keyed { name } else { NAME_LIMIT }
+    if before != after && u64::count_ones(before) < u64::count_ones(after) {
+        return Some(u64::trailing_zeros(after - before) as u8);
+    }
+    None
 }
 
 // The names of the arcs that enlarge the seen set, and those of the arcs that do not; no key at the others and at the root.
+// Stays: NAME_LIMIT for none (the clauses KeysWhere speak of it, and an array of u8 has room for no Option).
 pub fn seen_keys(tree: Tree, seen: &[u64], enlarging: &mut [u8], others: &mut [u8])
     requires size { length seen.now ≡ length tree.parents.now }
     requires sets { SeenSets (length seen.now) tree.parents.now tree.names.now seen.now }
@@ -38,8 +34,8 @@ pub fn seen_keys(tree: Tree, seen: &[u64], enlarging: &mut [u8], others: &mut [u
     for v in 1..seen.len() {
         let parent = tree.parents[v] as usize;
         let name = tree.names[v];
-        let grown = enlarges(seen[parent], seen[v]);
-        enlarging[v] = key_if(grown, name);
-        others[v] = key_if(!grown, name);
+        let lowest = added(seen[parent], seen[v]);
+        enlarging[v] = lowest.unwrap_or(NAME_LIMIT);
+        others[v] = if lowest.is_none() { name } else { NAME_LIMIT };
     }
 }

@@ -26,6 +26,6 @@ pub fn finish(
     partition::own(numbers);
     let joined = values::by_ends(ends, values, groups);
     if joined {
-        worklist::close(tree, numbers, keys, more, groups);
+        worklist::close(tree.parents, tree.names, numbers, keys, more, groups);
     }
 }
