@@ -112,7 +112,7 @@ fn close_contexts(
     let n = groups.len();
     let mut classes = [0u16; STATE_LIMIT];
     suffix_classes(h + 1, tree, &mut classes[..n]);
-    start(tree, numbers, groups, forks);
+    start(tree.parents, tree.names, numbers, groups, forks);
     while sweep(m, tree, numbers, &classes[..n], before, groups, forks) {}
 }
 
