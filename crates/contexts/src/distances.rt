@@ -1,12 +1,12 @@
 // How near each group is to one that has grown since an earlier partition, in arcs: from there on the names that can be walked may be
 // others than they were. A group goes by its label, an arc by the state that it leads into.
 ghost use Rattle.std.specs.Prelude.{◌≡◌, ◌<◌, ◌≤◌, length};
-ghost use Rattle.base.specs.Limits.{setting_limit};
+ghost use Rattle.base.specs.Limits.{state_limit, setting_limit};
 ghost use Rattle.indexed.specs.Partitions.{Labelled};
+ghost use Rattle.contexts.specs.Climbs.{Above};
 ghost use Rattle.contexts.specs.Distances.{Spread, SpreadAt, SpreadFrom, Marking, MarkedAt, MarkedBelow, Lowering, Lowered};
 
 use base::limits::{SETTING_LIMIT, STATE_LIMIT};
-use indexed::Tree;
 use suffixes::class_above;
 
 // The group of v has distance 0 if it has grown: v was not in the group of its label.
@@ -34,10 +34,10 @@ fn mark_grown(before: &[u16], groups: &[u16], dist: &mut [u8; STATE_LIMIT])
 
 // The distance of the source of the arc into v, by that of its target, if it is below j and below the one known; true where it
 // was lowered.
-fn lower_at(j: u8, tree: Tree, groups: &[u16], dist: &mut [u8; STATE_LIMIT], v: usize) -> bool
-    requires lowering { Lowering (length groups.now) tree.parents.now groups.now dist.old }
+fn lower_at(j: u8, parents: &[u16], groups: &[u16], dist: &mut [u8; STATE_LIMIT], v: usize) -> bool
+    requires lowering { Lowering (length groups.now) parents.now groups.now dist.old }
     requires inside { v < length groups.now }
-    ensures { Lowered (SpreadAt j tree.entry.parents.now groups.now dist.old v) dist.old
+    ensures { Lowered (SpreadAt j parents.now groups.now dist.old v) dist.old
         dist.new result }
 {
     let target = groups[v] as usize;
@@ -45,7 +45,7 @@ fn lower_at(j: u8, tree: Tree, groups: &[u16], dist: &mut [u8; STATE_LIMIT], v: 
     if j <= near {
         return false;
     }
-    let source = class_above(groups, tree.parents, v);
+    let source = class_above(groups, parents, v);
     if dist[source] <= near {
         return false;
     }
@@ -55,26 +55,27 @@ fn lower_at(j: u8, tree: Tree, groups: &[u16], dist: &mut [u8; STATE_LIMIT], v: 
 
 // One pass over all arcs, from the last down to the first: what an arc leads into comes after what it leaves, so that a pass
 // carries distances up whole branches. True where any was lowered.
-fn lower(j: u8, tree: Tree, groups: &[u16], dist: &mut [u8; STATE_LIMIT]) -> bool
-    requires lowering { Lowering (length groups.now) tree.parents.now groups.now dist.old }
+fn lower(j: u8, parents: &[u16], groups: &[u16], dist: &mut [u8; STATE_LIMIT]) -> bool
+    requires lowering { Lowering (length groups.now) parents.now groups.now dist.old }
     ensures { Lowered
-        (SpreadFrom 1 (length groups.now) j tree.entry.parents.now groups.now dist.old)
+        (SpreadFrom 1 (length groups.now) j parents.now groups.now dist.old)
         dist.old dist.new result }
 {
     let mut lowered = false;
     for v in (1..groups.len()).rev() {
-        lowered |= lower_at(j, tree, groups, dist, v);
+        lowered |= lower_at(j, parents, groups, dist, v);
     }
     lowered
 }
 
 // The distances below j. Passes until one lowers nothing; none for j below 2.
-pub fn distances(j: usize, tree: Tree, before: &[u16], groups: &[u16]) -> [u8; STATE_LIMIT]
-    requires size { length groups.now ≡ length tree.parents.now }
+pub fn distances(j: usize, parents: &[u16], before: &[u16], groups: &[u16]) -> [u8; STATE_LIMIT]
+    requires few { length groups.now ≤ state_limit }
+    requires above { Above (length groups.now) parents.now }
     requires before_size { length before.now ≡ length groups.now }
     requires labelled { Labelled (length groups.now) groups.now }
     requires limit { j ≤ setting_limit }
-    ensures { Spread (length groups.now) j tree.entry.parents.now before.now groups.now
+    ensures { Spread (length groups.now) j parents.now before.now groups.now
         result }
 {
     let mut dist = [SETTING_LIMIT; STATE_LIMIT];
@@ -82,6 +83,6 @@ pub fn distances(j: usize, tree: Tree, before: &[u16], groups: &[u16]) -> [u8; S
     if j < 2 {
         return dist;
     }
-    while lower(j as u8, tree, groups, &mut dist) {}
+    while lower(j as u8, parents, groups, &mut dist) {}
     dist
 }

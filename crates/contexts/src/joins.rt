@@ -159,7 +159,7 @@ pub fn sweep(
         groups.new forks.new.lists.links forks.new.lists.heads forks.new.queue.firsts forks.new.queue.seconds 0 }
 {
     let j = m - 1;
-    let dist = distances(j, tree, before, groups);
+    let dist = distances(j, tree.parents, before, groups);
     before.copy_from_slice(groups);
     let view = View {
         j,

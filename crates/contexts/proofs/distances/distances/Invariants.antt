@@ -8,7 +8,7 @@ use Rattle.contexts.proofs.distances.distances.Given as goal
 abbrev pub invariant-loop : goal.invariant-loop
 invariant-loop l =
     record {
-      lowering : Lowering (length l.groups) l.tree.parents.now l.groups l.dist;
+      lowering : Lowering (length l.groups) l.parents l.groups l.dist;
       unchanged : (u : ℕ) → u < length l.groups → UnchangedAt l.before l.groups l.dist u;
     }
 

@@ -5,4 +5,4 @@ use Rattle.contexts.proofs.distances.lower.Given as goal
 
 abbrev pub invariant-loop-v : goal.invariant-loop-v
 invariant-loop-v l =
-    Lowered (SpreadFrom l.v (length l.groups) l.j l.tree.parents.now l.groups l.initial.dist) l.initial.dist l.dist l.lowered
+    Lowered (SpreadFrom l.v (length l.groups) l.j l.parents l.groups l.initial.dist) l.initial.dist l.dist l.lowered

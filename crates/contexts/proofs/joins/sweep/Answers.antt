@@ -14,7 +14,7 @@ use Rattle.contexts.specs.Joins.{PairsJoined}
 use Rattle.contexts.proofs.ForkLaws.{kept-forks}
 use Rattle.contexts.proofs.ReadyLaws.{arcs_fall}
 use Rattle.contexts.proofs.SweepLaws.{pairs-sweep}
-use Rattle.contexts.proofs.TreeLaws.{tree-arrays}
+use Rattle.contexts.proofs.TreeLaws.{tree-arrays, tree-above}
 use Rattle.contexts.proofs.joins.sweep.Goals as goal
 
 -- all arcs of the groups at first
@@ -24,6 +24,9 @@ ready :
     ArcsReady (length groups) j parents names classes groups dist next links heads
 ready j parents names classes groups before dist next links heads same =
     subst (λ (l : List ℕ). ArcsReady (length l) j parents names classes l dist next links heads) same
+
+pub distances-dist-requires-clause-above : goal.distances-dist-requires-clause-above
+distances-dist-requires-clause-above c = tree-above c.requires.size c.args.tree.arrays
 
 pub invariant_of-pairs-clause-own : goal.invariant_of-pairs-clause-own
 invariant_of-pairs-clause-own c =
