@@ -139,9 +139,6 @@ module _ (s : List ℕ) (p : Place) (at : BookAt s p) where
   pub names-fit : names_end p ≤ length s
   names-fit = let sound = at.read.kept.sound in omega (arith, sound.last_end, sound.names_within, sound.within)
 
-  pub rows-within : offset_at s p.start p.items ≤ length s
-  rows-within = let sound = at.read.kept.sound in omega (arith, sound.items_end, sound.within)
-
   -- it is sound
   book_ok : BookOk (file_of s p)
   book_ok =

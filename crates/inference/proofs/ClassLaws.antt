@@ -11,7 +11,6 @@ use Rattle.base.specs.Limits.{setting_limit, context_kind, seen_set_kind, last_n
 use Rattle.model.specs.Fields.{Class, class_of, context_ok, ClassOk}
 use Rattle.model.specs.Classes.{Word}
 use Rattle.model.specs.Joinings.{tree_of}
-use Rattle.base.proofs.Tests.{tells_eqb, tells_leb, tells_and}
 use Rattle.indexed.specs.Passes.{ContextJoined, FJoined}
 use Rattle.indexed.proofs.Joined.{ClassesOfF}
 use Rattle.indexed.proofs.Values.{last_classes, seen_classes}
@@ -38,10 +37,6 @@ or_none false e = e
 
 pub context_settings : (k h : ℕ) → ClassOk (class_of context_kind k h) → ContextSettings k h
 context_settings k h ok = context_ok_lem k h (or_none (context_ok k h) ok)
-
--- the setting of a number of last names
-pub last_setting : (j : ℕ) → ClassOk (class_of last_names_kind j 0) → j ≤ setting_limit
-last_setting j ok = ((tells_and (tells_leb j setting_limit) (tells_eqb 0 0)).fact ok).0
 
 module _ (n : ℕ) (rows : List Word) (parents names ends groups : List ℕ)
     (tree : TreeIn rows parents names ends) (size : length parents ≡ n) where

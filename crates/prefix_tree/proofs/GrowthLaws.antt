@@ -25,18 +25,6 @@ use Rattle.prefix_tree.proofs.TreeLaws.{row_there}
 
 -- ---- a child looked up
 
--- a cell whose content is not the child tells that there is none
-pub no_child : (count state name : ℕ) (parents names work : List ℕ) (c : ℕ)
-    → c ≡ cell_at work state name → (c < count → get_or parents c 0 ≡ state → get_or names c 0 ≡ name → ⊥)
-    → NoChild count state name parents names work
-no_child count state name parents names work c e out =
-    record {
-      none =
-          λ v h held p n.
-          let same : c ≡ v = e ∙ held in
-          out (omega arith) (ap (λ (k : ℕ). get_or parents k 0) same ∙ p) (ap (λ (k : ℕ). get_or names k 0) same ∙ n);
-    }
-
 module _ {nodes rows : List Word} {count : ℕ} {s : Store} (g : Grown nodes rows count s) (state name : ℕ) (low : state < count)
     (small : name < name_limit) where
   -- the root has no name
