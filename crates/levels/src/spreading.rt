@@ -76,8 +76,8 @@ pub fn spread(table: Opened, ends: &[u16; ENDS]) -> [u16; STATE_LIMIT]
 {
     let mut reached = reach_accepting(table);
     let mut first = 0;
-    // Stays: the queue grows while it is gone through, so that no `for` goes over it; a method that takes the next state is no plainer, since
-    // `reach` and `reach_from` would have to say that they leave `first` as it was.
+    // Stays: the queue grows while it is gone through, so that no `for` goes over it; a method that takes the next state is no plainer,
+    // since `reach` and `reach_from` would have to say that they leave `first` as it was.
     while first < reached.last {
         let t = reached.queue[first] as usize;
         let level = reached.levels[t] + 1;

@@ -22,6 +22,7 @@ use judging::offsets::{body, next_field};
 use judging::sizes::judge_sizes;
 
 // The offset of the field of state q, as the lent area keeps it.
+#[tactic(auto, unfolding(crate::specs::KeptFields::field_at))]
 pub fn field_at(work: &[u8], q: usize) -> usize
     requires q_lt_state_limit { q < state_limit }
     requires work_bytes_in_bounds { work_bytes ≤ length work.now }
@@ -31,6 +32,7 @@ pub fn field_at(work: &[u8], q: usize) -> usize
 }
 
 // Keeps the offset of the field of state q.
+#[tactic(auto, unfolding(crate::specs::KeptFields::with_field))]
 fn keep_field(work: &mut [u8], q: usize, at: usize)
     requires q_lt_state_limit { q < state_limit }
     requires at_lt_number_limit { at < number_limit }

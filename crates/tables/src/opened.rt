@@ -22,6 +22,7 @@ pub struct Opened<'s, 'w> {
 
 impl<'s> Opened<'s, '_> {
     // The bytes of the field of state q.
+    #[tactic(auto, using(crate::proofs::ReadyLaws::state_at))]
     pub fn state(self, q: usize) -> &'s [u8]
         requires { q < length (table_states self.s.now) }
         ensures { StateAt (table_states self.entry.s.now) q result.now }
@@ -44,6 +45,7 @@ impl<'s> Opened<'s, '_> {
         requires q_in_bounds { q < length (table_states self.s.now) }
         ensures { result ≡ name_set (get_or (trimmed (table_states self.entry.s.now)) q empty_state).arcs }
     {
-        name_set(self.state(q), marks)
+        let state = self.state(q);
+        name_set(state, marks)
     }
 }
