@@ -9,6 +9,7 @@ use indexed::Tree;
 
 // The name that an arc adds to the seen set, by the sets before and after it. It adds one where the set after it has more names than
 // the set before it: the lowest name added. The names of equal sets are not counted.
+#[tactic(auto, using(crate::proofs::KeyLaws::not_less, crate::proofs::KeyLaws::added_name, crate::proofs::KeyLaws::added_none))]
 fn added(before: u64, after: u64) -> Option<u8>
     requires with_name { (name : ℕ) × (name < name_limit) × (after ≡ bit_or before (2 ^ name)) }
     ensures { (name : ℕ) → name < name_limit → after ≡ bit_or before (2 ^ name) → result ≡ cond (eqb after before) None (Some name) }
@@ -20,7 +21,7 @@ fn added(before: u64, after: u64) -> Option<u8>
 }
 
 // The names of the arcs that enlarge the seen set, and those of the arcs that do not; no key at the others and at the root.
-// Stays: NAME_LIMIT for none (the clauses KeysWhere speak of it, and an array of u8 has room for no Option).
+// Stays: (a) NAME_LIMIT for none: the clauses KeysWhere speak of it, and an array of u8 has room for no Option.
 pub fn seen_keys(tree: Tree, seen: &[u64], enlarging: &mut [u8], others: &mut [u8])
     requires size { length seen.now ≡ length tree.parents.now }
     requires sets { SeenSets (length seen.now) tree.parents.now tree.names.now seen.now }
