@@ -52,7 +52,8 @@ fn counts_bytes(wanted: bool, states: usize, arcs: usize) -> usize
 }
 
 // The automaton of a joined partition, numbered, its states' fields at the front of an output; and where they are wanted its counts at the
-// front of another. The ends of the tree's states are used up.
+// front of another. The ends of the tree's states are used up. Its arrays are in no frame but its own, as the stack is small.
+#[inline(never)]
 fn write_joined(
     wanted: bool,
     tree: Tree,

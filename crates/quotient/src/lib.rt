@@ -36,15 +36,14 @@ pub fn prepare(tree: Tree, ends: &[u16], groups: &[u16], work: &mut [u8]) -> Quo
         Prepared rows groups.now work.new result.next result.sums result.met.order
         result.met.numbers result.met.count result.arcs }
 {
-    let mut next = [0; STATE_LIMIT];
-    let mut sums = [0; STATE_LIMIT];
-    gathering::gather(tree, groups, work, &mut next);
-    gathering::sum_ends(ends, groups, &mut sums);
-    let (met, arcs) = Met::of(groups, work, &next);
-    Quotient {
-        next,
-        sums,
-        met,
-        arcs,
-    }
+    let mut made = Quotient {
+        next: [0; STATE_LIMIT],
+        sums: [0; STATE_LIMIT],
+        met: Met::new(),
+        arcs: 0,
+    };
+    gathering::gather(tree, groups, work, &mut made.next);
+    gathering::sum_ends(ends, groups, &mut made.sums);
+    made.arcs = made.met.meet_all(groups, work, &made.next);
+    made
 }

@@ -58,28 +58,37 @@ impl Met {
         }
     }
 
-    // Every group met, from the root's on, and how many arcs lead out of them.
-    pub fn of(groups: &[u16], work: &[u8], next: &[u64]) -> (Met, usize)
-        requires gathered { (rows : List Word) × Gathered rows groups.now work.now next.now }
-        ensures { (rows : List Word) → Gathered rows groups.now work.now next.now →
-            NumberedStates rows groups.now result.0.order result.0.numbers result.0.count result.1 }
+    // No group met.
+    pub fn new() -> Met
+        ensures { result.count ≡ 0 }
     {
-        let mut met = Met {
+        Met {
             order: [0; STATE_LIMIT],
             numbers: [NO_STATE; STATE_LIMIT],
             count: 0,
-        };
-        met.meet_one(groups[0] as usize);
+        }
+    }
+
+    // Meets every group, from the root's on, whatever was met before. Returns how many arcs lead out of them.
+    pub fn meet_all(&mut self, groups: &[u16], work: &[u8], next: &[u64]) -> usize
+        requires gathered { (rows : List Word) × Gathered rows groups.now work.now next.now }
+        ensures { (rows : List Word) → Gathered rows groups.now work.now next.now →
+            NumberedStates rows groups.now self.new.order self.new.numbers self.new.count result }
+    {
+        self.order = [0; STATE_LIMIT];
+        self.numbers = [NO_STATE; STATE_LIMIT];
+        self.count = 0;
+        self.meet_one(groups[0] as usize);
         let mut arcs = 0;
         let mut i = 0;
         // Stays: no range, since groups are met while the loop runs.
-        while i < met.count {
-            let g = met.order[i] as usize;
+        while i < self.count {
+            let g = self.order[i] as usize;
             let names = next[g];
-            met.meet(work, g, names);
+            self.meet(work, g, names);
             arcs += how_many(names);
             i += 1;
         }
-        (met, arcs)
+        arcs
     }
 }

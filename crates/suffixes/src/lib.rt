@@ -131,7 +131,9 @@ fn drop_short(bound: u64, values: &[u64], classes: &mut [u16])
     }
 }
 
-// The classes by the last i names: those of equal codes, none for states with fewer names.
+// The classes by the last i names: those of equal codes, none for states with fewer names. Its arrays are in no frame but its own, as
+// the stack is small.
+#[inline(never)]
 pub fn suffix_classes(i: usize, tree: Tree, classes: &mut [u16])
     requires size { length classes.old ≡ length tree.parents.now }
     requires i_le_setting_limit { i ≤ setting_limit }
@@ -145,7 +147,8 @@ pub fn suffix_classes(i: usize, tree: Tree, classes: &mut [u16])
 }
 
 // The partition by the last k names: a state with fewer names has a code that no other has, and is by itself. True where any states
-// were joined.
+// were joined. Its arrays are in no frame but its own, as the stack is small.
+#[inline(never)]
 pub fn by_suffix(k: usize, tree: Tree, groups: &mut [u16]) -> bool
     requires size { length groups.old ≡ length tree.parents.now }
     requires few { k ≤ setting_limit }

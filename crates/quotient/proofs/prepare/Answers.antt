@@ -11,7 +11,7 @@ returns c =
     let groups = c.args.groups.now in
     λ rows joined ends.
     let gathered = c.gather.ensures rows joined in
-    let states = c.of-arcs.ensures rows gathered in
+    let states = c.meet_all.ensures rows gathered in
     record {
       ready =
           record {

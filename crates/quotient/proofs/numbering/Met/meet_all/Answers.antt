@@ -10,8 +10,8 @@ use Rattle.quotient.specs.Gathered.{Gathered}
 use Rattle.quotient.proofs.MetLaws.{Numbering, met-low, root_meeting, numbering_start, numbering_few, numbering_nth}
 use Rattle.quotient.proofs.MetLaws.{numbering_more, numbering_end}
 use Rattle.quotient.proofs.StatePieces.{states_all, arcs_count_more, arcs_count_none}
-use Rattle.quotient.proofs.numbering.Met.of.Invariants.{Counting}
-use Rattle.quotient.proofs.numbering.Met.of.Goals as goal
+use Rattle.quotient.proofs.numbering.Met.meet_all.Invariants.{Counting}
+use Rattle.quotient.proofs.numbering.Met.meet_all.Goals as goal
 
 -- no more groups are met than there may be states
 room :
@@ -81,18 +81,18 @@ pub meet-requires-clause-by_index : goal.meet-requires-clause-by_index
 meet-requires-clause-by_index c =
     let args = c.args in
     let at = c.loop-i in
-    let g = get_or at.met.order at.i 0 in
+    let g = get_or at.self.order at.i 0 in
     let rows = c.requires.gathered.0 in
     let gathered = c.requires.gathered.1 in
     let meeting =
-    numbering_more rows args.groups.now args.work.now args.next.now gathered at.met.order at.met.numbers at.i at.met.count g
+    numbering_more rows args.groups.now args.work.now args.next.now gathered at.self.order at.self.numbers at.i at.self.count g
     (get_or args.next.now g 0) (at.invariant.so_far rows gathered).numbering c.loop-i-test.true refl refl in
     (length (tree_of rows), meeting.after, meeting.meeting)
 
 -- no group has more than 64 arcs
 pub overflow_add-arcs : goal.overflow_add-arcs
 overflow_add-arcs c =
-    let g = get_or c.loop-i.met.order c.loop-i.i 0 in
+    let g = get_or c.loop-i.self.order c.loop-i.i 0 in
     let most = ones-le 64 (get_or c.args.next.now g 0) (c.type_inv.next g).fits in
     omega (arith, c.how_many-arcs.ensures, c.loop-i.invariant.few, c.loop-i.invariant.room)
 
@@ -102,7 +102,7 @@ loop-i-preserved c =
     let work = c.args.work.now in
     let next = c.args.next.now in
     let at = c.loop-i in
-    let g = get_or at.met.order at.i 0 in
+    let g = get_or at.self.order at.i 0 in
     let met = c.meet.new.self in
     let most = ones-le 64 (get_or next g 0) (c.type_inv.next g).fits in
     let after :
@@ -111,10 +111,10 @@ loop-i-preserved c =
     λ rows gathered.
     let before = at.invariant.so_far rows gathered in
     let meeting =
-    numbering_more rows groups work next gathered at.met.order at.met.numbers at.i at.met.count g (get_or next g 0)
+    numbering_more rows groups work next gathered at.self.order at.self.numbers at.i at.self.count g (get_or next g 0)
     before.numbering c.loop-i-test.true refl refl in
     let here =
-    numbering_nth rows groups work next gathered at.met.order at.met.numbers at.i at.met.count g before.numbering
+    numbering_nth rows groups work next gathered at.self.order at.self.numbers at.i at.self.count g before.numbering
     c.loop-i-test.true refl in
     let low = met-low before.numbering.seen before.numbering.so_far at.i c.loop-i-test.true in
     record {
@@ -144,7 +144,7 @@ returns c =
     λ rows gathered.
     let counting = at.invariant.so_far rows gathered in
     let every =
-    numbering_end rows groups c.args.work.now c.args.next.now gathered at.met.order at.met.numbers at.i at.met.count
+    numbering_end rows groups c.args.work.now c.args.next.now gathered at.self.order at.self.numbers at.i at.self.count
     counting.numbering c.loop-i-test.false in
     record {
       numbered = every;

@@ -8,7 +8,7 @@ use Rattle.model.specs.Tables.{arc_count}
 use Rattle.quotient.specs.Gathered.{Gathered}
 use Rattle.quotient.proofs.MetLaws.{Numbering}
 use Rattle.quotient.proofs.StatePieces.{states_from}
-use Rattle.quotient.proofs.numbering.Met.of.Given as goal
+use Rattle.quotient.proofs.numbering.Met.meet_all.Given as goal
 
 -- the first i groups met are looked at, and their arcs counted
 pub record Counting (rows : List Word) (groups met numbers : List ℕ) (count arcs i : ℕ) : Type 0 where
@@ -17,11 +17,11 @@ pub record Counting (rows : List Word) (groups met numbers : List ℕ) (count ar
 
 abbrev pub invariant-loop-i : goal.invariant-loop-i
 invariant-loop-i l = record {
-  room : l.met.count ≤ state_limit;
+  room : l.self.count ≤ state_limit;
   few : l.arcs ≤ 64 * l.i;
   so_far :
       (rows : List Word) → Gathered rows l.groups l.work l.next →
-      Counting rows l.groups l.met.order l.met.numbers l.met.count l.arcs l.i;
+      Counting rows l.groups l.self.order l.self.numbers l.self.count l.arcs l.i;
 }
 
 abbrev pub decreases-loop-i : goal.decreases-loop-i
