@@ -77,7 +77,8 @@ fn climb_all(m: usize, tree: Tree, starts: &[u16], groups: &mut [u16])
     }
 }
 
-// The climbs of all states, each with the label of its group as it was at first.
+// The climbs of all states, each with the label of its group as it was at first. Its array is in no frame but its own.
+#[inline(never)]
 fn climb_starts(m: usize, tree: Tree, groups: &mut [u16])
     requires size { length groups.old ≡ length tree.parents.now }
     requires labelled { Labelled (length groups.old) groups.old }
@@ -137,7 +138,9 @@ fn run_rounds(h: usize, m: usize, tree: Tree, groups: &mut [u16])
     );
 }
 
-// Joins by the context rule until it applies no more: not at all where no two states have the same last k names.
+// Joins by the context rule until it applies no more: not at all where no two states have the same last k names. Its arrays are
+// in no frame but its own, as the stack is small.
+#[inline(never)]
 pub fn join_by_context(k: usize, h: usize, tree: Tree, groups: &mut [u16])
     requires size { length groups.old ≡ length tree.parents.now }
     requires some { 0 < h }
