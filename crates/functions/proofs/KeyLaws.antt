@@ -1,7 +1,7 @@
 -- Laws of the keys of one arc: what its name adds to the seen set before it, and which keys that gives. Assumes nothing.
 use mathlib.Core.Path.{◌≡◌, refl, sym, ap, ◌∙◌, subst}
 use mathlib.Core.Logic.{◌⊎◌, inl, inr, ⊎_elim}
-use mathlib.Core.Bool.{Bool, true, false, not, cond, beq, true≢false, false≢true}
+use mathlib.Core.Bool.{Bool, true, false, cond, beq}
 use mathlib.Core.List.{List}
 use Prim.Native.Nat.{ℕ, zero, suc, ◌+◌, ◌-◌, ◌*◌, ◌/◌, ◌%◌, ◌^◌, ◌<◌, ◌≤◌, min}
 use native.Mathlib.Nat.{pow-suc}
@@ -94,18 +94,15 @@ pub record KeyAt (enlarge : Bool) (parents names seen : List ℕ) (v answer : �
       0 < v →
       answer ≡ cond (beq (eqb (get_or seen v 0) (get_or seen (get_or parents v 0) 0)) enlarge) name_limit (get_or names v 0)
 
--- a key told by the name added, and by whether there is none
+-- a key told by the name added, and by whether there is one
 key_added : (same : Bool) (name : ℕ) → unwrap_or (cond same None (Some name)) name_limit ≡ cond (beq same true) name_limit name
 key_added true name = refl
 key_added false name = refl
 
-key_kept :
-    (same none : Bool) (name : ℕ) → is_some (cond same None (Some name)) ≡ not none →
-    cond none name name_limit ≡ cond (beq same false) name_limit name
-key_kept true true name e = refl
-key_kept true false name e = absurd (false≢true e)
-key_kept false true name e = absurd (true≢false e)
-key_kept false false name e = refl
+key_kept : (same : Bool) (name : ℕ) →
+    cond (is_some (cond same None (Some name))) name_limit name ≡ cond (beq same false) name_limit name
+key_kept true name = refl
+key_kept false name = refl
 
 -- the keys of an arc, by the sets at its ends
 module _ (parents names seen : List ℕ) (v x : ℕ) (lowest : Option ℕ) (some : 0 < v)
@@ -121,11 +118,10 @@ module _ (parents names seen : List ℕ) (v x : ℕ) (lowest : Option ℕ) (some
         arc = λ h. e ∙ ap (λ (o : Option ℕ). unwrap_or o name_limit) is ∙ key_added same (get_or names v 0);
       }
 
-  pub key_other :
-      (none : Bool) → is_some lowest ≡ not none → x ≡ cond none (get_or names v 0) name_limit → KeyAt false parents names seen v x
+  pub key_other : x ≡ cond (is_some lowest) name_limit (get_or names v 0) → KeyAt false parents names seen v x
   unfolding same
-  key_other none empty e =
+  key_other e =
       record {
         root = λ q. absurd (omega arith);
-        arc = λ h. e ∙ key_kept same none (get_or names v 0) (sym (ap is_some is) ∙ empty);
+        arc = λ h. e ∙ ap (λ (o : Option ℕ). cond (is_some o) name_limit (get_or names v 0)) is ∙ key_kept same (get_or names v 0);
       }

@@ -37,6 +37,6 @@ pub fn seen_keys(tree: Tree, seen: &[u64], enlarging: &mut [u8], others: &mut [u
         let name = tree.names[v];
         let lowest = added(seen[parent], seen[v]);
         enlarging[v] = lowest.unwrap_or(NAME_LIMIT);
-        others[v] = if lowest.is_none() { name } else { NAME_LIMIT };
+        others[v] = if lowest.is_some() { NAME_LIMIT } else { name };
     }
 }

@@ -1,11 +1,12 @@
 use mathlib.Core.Path.{◌≡◌, ◌∙◌, sym, ap}
 use mathlib.Core.Bool.{Bool, cond}
 use Rattle.std.proofs.Common.{◌<◌, length, slice_index_or, arith}
+use Rattle.std.specs.Option.{is_some}
 use Rattle.base.specs.Limits.{name_limit}
 use Rattle.base.proofs.Fills.{filled_more}
 use Rattle.functions.proofs.KeyLaws.{key_enlarging, key_other}
 use Rattle.functions.proofs.keys.seen_keys.Goals as goal
-use Rattle.functions.proofs.keys.seen_keys.Goals.{then-is_none, else-is_none}
+use Rattle.functions.proofs.keys.seen_keys.Goals.{then-is_some, else-is_some}
 
 pub loop-v-preserved : goal.loop-v-preserved
 loop-v-preserved c =
@@ -15,13 +16,14 @@ loop-v-preserved c =
     let inside : v < length seen = omega arith in
     let below = c.args.tree.arrays.name_below v (omega arith) (omega arith) in
     let lowest = c.added-lowest.ensures _ below (c.requires.sets.arc_seen v (omega arith) inside) in
-    let other : c.if-is_none.others ≡ cond c.is_none.result (slice_index_or names v 0) name_limit = elim c.if-is_none.branch [
-      | then-is_none w ↦ w.others-is ∙ sym (ap (λ (b : Bool). cond b (slice_index_or names v 0) name_limit) w.if-is_none.true)
-      | else-is_none w ↦ w.others-is ∙ sym (ap (λ (b : Bool). cond b (slice_index_or names v 0) name_limit) w.if-is_none.false)
+    let other = λ (b : Bool). cond b name_limit (slice_index_or names v 0) in
+    let kept : c.if-is_some.others ≡ other (is_some c.added-lowest.result) = elim c.if-is_some.branch [
+      | then-is_some w ↦ w.others-is ∙ ap other (sym w.if-is_some.true ∙ c.is_some.ensures)
+      | else-is_some w ↦ w.others-is ∙ ap other (sym w.if-is_some.false ∙ c.is_some.ensures)
     ] in
     record {
       enlarging = filled_more _ v _ _ _ (omega arith) (key_enlarging _ _ seen v _ _ (omega arith) lowest c.unwrap_or.ensures)
           c.loop-v.invariant.enlarging;
       others = filled_more _ v _ _ _ (omega arith)
-          (key_other _ _ seen v _ _ (omega arith) lowest c.is_none.result c.is_none.ensures other) c.loop-v.invariant.others;
+          (key_other _ _ seen v _ _ (omega arith) lowest kept) c.loop-v.invariant.others;
     }
