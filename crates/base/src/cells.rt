@@ -1,5 +1,7 @@
 // The lent working area as rows of cells of two bytes, a row for each state and a cell for each name: read a cell, write a cell, clear
 // the area.
+// Stays: (d) the area is a slice, and `work_bytes ≤ length work` stands in the contracts: C lends a slice of any length, which is judged
+// (refusal 1) and cleared whole; a fixed array made of its front would be a second value of the same bytes.
 ghost use Rattle.std.specs.Prelude.{◌≡◌, ◌<◌, ◌≤◌, length, replicate};
 ghost use Rattle.base.specs.Limits.{name_limit, state_limit, work_bytes, number_limit};
 ghost use Rattle.base.specs.Cells.{with_cell, IsCell};

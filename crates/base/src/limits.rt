@@ -39,6 +39,8 @@ pub const PLAN_DEPTH: usize = 16;
 pub const ROWS_BYTES: usize = BOOK_ROWS * (3 + ROW_LIMIT);
 
 // The marks of fields.
+// Stays: (d) marks and kinds are bytes of the files: a mark is matched where it is read and put where it is written, and the numbers of
+// kinds stand in patterns alone, from which `judging::classes::Rule` is made.
 pub const NAME_MARK: u8 = 1;
 
 pub const CLASS_MARK: u8 = 2;

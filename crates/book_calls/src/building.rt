@@ -15,7 +15,7 @@ use results::{Built, Counted};
 
 // Refusals 1, the fields', 10, 13; otherwise the table stands at the front of the output, and where they are wanted the counts stand at the
 // front of another.
-// Stays: `wanted` beside `counts`, as in `infer`: `building_counted` has the flag, and two outputs whether counts are wanted or not.
+// Stays: (a) `wanted` beside `counts`, as in `infer`: `building_counted` has the flag, and two outputs whether counts are wanted or not.
 pub fn build_with(
     default: Class,
     wanted: bool,

@@ -44,7 +44,7 @@ pub struct Place {
     // how many names; the first of them begins at offset 0
     pub names: u8,
     // where the last name's bytes begin, and how many they are; 0 and 0 where there is no name yet
-    // Stays: no slice in their place, since a place is kept and handed on without the input that it speaks of
+    // Stays: (d) no slice in their place, since a place is kept and handed on without the input that it speaks of
     pub last: usize,
     pub width: usize,
     // the class
@@ -95,6 +95,8 @@ impl FileKind {
 }
 
 // A name field, where a name may come: the place after it, or what refuses it.
+// Stays: (d) the input and a place go as two values, with `Whole` or `Sound` between them: each field makes a new place of the same input,
+// and one value of both would be taken apart and put together again.
 fn name_field(s: &[u8], p: Place) -> Result<Place, Refusal>
     requires whole { Whole s.now p }
     requires stage_le_names_met { stage_of p.stage ≤ names_met }

@@ -136,7 +136,7 @@ fn join_and_write(
 // The table of an accepted book at the front of the output, which is untouched beyond it, and where they are wanted its counts at the front
 // of another: their lengths, the states, the joins and the different rows; or refusal 10 or 13, and both outputs are as they were. The lent
 // area may hold anything at first.
-// Stays: `wanted` beside `counts`: of an `Option<&mut [u8]>` the contract names the bytes left only by the place of a variant's field
+// Stays: (d) `wanted` beside `counts`: of an `Option<&mut [u8]>` the contract names the bytes left only by the place of a variant's field
 // (`counts.exit`), which is no plainer than the two outputs of `inferring`.
 pub fn infer(
     wanted: bool,

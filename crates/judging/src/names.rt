@@ -69,7 +69,7 @@ pub fn name_fault(last: &[u8], count: u8, name: &[u8]) -> Result<(), Refusal>
 
 // The bytes of name n of a list of `count` name fields, as a part of it; nothing where there is no such name. The list may stand at the
 // front of a file.
-// Stays: no bytes for no name, as the clause of `name_at` has it (model's names by number, which listings cite, are the same).
+// Stays: (a) no bytes for no name, as the clause of `name_at` has it (model's names by number, which listings cite, are the same).
 #[tactic(auto, using(crate::proofs::OffsetLaws::names_turned), unfolding(crate::specs::Offsets::offset_at))]
 pub fn name_at(list: &[u8], count: u8, n: u8) -> &[u8]
     requires { offset_at list.now 0 count ≤ length list.now }

@@ -32,6 +32,7 @@ pub fn find_levels(s: &[u8], count: usize, work: &mut [u8]) -> [u16; STATE_LIMIT
 
 // Marks the states that have a way to an accepting one. Where every state accepts or has an arc to one of a higher number, as in the prefix
 // tree, all have one, and nothing need be sorted.
+// Stays: (a) marks are numbers, 0 for no way, since `Marked` speaks of them so, and levels serve as marks.
 pub fn mark_live(s: &[u8], count: usize, work: &mut [u8]) -> [u16; STATE_LIMIT]
     requires ready { Ready s.now work.old }
     requires count_value { count ≡ length (table_states s.now) }

@@ -12,6 +12,7 @@ use base::limits::STATE_LIMIT;
 use tables::opened::Opened;
 
 // The level of each state, 0 for none yet; and the states that have one, in the order in which they got it, as many as `last`.
+// Stays: (a) 0 for none and arrays side by side: fixed memory, and LevelsFound speaks of these numbers.
 #[derive(Drop)]
 struct Reached {
     levels: [u16; STATE_LIMIT],
@@ -76,7 +77,7 @@ pub fn spread(table: Opened, ends: &[u16; ENDS]) -> [u16; STATE_LIMIT]
 {
     let mut reached = reach_accepting(table);
     let mut first = 0;
-    // Stays: the queue grows while it is gone through, so that no `for` goes over it; a method that takes the next state is no plainer,
+    // Stays: (d) the queue grows while it is gone through, so that no `for` goes over it; a method that takes the next state is no plainer,
     // since `reach` and `reach_from` would have to say that they leave `first` as it was.
     while first < reached.last {
         let t = reached.queue[first] as usize;

@@ -26,6 +26,7 @@ fn has_arguments(rt: &impl Env) -> bool {
 }
 
 // All of an input, or so much of it as shows that it is over the longest.
+// Stays: (d) worked_days has the same three lines; a crate for them, of which each program has to be told, is no plainer.
 fn read_book<R: Read + Drop>(alloc: Global, input: R) -> io::Result<Vec<u8>> {
     let mut book = Vec::new(alloc);
     input.take(INPUT_LIMIT as u64 + 1).read_to_end(&mut book)?;

@@ -76,8 +76,9 @@ impl<'a> Index<'a> {
     }
 
     // The number of a name; how many names there are where it is none of them.
-    // Stays: the count for none and no `Option`, since `name_number` gives it, and plan_reading writes it into its log as it is.
-    // Stays: a search by hand, since `binary_search_by` asks for a closure that takes any offset, and `body` takes those of fields.
+    // Stays: (a) the count for none and no `Option`, since `name_number` gives it, and plan_reading writes it into its log as it is.
+    // Stays: (d) a search by hand: `binary_search_by` goes over the offsets with a closure that may be asked of any number, and `body`
+    // takes only those at which a name begins.
     pub fn number_of(&self, name: &[u8]) -> u8
         requires ascends { Ascends (fields_at self.now.list.now 0 self.now.count) }
         ensures { result ≡ name_number (fields_at self.now.list.now 0 self.now.count) name.now }

@@ -1,4 +1,6 @@
 // A partition as a forest: each state has a state above it, lower than itself, or is a root, and a group goes by its root.
+// Stays: (d) the forest is a slice, and `Forest` stands in the contracts: `groups` is a partition before the joins and after `flatten`, and
+// a forest only between, so that a struct would be made and taken apart around each run of joins.
 ghost use Rattle.std.specs.Prelude.{◌≡◌, ◌<◌, ◌≤◌, length, get_or, MatchOption};
 ghost use Rattle.base.specs.Limits.{state_limit};
 ghost use Rattle.partition.specs.Forests.{Forest, roots_of, FoundRoot, United, JoinedRoots};

@@ -3,7 +3,7 @@ ghost use Rattle.std.specs.Prelude.{◌≡◌, [], ◌∷◌, ◌++◌, ◌+◌,
 ghost use Rattle.written_plans.specs.Logs.{entries_at};
 ghost use Rattle.plan_reading.specs.Turns.{entry};
 
-// Stays: the log goes as the lent area with the number of tags beside it, (d): reading itself needs that number, to tell before from after
+// Stays: (d) the log goes as the lent area with the number of tags beside it: reading itself needs that number, to tell before from after
 // the outermost element, and would keep a second one.
 // One entry more, after so many: the number of a name, and how many elements are around.
 #[tactic(auto, using(crate::proofs::LogLaws::entry_put))]

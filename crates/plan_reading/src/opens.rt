@@ -13,6 +13,7 @@ pub struct Open {
 }
 
 // The open elements, the outermost first: so many of these are open.
+// Stays: (a) a length beside an array: nothing is allocated.
 #[derive(Drop)]
 pub struct Stack {
     pub opens: [Open; PLAN_DEPTH],

@@ -13,7 +13,7 @@ use base::refusals::Refusal;
 use judging::offsets::{body, next_field};
 
 // The states so far are the first `count` places; the root's name is NAME_LIMIT, which is no name.
-// Stays: arrays side by side, and that name: `TreeArrays` has both, and `Tree` lends two of the arrays.
+// Stays: (a) arrays side by side, and that name: `TreeArrays` has both, and `Tree` lends two of the arrays.
 #[derive(Drop)]
 pub struct Growing {
     pub parents: [u16; STATE_LIMIT],

@@ -19,6 +19,7 @@ use numbering::Met;
 
 // The automaton: for each group the set of the names that lead out of it and how many rows end in it; the groups that are its states,
 // with their numbers; and how many arcs it has.
+// Stays: (a) arrays side by side, by group: fixed memory, and `Prepared` takes each as a list.
 #[derive(Drop)]
 pub struct Quotient {
     pub next: [u64; STATE_LIMIT],

@@ -12,7 +12,7 @@ use base::limits::{NO_STATE, STATE_LIMIT};
 use base::sets::{Names, how_many};
 
 // The groups met, `count` of them in the order in which they were met, and the number of each.
-// Stays: `NO_STATE` for a group that has no number, since `MetAs.unmet` says so.
+// Stays: (a) `NO_STATE` for a group that has no number, since `MetAs.unmet` says so.
 #[derive(Drop)]
 pub struct Met {
     pub order: [u16; STATE_LIMIT],
@@ -81,7 +81,7 @@ impl Met {
         self.meet_one(groups[0] as usize);
         let mut arcs = 0;
         let mut i = 0;
-        // Stays: no range, since groups are met while the loop runs.
+        // Stays: (d) no range, since groups are met while the loop runs.
         while i < self.count {
             let g = self.order[i] as usize;
             let names = next[g];

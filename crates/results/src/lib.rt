@@ -1,4 +1,5 @@
 // What the public entries give back, in Rattle and C alike.
+// Stays: (a) the C interface: a refusal and the end of a walk are numbers in these structs, and 0 stands for none.
 #![tactic(auto)]
 
 ghost use Rattle.std.specs.Prelude.{◌≡◌};

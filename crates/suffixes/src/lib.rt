@@ -90,7 +90,7 @@ fn top_name(j: usize, code: u64) -> Option<u8>
 
 // The name before the last j names of each state, no name where there is none: the first of the code of j + 1 names, which are one name
 // more than the j of the state before it.
-// Stays: NAME_LIMIT for none (the clause NamesAbove speaks of it, and an array of u8 has room for no Option).
+// Stays: (a) NAME_LIMIT for none (the clause NamesAbove speaks of it, and an array of u8 has room for no Option).
 fn names_above(j: usize, tree: Tree, values: &[u64], keys: &mut [u8])
     requires size { length values.now ≡ length tree.parents.now }
     requires few { j ≤ setting_limit }
@@ -119,7 +119,7 @@ pub fn codes_and_names_above(j: usize, tree: Tree, values: &mut [u64], keys: &mu
 }
 
 // No class for the states with codes below the least.
-// Stays: NO_STATE for none (the clause SuffixClasses speaks of it, and an array of u16 has room for no Option).
+// Stays: (a) NO_STATE for none (the clause SuffixClasses speaks of it, and an array of u16 has room for no Option).
 fn drop_short(bound: u64, values: &[u64], classes: &mut [u16])
     requires { length values.now ≡ length classes.old }
     ensures { Dropped (length classes.old) bound values.now classes.old classes.new }

@@ -26,7 +26,8 @@ fn bucket(value: u64) -> usize
 
 // The first accepting states of the values met so far, in a list for each bucket: the last state of each list, and for each state in a
 // list the one before it there; each plus one, 0 for none.
-// Stays: 0 for none (fixed memory: two bytes for each number, where an Option takes four; and the record Chained speaks of it).
+// Stays: (a) 0 for none, and a number plus one else (fixed memory: two bytes for each number, where an Option takes four; and the record
+// Chained speaks of it).
 #[derive(Drop)]
 struct Firsts {
     links: [u16; STATE_LIMIT],

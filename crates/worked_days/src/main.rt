@@ -16,8 +16,8 @@ use std::io::Read;
 use std::rt::Files;
 use std::{fs, io};
 
-// The days and the example of docs/SCOPE.md, and three days more; then the sources' examples, from the surfaces of document 000 and the entries
-// of document 002. One more is a file in data/ and a name here.
+// The days and the example of docs/SCOPE.md, and three days more; then the sources' examples, from the surfaces of document 000 and the
+// entries of document 002. One more is a file in data/ and a name here.
 const FILES: [&str; 23] = [
     "P1.book",
     "P2.book",
@@ -56,7 +56,7 @@ fn day(rt: &(impl Files + Print + Eprint + AllocGlobal), name: &str) -> io::Resu
     }
 }
 
-// All of a file, or so much of it as shows that it is over the longest input.
+// All of a file, or so much of it as shows that it is over the longest input. (As in listing, which says why it stands twice.)
 fn read_book<R: Read + Drop>(alloc: Global, file: R) -> io::Result<Vec<u8>> {
     let mut book = Vec::new(alloc);
     file.take(INPUT_LIMIT as u64 + 1).read_to_end(&mut book)?;

@@ -1,4 +1,5 @@
-// What the edges of books, of tables and of plans share: memory to lend, files put together from parts, and the line that says what came of one.
+// What the edges of books, of tables and of plans share: memory to lend, files put together from parts, and the line that says what came of
+// one.
 ghost use Rattle.std.specs.Prelude.{◌≡◌, length};
 
 use base::limits::WORK_BYTES;

@@ -1,5 +1,7 @@
 // The writer: bytes written once into a lent output, one writing after the other. Each function writes its bytes from offset `at`, or at
 // the front, leaves the rest of the output as it was, and returns the offset after them; the caller sees that they fit.
+// Stays: (d) the output and an offset go in, and the next offset comes back: a state's head and a row's are written after what follows
+// them, at an earlier offset, so that no cursor serves, and `Fits` and `Put` speak of the output before and after.
 #![tactic(auto)]
 
 pub mod decimals;
