@@ -36,6 +36,7 @@ pub struct Arcs {
     pub next: [u64; STATE_LIMIT],
     pub links: [u16; STATE_LIMIT],
     pub heads: [u16; STATE_LIMIT],
+    pub ghost size: { length links ≡ state_limit },
 }
 
 impl Arcs {
@@ -106,18 +107,15 @@ impl Arcs {
         }
     }
 
-    // The arcs out of the groups of a sweep, by the classes of the states that they lead into, and how near their groups are.
-    pub fn new(by: &Marks) -> Arcs
+    // The arcs out of the groups of a sweep, by the classes of the states that they lead into, and how near their groups are; none is
+    // linked at first.
+    pub fn link_all(&mut self, by: &Marks)
+        requires none { ArcsLinked 1 by.now.view.j by.now.view.tree.parents.now by.now.view.tree.names.now
+            by.now.classes.now by.now.view.old.now by.now.dist.now self.old.next self.old.links self.old.heads }
         ensures { ArcsReady (length by.now.view.old.now) by.now.view.j by.now.view.tree.parents.now by.now.view.tree.names.now
-            by.now.classes.now by.now.view.old.now by.now.dist.now result.next result.links result.heads }
+            by.now.classes.now by.now.view.old.now by.now.dist.now self.new.next self.new.links self.new.heads }
     {
-        let mut arcs = Arcs {
-            next: [0u64; STATE_LIMIT],
-            links: [0u16; STATE_LIMIT],
-            heads: [0u16; STATE_LIMIT],
-        };
-        arcs.link_near(by);
-        arcs.link_far(by.classes);
-        arcs
+        self.link_near(by);
+        self.link_far(by.classes);
     }
 }

@@ -166,7 +166,12 @@ pub fn sweep(
         tree,
         old: before,
     };
-    let arcs = Arcs::new(&Marks {
+    let mut arcs = Arcs {
+        next: [0; STATE_LIMIT],
+        links: [0; STATE_LIMIT],
+        heads: [0; STATE_LIMIT],
+    };
+    arcs.link_all(&Marks {
         view,
         classes,
         dist: &dist,

@@ -21,7 +21,7 @@ use fields::Place;
 use indexed::Tree;
 use judging::classes::Class;
 use prefix_tree::Growing;
-use quotient::prepare;
+use quotient::Quotient;
 use quotient::states::write_states;
 use writing::put_front;
 
@@ -71,7 +71,8 @@ fn write_joined(
         (length (made_of rows groups.now))
         (out.old ∷ (counts.old ∷ [])) (out.new ∷ (counts.new ∷ [])) result }
 {
-    let automaton = prepare(tree, ends, groups, work);
+    let mut automaton = Quotient::new();
+    automaton.prepare(tree, ends, groups, work);
     let states = automaton.met.count;
     let arcs = automaton.arcs;
     let size = counts_bytes(wanted, states, arcs);

@@ -6,12 +6,11 @@ pub mod gathering;
 pub mod numbering;
 pub mod states;
 
-ghost use Rattle.std.specs.Prelude.{List, ◌≤◌, length};
+ghost use Rattle.std.specs.Prelude.{◌≡◌, List, ◌≤◌, length};
 ghost use Rattle.model.specs.Classes.{Word};
-ghost use Rattle.base.specs.Limits.{work_bytes};
+ghost use Rattle.base.specs.Limits.{state_limit, work_bytes};
 ghost use Rattle.indexed.specs.Trees.{EndsArray};
 ghost use Rattle.indexed.specs.Partitions.{Joined};
-ghost use Rattle.quotient.specs.Ready.{Prepared};
 
 use base::limits::STATE_LIMIT;
 use indexed::Tree;
@@ -26,25 +25,35 @@ pub struct Quotient {
     pub sums: [u16; STATE_LIMIT],
     pub met: Met,
     pub arcs: usize,
+    pub ghost sized: { (length next ≡ state_limit) × (length sums ≡ state_limit) },
 }
 
-// Makes all ready for the states to be written. The lent area may hold anything.
-pub fn prepare(tree: Tree, ends: &[u16], groups: &[u16], work: &mut [u8]) -> Quotient
-    requires joined { (rows : List Word) × Joined rows tree.parents.now tree.names.now groups.now × EndsArray rows ends.now }
-    requires work_bytes_in_bounds { work_bytes ≤ length work.old }
-    ensures { (rows : List Word) → Joined rows tree.entry.parents.now tree.entry.names.now groups.now →
-        EndsArray rows ends.now →
-        Prepared rows groups.now work.new result.next result.sums result.met.order
-        result.met.numbers result.met.count result.arcs }
-{
-    let mut made = Quotient {
-        next: [0; STATE_LIMIT],
-        sums: [0; STATE_LIMIT],
-        met: Met::new(),
-        arcs: 0,
-    };
-    gathering::gather(tree, groups, work, &mut made.next);
-    gathering::sum_ends(ends, groups, &mut made.sums);
-    made.arcs = made.met.meet_all(groups, work, &made.next);
-    made
+impl Quotient {
+    ghost use Rattle.quotient.specs.Ready.{Prepared};
+
+    // Nothing gathered yet.
+    pub fn new() -> Quotient
+        ensures { result.arcs ≡ 0 }
+    {
+        Quotient {
+            next: [0; STATE_LIMIT],
+            sums: [0; STATE_LIMIT],
+            met: Met::new(),
+            arcs: 0,
+        }
+    }
+
+    // Makes all ready for the states to be written. The lent area, and what was gathered before, may hold anything.
+    pub fn prepare(&mut self, tree: Tree, ends: &[u16], groups: &[u16], work: &mut [u8])
+        requires joined { (rows : List Word) × Joined rows tree.parents.now tree.names.now groups.now × EndsArray rows ends.now }
+        requires work_bytes_in_bounds { work_bytes ≤ length work.old }
+        ensures { (rows : List Word) → Joined rows tree.entry.parents.now tree.entry.names.now groups.now →
+            EndsArray rows ends.now →
+            Prepared rows groups.now work.new self.new.next self.new.sums self.new.met.order
+            self.new.met.numbers self.new.met.count self.new.arcs }
+    {
+        gathering::gather(tree, groups, work, &mut self.next);
+        gathering::sum_ends(ends, groups, &mut self.sums);
+        self.arcs = self.met.meet_all(groups, work, &self.next);
+    }
 }

@@ -12,7 +12,7 @@ pub counts_bytes-size-requires : goal.counts_bytes-size-requires
 counts_bytes-size-requires c =
     let rows = c.requires.joined_tree.0 in
     let tree = c.requires.joined_tree.1 in
-    let done = c.prepare-automaton.ensures rows tree.joined tree.ends_are in
+    let done = c.prepare.ensures rows tree.joined tree.ends_are in
     let most = made_few rows c.args.tree.parents.now c.args.tree.names.now c.args.groups.now tree.joined in
     (omega (arith, done.counted, most.0), omega (arith, done.arcs_are, most.1))
 
@@ -20,7 +20,7 @@ pub overflow_mul-states : goal.overflow_mul-states
 overflow_mul-states c =
     let rows = c.requires.joined_tree.0 in
     let tree = c.requires.joined_tree.1 in
-    let done = c.prepare-automaton.ensures rows tree.joined tree.ends_are in
+    let done = c.prepare.ensures rows tree.joined tree.ends_are in
     let most = made_few rows c.args.tree.parents.now c.args.tree.names.now c.args.groups.now tree.joined in
     omega (arith, done.counted, most.0)
 
@@ -28,7 +28,7 @@ pub overflow_mul-arcs : goal.overflow_mul-arcs
 overflow_mul-arcs c =
     let rows = c.requires.joined_tree.0 in
     let tree = c.requires.joined_tree.1 in
-    let done = c.prepare-automaton.ensures rows tree.joined tree.ends_are in
+    let done = c.prepare.ensures rows tree.joined tree.ends_are in
     let most = made_few rows c.args.tree.parents.now c.args.tree.names.now c.args.groups.now tree.joined in
     omega (arith, done.arcs_are, most.1)
 
@@ -36,17 +36,17 @@ pub overflow_add-states : goal.overflow_add-states
 overflow_add-states c =
     let rows = c.requires.joined_tree.0 in
     let tree = c.requires.joined_tree.1 in
-    let done = c.prepare-automaton.ensures rows tree.joined tree.ends_are in
+    let done = c.prepare.ensures rows tree.joined tree.ends_are in
     let most = made_few rows c.args.tree.parents.now c.args.tree.names.now c.args.groups.now tree.joined in
     omega (arith, done.counted, most.0, done.arcs_are, most.1)
 
 pub returns-then-out-states : goal.returns-then-out-states
 returns-then-out-states c rows tree =
     let args = c.args in
-    let done = c.prepare-automaton.ensures rows tree.joined tree.ends_are in (
+    let done = c.prepare.ensures rows tree.joined tree.ends_are in (
       refl,
-      states-too_long rows args.groups.now args.wanted c.prepare-automaton.result.met.count
-          c.prepare-automaton.result.arcs c.counts_bytes-size.result args.out.now args.counts.now done.counted
+      states-too_long rows args.groups.now args.wanted c.prepare.new.self.met.count
+          c.prepare.new.self.arcs c.counts_bytes-size.result args.out.now args.counts.now done.counted
           done.arcs_are c.counts_bytes-size.ensures c.if-out-states.true,
     )
 
@@ -55,11 +55,11 @@ write_states-length-requires c =
     let args = c.args in
     let rows = c.requires.joined_tree.0 in
     let tree = c.requires.joined_tree.1 in
-    let done = c.prepare-automaton.ensures rows tree.joined tree.ends_are in (
+    let done = c.prepare.ensures rows tree.joined tree.ends_are in (
       rows,
       args.groups.now,
       done.ready,
-      states-fit rows args.groups.now args.wanted c.prepare-automaton.result.met.count c.prepare-automaton.result.arcs
+      states-fit rows args.groups.now args.wanted c.prepare.new.self.met.count c.prepare.new.self.arcs
           c.counts_bytes-size.result args.out.now args.counts.now done.counted done.arcs_are
           c.counts_bytes-size.ensures c.if-out-states.false,
     )
@@ -69,14 +69,14 @@ write_counts-requires c =
     let args = c.args in
     let rows = c.requires.joined_tree.0 in
     let tree = c.requires.joined_tree.1 in
-    let done = c.prepare-automaton.ensures rows tree.joined tree.ends_are in (
+    let done = c.prepare.ensures rows tree.joined tree.ends_are in (
       rows,
       args.tree.parents.now,
       args.tree.names.now,
       args.groups.now,
       counts_ready rows args.tree.parents.now args.tree.names.now args.groups.now _ _ _ _ _ _ _ tree.joined done.ready
           (c.add_passes.ensures rows tree.joined tree.ends_are tree.short),
-      counts-fit rows args.groups.now args.wanted c.prepare-automaton.result.met.count c.prepare-automaton.result.arcs
+      counts-fit rows args.groups.now args.wanted c.prepare.new.self.met.count c.prepare.new.self.arcs
           c.counts_bytes-size.result args.out.now args.counts.now done.counted done.arcs_are
           c.counts_bytes-size.ensures c.if-out-states.false c.if-wanted.true,
     )
@@ -85,12 +85,12 @@ pub returns-then-wanted : goal.returns-then-wanted
 returns-then-wanted c rows tree =
     let args = c.args in
     let made = made_of rows args.groups.now in
-    let done = c.prepare-automaton.ensures rows tree.joined tree.ends_are in
+    let done = c.prepare.ensures rows tree.joined tree.ends_are in
     let summed = c.add_passes.ensures rows tree.joined tree.ends_are tree.short in
     let put =
     c.write_counts.ensures rows args.tree.parents.now args.tree.names.now args.groups.now
     (counts_ready rows args.tree.parents.now args.tree.names.now args.groups.now _ _ _ _ _ _ _ tree.joined done.ready summed) in
-    states-written rows args.groups.now args.wanted c.prepare-automaton.result.met.count c.prepare-automaton.result.arcs
+    states-written rows args.groups.now args.wanted c.prepare.new.self.met.count c.prepare.new.self.arcs
     c.counts_bytes-size.result args.out.now args.counts.now done.counted done.arcs_are
     c.counts_bytes-size.ensures c.if-out-states.false _ _ _
     (c.write_states-length.ensures rows args.groups.now done.ready)
@@ -101,8 +101,8 @@ pub returns-else-wanted : goal.returns-else-wanted
 returns-else-wanted c rows tree =
     let args = c.args in
     let made = made_of rows args.groups.now in
-    let done = c.prepare-automaton.ensures rows tree.joined tree.ends_are in
-    states-written rows args.groups.now args.wanted c.prepare-automaton.result.met.count c.prepare-automaton.result.arcs
+    let done = c.prepare.ensures rows tree.joined tree.ends_are in
+    states-written rows args.groups.now args.wanted c.prepare.new.self.met.count c.prepare.new.self.arcs
     c.counts_bytes-size.result args.out.now args.counts.now done.counted done.arcs_are
     c.counts_bytes-size.ensures c.if-out-states.false _ args.counts.now _
     (c.write_states-length.ensures rows args.groups.now done.ready)

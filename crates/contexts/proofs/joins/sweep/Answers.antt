@@ -12,6 +12,8 @@ use Rattle.worklist.specs.Forks.{Kept}
 use Rattle.contexts.specs.Sweeps.{ArcsReady}
 use Rattle.contexts.specs.Joins.{PairsJoined}
 use Rattle.contexts.proofs.ForkLaws.{kept-forks}
+use Rattle.indexed.proofs.Chains.{heads_none}
+use Rattle.contexts.proofs.NearLaws.{arcs_none}
 use Rattle.contexts.proofs.ReadyLaws.{arcs_fall}
 use Rattle.contexts.proofs.SweepLaws.{pairs-sweep}
 use Rattle.contexts.proofs.TreeLaws.{tree-arrays, tree-above}
@@ -28,19 +30,23 @@ ready j parents names classes groups before dist next links heads same =
 pub distances-dist-requires-clause-above : goal.distances-dist-requires-clause-above
 distances-dist-requires-clause-above c = tree-above c.requires.size c.args.tree.arrays
 
+-- no arc is linked at first
+pub link_all-requires : goal.link_all-requires
+link_all-requires c = record { none = arcs_none (heads_none 512) (heads_none 512) (heads_none 512) }
+
 pub invariant_of-pairs-clause-own : goal.invariant_of-pairs-clause-own
 invariant_of-pairs-clause-own c =
     c.requires.own ∙ ap (λ (l : List ℕ). numbers_from (length l) 0) (sym c.copy_from_slice.ensures.after)
 
 pub invariant_of-pairs-clause-telling : goal.invariant_of-pairs-clause-telling
-invariant_of-pairs-clause-telling c = c.names_ahead-ahead.ensures c.new-arcs.ensures.linked
+invariant_of-pairs-clause-telling c = c.names_ahead-ahead.ensures c.link_all.ensures.linked
 
 pub invariant_of-pairs-clause-chains : goal.invariant_of-pairs-clause-chains
 invariant_of-pairs-clause-chains c =
-    let size : length c.new-arcs.result.links ≡ 512 = omega arith in
+    let size : length c.link_all.new.self.links ≡ 512 = c.link_all.new.self.size in
     record {
       size = omega (arith, c.copy_from_slice.ensures.len, c.requires.before_size, c.requires.size, c.args.tree.arrays.few_states);
-      falling = arcs_fall c.new-arcs.ensures;
+      falling = arcs_fall c.link_all.ensures;
     }
 
 pub join_all-joined-requires-clause-live : goal.join_all-joined-requires-clause-live
@@ -74,7 +80,7 @@ returns-clause-swept c =
     let arrays = tree-arrays c.requires.size c.args.tree.arrays in
     let same = c.copy_from_slice.ensures.after in
     let joins = c.join_all-joined in
-    let arcs = c.new-arcs.result in
+    let arcs = c.link_all.new.self in
     let m-is : suc j ≡ c.args.m = omega (arith, c.requires.some) in
     let fork : ForkClosed n parents names groups =
     kept-forks n parents names c.args.numbers.now arrays c.requires.own groups c.args.forks.now.lists.links c.args.forks.now.lists.heads
@@ -85,5 +91,5 @@ returns-clause-swept c =
     same (flat_roots n groups labels) joins.ensures.pairs) in
     pairs-sweep arrays labels fork
     (ready j parents names c.args.classes.now groups c.copy_from_slice.new.self c.distances-dist.result arcs.next arcs.links
-    arcs.heads same c.new-arcs.ensures)
+    arcs.heads same c.link_all.ensures)
     c.distances-dist.ensures all m-is same

@@ -3,13 +3,9 @@ use mathlib.Core.List.{List}
 use Prim.Native.Nat.{ℕ}
 use native.Mathlib.Omega.{arith}
 use lib.ListN.{length}
-use Rattle.indexed.proofs.Chains.{heads_none}
 use Rattle.contexts.specs.Sweeps.{ArcsReady}
-use Rattle.contexts.proofs.NearLaws.{arcs_none, arcs_ready}
-use Rattle.contexts.proofs.chains.Arcs.new.Goals as goal
-
-pub link_near-requires : goal.link_near-requires
-link_near-requires c = record { none = arcs_none (heads_none 512) (heads_none 512) (heads_none 512) }
+use Rattle.contexts.proofs.NearLaws.{arcs_ready}
+use Rattle.contexts.proofs.chains.Arcs.link_all.Goals as goal
 
 pub returns : goal.returns
 returns c =
