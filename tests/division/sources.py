@@ -28,8 +28,8 @@ BYTE = re.compile(r"256(?:u16|u32|u64|usize)?")
 # come to is in the archive, too, which is read instruction by instruction.
 KEYWORDS = {"if", "while", "match", "return", "break", "let", "in", "mut", "else", "for", "matches"}
 LIBRARY_METHODS = (
-    "all any checked_sub chunks_exact cmp contains copied copy_from_slice count enumerate fill first fold into into_iter is_empty is_some iter iter_mut last len "
-    "map min ok_or position rev skip step_by take to_be_bytes unwrap unwrap_or unwrap_or_else wrapping_add wrapping_mul zip"
+    "all checked_sub cmp copied copy_from_slice count count_ones enumerate fill fold into is_empty is_some iter iter_mut last len min ok_or rev "
+    "to_be_bytes unwrap unwrap_or unwrap_or_else wrapping_add wrapping_mul"
 ).split()
 NUMBER = r"[iu](?:8|16|32|64|size)"
 OWN_CALLS = re.compile(
@@ -126,7 +126,7 @@ class Module:
         several = re.fullmatch(r"((?:\w+::)*)\{(.*)\}", path, re.DOTALL)
         if several:
             for part in parted(several.group(2)):
-                self.use(several.group(1).removesuffix("::") if part == "self" else several.group(1) + part)
+                self.use(several.group(1) + part)
             return
         name = path.split("::")[-1]
         if not re.fullmatch(r"(?!(?:self|super)\b)\w+(::(?!self\b)\w+)*", path) or name in self.uses:
@@ -150,8 +150,10 @@ class Module:
 class Sources:
     """The crates of a repository."""
 
-    def __init__(self, modules: List[Module]):
+    def __init__(self, modules: List[Module], cites: Optional[Dict[str, FrozenSet[str]]] = None):
         self.modules = modules
+        # for each crate those whose methods it can call, by crates.txt; where nothing is known, each may call all
+        self.cites = cites or {}
         self.functions = {function.path: function for module in modules for function in module.functions}
         self.methods = [function for function in self.functions.values() if function.owner != function.module.path]
 
@@ -162,9 +164,9 @@ class Sources:
     def meant(self, function: Function, field: bool, path: str) -> List[str]:
         """The functions that a name inside a function may mean: a path begins with a crate or in the module, and may lead to a type's method;
         of a method, all methods with its name."""
-        if field:
-            return self.named(path)
         module = function.module
+        if field:
+            return [method for method in self.named(path) if self.can_call(module.crate, method)]
         first, *rest = path.split("::")
         owners = {"Self": function.owner, "self": module.path, "super": module.path.rpartition("::")[0], "crate": module.crate}
         whole = "::".join([owners.get(first) or module.uses.get(first) or first, *rest])
@@ -176,10 +178,15 @@ class Sources:
         """All methods with a name."""
         return [method.path for method in self.methods if method.path.rpartition("::")[2] == name]
 
+    def can_call(self, crate: str, method: str) -> bool:
+        """Whether a crate is the method's, or cites it, by others too."""
+        return crate not in self.cites or self.functions[method].module.crate in self.cites[crate]
+
     def unnamed(self, function: Function) -> List[str]:
         """The methods that a function calls without naming them."""
-        code = function.module.code
-        return [method for name, form in UNNAMED.items() if form.search(code, function.start, function.end) for method in self.named(name)]
+        module = function.module
+        found = [name for name, form in UNNAMED.items() if form.search(module.code, function.start, function.end)]
+        return [method for name in found for method in self.named(name) if self.can_call(module.crate, method)]
 
     def reached(self, root: str) -> Reached:
         """All functions that calls lead to, and the calls that lead nowhere."""
@@ -217,6 +224,17 @@ def findings(sources: Sources, root: str, allowed: FrozenSet[str] = frozenset())
         for line, by in divisions(function)
         if not BYTE.fullmatch(by) and by not in allowed
     ]
+
+
+def read_cites(root: Path) -> Dict[str, FrozenSet[str]]:
+    """For each crate itself and all that it cites, by crates.txt."""
+    lines = re.findall(r"^(\w+)[^:#\n]*:(.*)$", (root / "crates.txt").read_text(), re.M)
+    direct = {crate: cited.split() for crate, cited in lines}
+
+    def below(crate: str) -> FrozenSet[str]:
+        return frozenset({crate}).union(*(below(cited) for cited in direct.get(crate, [])))
+
+    return {crate: below(crate) for crate in direct}
 
 
 def read_modules(root: Path) -> List[Module]:

@@ -7,9 +7,9 @@ from collections import defaultdict
 from typing import Any, Dict, Iterator, List, Set, Tuple
 
 from entries import BUILDS, DIVIDING, READ, ROOT
-from sources import Module, Sources, divisions, findings, read_modules
+from sources import Module, Sources, divisions, findings, read_cites, read_modules
 
-TREE = Sources(read_modules(ROOT))
+TREE = Sources(read_modules(ROOT), read_cites(ROOT))
 ENTRIES = TREE.entries()
 BUILD = ENTRIES["plans_build"]
 # a function that many calls lead to, with numbers `row` and `column`
@@ -60,6 +60,7 @@ NOT_FOUND = [
 ]
 NOT_READ = [
     "use writing::*;",
+    "use writing::{self};",
     "use writing::{put_two as two};",
     "use writing::{put_two, *};",
     "use writing::put_two as two;",
@@ -129,7 +130,8 @@ def found_with(file: str, place: int, seed: str, entry: str = BUILD) -> List[str
     """What is found of a build, beside what is found anyway, where a file has a text more."""
     text = (ROOT / file).read_text()
     changed = Module(file, f"{text[:place]} {seed}\n{text[place:]}")
-    found = findings(Sources([changed if module.file == file else module for module in TREE.modules]), entry)
+    modules = [changed if module.file == file else module for module in TREE.modules]
+    found = findings(Sources(modules, TREE.cites), entry)
     return [line for line in found if line.split(": ")[1] not in ANYWAY]
 
 
@@ -203,8 +205,7 @@ class Seeds(unittest.TestCase):
 
     def test_names_in_braces(self):
         used = Module("crates/t/src/m.rt", "use a::{b, c::{d, e}, f::{self, g},};\nuse crate::{\n    h,\n    i,\n};").uses
-        expected = {"b": "a::b", "d": "a::c::d", "e": "a::c::e", "f": "a::f", "g": "a::f::g", "h": "t::h", "i": "t::i"}
-        self.assertEqual(used, expected)
+        self.assertEqual(used, {"b": "a::b", "d": "a::c::d", "e": "a::c::e", "g": "a::f::g", "h": "t::h", "i": "t::i"})
 
     def test_what_asks_for_tactics_is_no_code(self):
         seed = "#[tactic(auto, using(crate::proofs::Laws::third))] let seed = row;"
