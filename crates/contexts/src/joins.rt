@@ -135,7 +135,8 @@ impl Pairs<'_, '_> {
 }
 
 // The sweep for m names, by the chains of the groups as they are at first; true where anything was joined. `before` has the groups
-// that the last sweep went by, and gets those of this one.
+// that the last sweep went by, and gets those of this one. Its arrays are in no frame but its own.
+#[inline(never)]
 pub fn sweep(
     m: usize,
     tree: Tree,

@@ -117,7 +117,9 @@ fn close_contexts(
     while sweep(m, tree, numbers, &classes[..n], before, groups, forks) {}
 }
 
-// The sweeps, with the states' own numbers, and with lists and a queue that are empty at first.
+// The sweeps, with the states' own numbers, and with lists and a queue that are empty at first. Its arrays are in no frame but its own, as
+// the stack is small.
+#[inline(never)]
 fn run_rounds(h: usize, m: usize, tree: Tree, groups: &mut [u16])
     requires ready { RoundReady (length groups.old) h m tree.parents.now tree.names.now groups.old }
     ensures { ContextJoined (length groups.old) (h + m) h tree.entry.parents.now tree.entry.names.now groups.new }
@@ -138,9 +140,7 @@ fn run_rounds(h: usize, m: usize, tree: Tree, groups: &mut [u16])
     );
 }
 
-// Joins by the context rule until it applies no more: not at all where no two states have the same last k names. Its arrays are
-// in no frame but its own, as the stack is small.
-#[inline(never)]
+// Joins by the context rule until it applies no more: not at all where no two states have the same last k names.
 pub fn join_by_context(k: usize, h: usize, tree: Tree, groups: &mut [u16])
     requires size { length groups.old ≡ length tree.parents.now }
     requires some { 0 < h }
