@@ -12,6 +12,7 @@ ghost use Rattle.contexts.specs.Sweeps.{AllLeave};
 ghost use Rattle.contexts.specs.Joins.{Live, Apart, Chains, PairJoined, ChainJoined, PairsJoined, SweptBy};
 
 use crate::ahead::names_ahead;
+use crate::copies::copy;
 use crate::chains::{Arcs, Marks};
 use crate::distances::distances;
 use crate::view::View;
@@ -161,7 +162,7 @@ pub fn sweep(
 {
     let j = m - 1;
     let dist = distances(j, tree.parents, before, groups);
-    before.copy_from_slice(groups);
+    copy(groups, before);
     let view = View {
         j,
         tree,

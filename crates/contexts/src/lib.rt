@@ -4,6 +4,7 @@
 
 pub mod ahead;
 pub mod chains;
+mod copies;
 pub mod distances;
 pub mod joins;
 pub mod view;
@@ -18,6 +19,7 @@ ghost use Rattle.worklist.specs.Settling.{NoLists};
 ghost use Rattle.contexts.specs.Climbs.{Climbed, ClimbedAt, ClimbedBelow, ByRoots};
 ghost use Rattle.contexts.specs.Rounds.{RoundReady};
 
+use crate::copies::copy;
 use base::limits::STATE_LIMIT;
 use indexed::Tree;
 use joins::sweep;
@@ -87,7 +89,7 @@ fn climb_starts(m: usize, tree: Tree, groups: &mut [u16])
 {
     let n = groups.len();
     let mut starts = [0u16; STATE_LIMIT];
-    starts[..n].copy_from_slice(groups);
+    copy(groups, &mut starts[..n]);
     climb_all(m, tree, &starts[..n], groups);
     forest::flatten(groups);
 }

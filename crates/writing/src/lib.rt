@@ -19,9 +19,11 @@ pub fn copy_in(out: &mut [u8], at: usize, src: &[u8]) -> usize
     requires { Fits out.old at src.now }
     ensures { Put out.old out.new at src.now result }
 {
-    let end = at + src.len();
-    out[at..end].copy_from_slice(src);
-    end
+    // Stays: (a) the C interface: `copy_from_slice` takes memmove, and the library takes memcpy and memset alone (include/plans.h).
+    for (i, byte) in src.iter().enumerate() {
+        out[at + i] = *byte;
+    }
+    at + src.len()
 }
 
 // One byte.

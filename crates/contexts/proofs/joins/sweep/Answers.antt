@@ -36,7 +36,7 @@ link_all-requires c = record { none = arcs_none (heads_none 512) (heads_none 512
 
 pub invariant_of-pairs-clause-own : goal.invariant_of-pairs-clause-own
 invariant_of-pairs-clause-own c =
-    c.requires.own ∙ ap (λ (l : List ℕ). numbers_from (length l) 0) (sym c.copy_from_slice.ensures.after)
+    c.requires.own ∙ ap (λ (l : List ℕ). numbers_from (length l) 0) (sym c.copy.ensures.after)
 
 pub invariant_of-pairs-clause-telling : goal.invariant_of-pairs-clause-telling
 invariant_of-pairs-clause-telling c = c.names_ahead-ahead.ensures c.link_all.ensures.linked
@@ -45,7 +45,7 @@ pub invariant_of-pairs-clause-chains : goal.invariant_of-pairs-clause-chains
 invariant_of-pairs-clause-chains c =
     let size : length c.link_all.new.self.links ≡ 512 = c.link_all.new.self.size in
     record {
-      size = omega (arith, c.copy_from_slice.ensures.len, c.requires.before_size, c.requires.size, c.args.tree.arrays.few_states);
+      size = omega (arith, c.copy.ensures.len, c.requires.before_size, c.requires.size, c.args.tree.arrays.few_states);
       falling = arcs_fall c.link_all.ensures;
     }
 
@@ -66,7 +66,7 @@ pub join_all-joined-requires-clause-coarser : goal.join_all-joined-requires-clau
 join_all-joined-requires-clause-coarser c =
     let groups = c.args.groups.now in
     let n = length groups in
-    subst₂ (λ (a b : List ℕ). Refines n a b) (sym c.copy_from_slice.ensures.after)
+    subst₂ (λ (a b : List ℕ). Refines n a b) (sym c.copy.ensures.after)
     (sym (flat_roots n groups c.requires.kept.labelled)) (λ v w hv hw one. one)
 
 pub returns-clause-swept : goal.returns-clause-swept
@@ -78,7 +78,7 @@ returns-clause-swept c =
     let j = c.args.m - 1 in
     let labels = c.requires.kept.labelled in
     let arrays = tree-arrays c.requires.size c.args.tree.arrays in
-    let same = c.copy_from_slice.ensures.after in
+    let same = c.copy.ensures.after in
     let joins = c.join_all-joined in
     let arcs = c.link_all.new.self in
     let m-is : suc j ≡ c.args.m = omega (arith, c.requires.some) in
@@ -90,6 +90,6 @@ returns-clause-swept c =
     (subst₂ (λ (a b : List ℕ). PairsJoined n n j parents names a arcs.links b (roots_of joins.new.groups) joins.result)
     same (flat_roots n groups labels) joins.ensures.pairs) in
     pairs-sweep arrays labels fork
-    (ready j parents names c.args.classes.now groups c.copy_from_slice.new.self c.distances-dist.result arcs.next arcs.links
+    (ready j parents names c.args.classes.now groups c.copy.new.to c.distances-dist.result arcs.next arcs.links
     arcs.heads same c.link_all.ensures)
     c.distances-dist.ensures all m-is same
