@@ -114,13 +114,14 @@ def divided_by(made: Any) -> List[str]:
 
 
 def compiled_reach(functions: Dict[str, Any], root: str) -> Set[str]:
-    """All functions that are named, as what is called or otherwise; a call of something else than a name is none of these sources'."""
+    """All functions that are named, as what is called or otherwise, so also what is handed to a function that calls its parameter; a call
+    of something else is none of these sources'."""
     found = {root}
     todo = [root]
     while todo:
         made = functions.get(todo.pop(), [])
         called = {written_in(part[0]) for kind, part in parts(made) if kind == "Fn" and not BEYOND.match(part[0])}
-        called |= {f"a call of {list(part[0])}" for kind, part in parts(made) if kind == "Call" and "Fn" not in part[0]}
+        called |= {f"a call of {list(part[0])}" for kind, part in parts(made) if kind == "Call" and not {"Fn", "Method"} & set(part[0])}
         todo += called - found
         found |= called
     return found
