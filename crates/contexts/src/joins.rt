@@ -12,8 +12,8 @@ ghost use Rattle.contexts.specs.Sweeps.{AllLeave};
 ghost use Rattle.contexts.specs.Joins.{Live, Apart, Chains, PairJoined, ChainJoined, PairsJoined, SweptBy};
 
 use crate::ahead::names_ahead;
-use crate::copies::copy;
 use crate::chains::{Arcs, Marks};
+use crate::copies::copy;
 use crate::distances::distances;
 use crate::view::View;
 use base::limits::STATE_LIMIT;
