@@ -205,7 +205,7 @@ class Seeds(unittest.TestCase):
                 self.assertTrue(found.endswith("deep divides by 3"), found)
 
     def test_names_in_braces(self):
-        used = Module("crates/t/src/m.rt", "use a::{b, c::{d, e}, f::{self, g},};\nuse crate::{\n    h,\n    i,\n};").uses
+        used = Module("crates/t/src/m.rt", "use a::{b, c::{d, e}, f::g,};\nuse crate::{\n    h,\n    i,\n};").uses
         self.assertEqual(used, {"b": "a::b", "d": "a::c::d", "e": "a::c::e", "g": "a::f::g", "h": "t::h", "i": "t::i"})
 
     def test_what_asks_for_tactics_is_no_code(self):
