@@ -71,9 +71,18 @@ def header_constants(text):
 
 
 def library_constants(text, names):
-    """The constants with these names."""
-    found = re.findall(r"^pub const (\w+): \w+ = ([^;]+);", text, re.M)
+    """The constants and the variants of numbered enums with these names."""
+    found = re.findall(r"^pub const (\w+): \w+ = ([^;]+);", text, re.M) + library_variants(text)
     return computed([(name, value) for name, value in found if name in names])
+
+
+def library_variants(text):
+    """The variants of enums whose first has a number, as constants would be named: each has one more than the one before."""
+    variants = []
+    for first, number, rest in re.findall(r"\benum \w+ \{\s*(\w+) = (\d+),([\s\w,]*)\}", text):
+        for step, name in enumerate([first, *re.findall(r"\w+", rest)]):
+            variants.append((re.sub(r"(?<!^)([A-Z])", r"_\1", name).upper(), str(int(number) + step)))
+    return variants
 
 
 def computed(definitions):

@@ -9,8 +9,8 @@ LIBRARY = Path(os.environ["PLANS_LIB"]) / "libplans.a"
 READ = ROOT / "target" / "staticlib" / "mir"
 
 # Every entry of the library is held to it that nothing divides but by 256, also one that comes later, but for these, with what they
-# divide by: a listing has decimal numbers, and a plan's names are found by hashes and by halving a list. None of them is a build entry.
-DIVIDING = {"plans_list": frozenset({"10"}), "plans_read_rows": frozenset({"2", "HASHES"})}
+# divide by: a listing has decimal numbers, and a plan's names are found by halving a list. None of them is a build entry.
+DIVIDING = {"plans_list": frozenset({"10"}), "plans_read_rows": frozenset({"2"})}
 
 # The entries that build.
 BUILDS = ("plans_build", "plans_build_counted")

@@ -2,11 +2,11 @@
 by."""
 from archive import Archive
 from entries import LIBRARY, ROOT
-from sources import Sources, divisions, read_modules
+from sources import Sources, divisions, read_cites, read_modules
 
 
 def main() -> None:
-    sources = Sources(read_modules(ROOT))
+    sources = Sources(read_modules(ROOT), read_cites(ROOT))
     archive = Archive(LIBRARY)
     for name, path in sources.entries().items():
         functions = sources.reached(path).functions

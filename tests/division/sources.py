@@ -15,7 +15,8 @@ UNREAD_IN_CLAUSE = re.compile(r'"|--|\{-|//|/\*')
 # What asks for a proof's tactics is no code, also inside a function.
 TACTIC = re.compile(r"#!?\[\s*tactic\b[^\]]*\]")
 USE = re.compile(r"\b(ghost\s+|pub\s+)?use\s+([^;]*);")
-METHODS = re.compile(r"\bimpl\b[^{]*?(\w+)\s*(?:<[^{]*>\s*)?(?=\{)")
+# an impl: the trait and what it is given, where it is a trait's; the type
+METHODS = re.compile(r"\bimpl\b(?:\s*<[^{]*?>)?\s+(?:(\w+)\s*(?:<([^{]*?)>)?\s+for\s+)?(\w+)\s*(?:<[^{]*?>\s*)?(?=\{)")
 FUNCTION = re.compile(r"\bfn\s+(\w+)(?:[^{;]|;[^{;\]]*\])*(?=\{)")
 EXPORTED = re.compile(r"#\[unsafe\(no_mangle\)\]\s*pub\s+extern\s+fn\s+(\w+)")
 # a path; a dot before it that makes it a field or a method; what makes it a call
@@ -23,9 +24,19 @@ NAMED = re.compile(r"((?<!\.)\.\s*)?\b([^\W\d]\w*(?:\s*::\s*\w+)*)((?:\s*::\s*<[
 DIVISION = re.compile(r"[/%]=?\s*(\w*(?:\s+as\b|\.(?!\.))?)")
 BYTE = re.compile(r"256(?:u16|u32|u64|usize)?")
 
-# Words before a parenthesis that call nothing, and the calls that Rattle itself has on slices and integers: none of these divides.
-KEYWORDS = {"if", "while", "match", "return", "break", "let", "in", "mut"}
-OWN_CALLS = re.compile(r"\.len|[iu](?:8|16|32|64|size)::(?:count_ones|leading_zeros|trailing_zeros)")
+# Words before a parenthesis that call nothing, and the calls of Rattle's library that the sources make: none of these divides. What they
+# come to is in the archive, too, which is read instruction by instruction.
+KEYWORDS = {"if", "while", "match", "return", "break", "let", "in", "mut", "else", "for", "matches"}
+LIBRARY_METHODS = (
+    "all checked_sub cmp copied copy_from_slice count count_ones enumerate fill fold into is_empty is_some iter iter_mut last len min ok_or rev "
+    "to_be_bytes unwrap unwrap_or unwrap_or_else wrapping_add wrapping_mul"
+).split()
+NUMBER = r"[iu](?:8|16|32|64|size)"
+OWN_CALLS = re.compile(
+    rf"\w+::default|{NUMBER}::(?:count_ones|leading_zeros|trailing_zeros|from_be_bytes|from)|\.(?:{'|'.join(LIBRARY_METHODS)})"
+)
+# What calls a method without naming it: a loop over an iterator, and what turns one type into another.
+UNNAMED = {"next": re.compile(r"\bfor\b[^{;]*\bin\b"), "from": re.compile(r"\?|\.\s*into\s*\(")}
 
 
 class Function(NamedTuple):
@@ -50,6 +61,11 @@ class Reached(NamedTuple):
 def blank(text: str) -> str:
     """As many spaces, so that what follows keeps its place and its line."""
     return re.sub(r"[^\n]", " ", text)
+
+
+def capital(name: str) -> str:
+    """A type's name as it stands in the name of an impl."""
+    return name[:1].upper() + name[1:]
 
 
 def closing(code: str, start: int) -> int:
@@ -118,11 +134,14 @@ class Module:
         self.uses[name] = re.sub(r"^crate\b", self.crate, path)
 
     def read_functions(self) -> Iterator[Function]:
-        types = [(found.end(), closing(self.code, found.end()), found.group(1)) for found in METHODS.finditer(self.code)]
+        types = [(found.end(), closing(self.code, found.end()), *found.groups()) for found in METHODS.finditer(self.code)]
         for found in FUNCTION.finditer(self.code):
-            owner = "::".join([self.path] + [name for start, end, name in types if start < found.start() < end])
+            around = [rest for start, end, *rest in types if start < found.start() < end]
+            owner = "::".join([self.path] + [name for _, _, name in around])
+            # as the compiler names an impl of a trait: RuleTryFromClass for that of TryFrom<Class> for Rule
+            impl = "::".join([self.path] + ["".join(map(capital, [name, trait or "", given or ""])) for trait, given, name in around])
             end = closing(self.code, found.end())
-            yield Function(f"{owner}::{found.group(1)}", owner, self, found.end(1), found.end(), end)
+            yield Function(f"{impl}::{found.group(1)}", owner, self, found.end(1), found.end(), end)
 
     def line(self, place: int) -> str:
         return f"{self.file}:{self.code.count(chr(10), 0, place) + 1}"
@@ -131,25 +150,43 @@ class Module:
 class Sources:
     """The crates of a repository."""
 
-    def __init__(self, modules: List[Module]):
+    def __init__(self, modules: List[Module], cites: Optional[Dict[str, FrozenSet[str]]] = None):
         self.modules = modules
+        # for each crate those whose methods it can call, by crates.txt; where nothing is known, each may call all
+        self.cites = cites or {}
         self.functions = {function.path: function for module in modules for function in module.functions}
+        self.methods = [function for function in self.functions.values() if function.owner != function.module.path]
 
     def entries(self) -> Dict[str, str]:
         """The functions exported for C, by their names there, as paths."""
         return {name: f"{module.path}::{name}" for module in self.modules for name in EXPORTED.findall(module.code)}
 
     def meant(self, function: Function, field: bool, path: str) -> List[str]:
-        """The functions that a name inside a function may mean: a path begins with a crate or in the module; of a method, all methods with
-        its name."""
-        if field:
-            methods = (other for other in self.functions.values() if other.owner != other.module.path)
-            return [method.path for method in methods if method.path == f"{method.owner}::{path}"]
+        """The functions that a name inside a function may mean: a path begins with a crate or in the module, and may lead to a type's method;
+        of a method, all methods with its name."""
         module = function.module
+        if field:
+            return [method for method in self.named(path) if self.can_call(module.crate, method)]
         first, *rest = path.split("::")
         owners = {"Self": function.owner, "self": module.path, "super": module.path.rpartition("::")[0], "crate": module.crate}
         whole = "::".join([owners.get(first) or module.uses.get(first) or first, *rest])
-        return [each for each in (whole, f"{module.path}::{whole}") if each in self.functions]
+        owner, _, name = whole.rpartition("::")
+        of_a_type = [method for method in self.named(name) if self.functions[method].owner in (owner, f"{module.path}::{owner}")]
+        return [each for each in (whole, f"{module.path}::{whole}") if each in self.functions] + of_a_type
+
+    def named(self, name: str) -> List[str]:
+        """All methods with a name."""
+        return [method.path for method in self.methods if method.path.rpartition("::")[2] == name]
+
+    def can_call(self, crate: str, method: str) -> bool:
+        """Whether a crate is the method's, or cites it, by others too."""
+        return crate not in self.cites or self.functions[method].module.crate in self.cites[crate]
+
+    def unnamed(self, function: Function) -> List[str]:
+        """The methods that a function calls without naming them."""
+        module = function.module
+        found = [name for name, form in UNNAMED.items() if form.search(module.code, function.start, function.end)]
+        return [method for name in found for method in self.named(name) if self.can_call(module.crate, method)]
 
     def reached(self, root: str) -> Reached:
         """All functions that calls lead to, and the calls that lead nowhere."""
@@ -166,6 +203,9 @@ class Sources:
                     unfollowed.append(f"{function.module.line(named.start())}: {function.path} calls {path}, which is not followed")
                 todo += [target for target in targets if target not in found]
                 found.update({target: self.functions[target] for target in targets})
+            targets = self.unnamed(function)
+            todo += [target for target in targets if target not in found]
+            found.update({target: self.functions[target] for target in targets})
         return Reached(found, unfollowed)
 
 
@@ -184,6 +224,17 @@ def findings(sources: Sources, root: str, allowed: FrozenSet[str] = frozenset())
         for line, by in divisions(function)
         if not BYTE.fullmatch(by) and by not in allowed
     ]
+
+
+def read_cites(root: Path) -> Dict[str, FrozenSet[str]]:
+    """For each crate itself and all that it cites, by crates.txt."""
+    lines = re.findall(r"^(\w+)[^:#\n]*:(.*)$", (root / "crates.txt").read_text(), re.M)
+    direct = {crate: cited.split() for crate, cited in lines}
+
+    def below(crate: str) -> FrozenSet[str]:
+        return frozenset({crate}).union(*(below(cited) for cited in direct.get(crate, [])))
+
+    return {crate: below(crate) for crate in direct}
 
 
 def read_modules(root: Path) -> List[Module]:

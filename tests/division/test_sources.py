@@ -1,13 +1,15 @@
 """Nothing that build reaches divides, but by 256 to split a number into its bytes: over the sources. How these are read is held against
 the compiler's own reading (mir/, beside the archive), and divisions put into a copy are found."""
 import json
+import re
 import unittest
+from collections import defaultdict
 from typing import Any, Dict, Iterator, List, Set, Tuple
 
 from entries import BUILDS, DIVIDING, READ, ROOT
-from sources import Module, Sources, divisions, findings, read_modules
+from sources import Module, Sources, divisions, findings, read_cites, read_modules
 
-TREE = Sources(read_modules(ROOT))
+TREE = Sources(read_modules(ROOT), read_cites(ROOT))
 ENTRIES = TREE.entries()
 BUILD = ENTRIES["plans_build"]
 # a function that many calls lead to, with numbers `row` and `column`
@@ -29,7 +31,7 @@ FOUND = {
     "let seed = row % 256 / 3;": "divides by 3",
     "let seed = [1, row / 3];": "divides by 3",
     "let seed = listings::words::put_first_line(row, column);": "writing::decimals::put_decimal divides by 10",
-    "let seed = name_search::hash;": "name_search::hash divides by HASHES",
+    "let seed = name_search::Index::number_of;": "name_search::Index::number_of divides by 2",
     "let seed = std::num::quotient(row, 3);": "calls std::num::quotient, which is not followed",
     "let seed = row.div_euclid(3);": "calls div_euclid, which is not followed",
     "let seed = quotient!(row, 3);": "calls quotient, which is not followed",
@@ -72,13 +74,26 @@ NOT_READ = [
     "fn third(x: usize) -> usize ensures { result ≡ {- } { -} x } { x / 3 }",
     'fn third(x: usize) -> usize ensures { result ≡ "} {" } { x / 3 }',
 ]
+# Rattle's own library: what becomes of its calls is read in the archive
+BEYOND = re.compile(r"(?:core|std)::")
 # the divisions among what the compiler makes of two numbers
 DIVIDE = {"Div", "Rem", "FloatDiv", "FloatRem"}
 
 
+def written_in(name: str) -> str:
+    """The function that the compiler's name stands for: that in which a closure stands, else itself."""
+    parts = name.replace("::fn::", "::").split("::")
+    paths = ("::".join(parts[:length]) for length in range(len(parts), 0, -1))
+    return next((path for path in paths if path in TREE.functions), name) if "::fn::" in name else name
+
+
 def compiled() -> Dict[str, Any]:
-    """What the compiler makes of each function of the library before it optimises."""
-    return {name: made["body"] for file in READ.glob("*.json") for name, made in json.loads(file.read_text())}
+    """What the compiler makes of each function of the library before it optimises, with the closures in it, and of what derives write."""
+    made: Dict[str, Any] = defaultdict(list)
+    for file in READ.glob("*.json"):
+        for name, each in json.loads(file.read_text()):
+            made[written_in(name)].append(each["body"])
+    return made
 
 
 def parts(made: Any) -> Iterator[Tuple[str, Any]]:
@@ -99,13 +114,14 @@ def divided_by(made: Any) -> List[str]:
 
 
 def compiled_reach(functions: Dict[str, Any], root: str) -> Set[str]:
-    """All functions that are named, as what is called or otherwise; a call of something else than a name is none of these sources'."""
+    """All functions that are named, as what is called or otherwise, so also what is handed to a function that calls its parameter; a call
+    of something else is none of these sources'."""
     found = {root}
     todo = [root]
     while todo:
         made = functions.get(todo.pop(), [])
-        called = {part[0] for kind, part in parts(made) if kind == "Fn"}
-        called |= {f"a call of {list(part[0])}" for kind, part in parts(made) if kind == "Call" and "Fn" not in part[0]}
+        called = {written_in(part[0]) for kind, part in parts(made) if kind == "Fn" and not BEYOND.match(part[0])}
+        called |= {f"a call of {list(part[0])}" for kind, part in parts(made) if kind == "Call" and not {"Fn", "Method"} & set(part[0])}
         todo += called - found
         found |= called
     return found
@@ -115,7 +131,8 @@ def found_with(file: str, place: int, seed: str, entry: str = BUILD) -> List[str
     """What is found of a build, beside what is found anyway, where a file has a text more."""
     text = (ROOT / file).read_text()
     changed = Module(file, f"{text[:place]} {seed}\n{text[place:]}")
-    found = findings(Sources([changed if module.file == file else module for module in TREE.modules]), entry)
+    modules = [changed if module.file == file else module for module in TREE.modules]
+    found = findings(Sources(modules, TREE.cites), entry)
     return [line for line in found if line.split(": ")[1] not in ANYWAY]
 
 
@@ -140,10 +157,10 @@ class Entries(unittest.TestCase):
             with self.subTest(name):
                 read = TREE.reached(path).functions
                 followed = compiled_reach(functions, path)
-                self.assertEqual(followed - set(read), set())
+                self.assertEqual({function for function in followed - set(read) if function not in functions or function in TREE.functions}, set())
                 for function in followed:
                     made = divided_by(functions[function])
-                    self.assertEqual(len(divisions(read[function])), len(made), function)
+                    self.assertEqual(len(divisions(read[function])) if function in read else 0, len(made), function)
                     if name not in DIVIDING:
                         self.assertEqual(set(made) - {"256"}, set(), function)
 

@@ -2,13 +2,13 @@
 -- have in common, and the bits of a shifted number. Assumes nothing.
 use mathlib.Core.Path.{◌≡◌, refl, sym, ap, ◌∙◌, subst}
 use mathlib.Core.Logic.{◌⊎◌, inl, inr, ⊎_elim, ◌↔◌}
-use Prim.Native.Nat.{ℕ, zero, suc, ◌+◌, ◌-◌, ◌*◌, ◌/◌, ◌%◌, ◌^◌, ◌<◌, ◌≤◌, max, min}
-use native.Mathlib.Nat.{zero-add, suc-add, mul-one, one-mul, div-one, pow-suc, mod-eq_of_lt}
+use Prim.Native.Nat.{ℕ, zero, suc, ◌+◌, ◌*◌, ◌/◌, ◌%◌, ◌^◌, ◌<◌, ◌≤◌, max, min}
+use native.Mathlib.Nat.{zero-add, suc-add, mul-one, div-one, pow-suc}
 use native.Mathlib.Numerals.{add-one, one-add}
 use native.Mathlib.Omega.{arith}
+use lib.Count.{count_trailing_zeros, under}
 use lib.Bits.{bit_and, bit_or, and_step, or_step, shifted_half}
-use lib.Pow.{field, mod-mod-pow, shr-shr, pow-lt}
-use Rattle.base.specs.Limits.{name_limit}
+use lib.Pow.{field, mod-mod-pow, shr-shr}
 use Rattle.base.specs.Bits.{bit}
 use Rattle.base.proofs.Tests.{eq_dec}
 
@@ -190,8 +190,14 @@ bit-fallen (suc s) a x =
     ap (λ (d : ℕ). x / 2 ^ d) (sym (one-add s)) ∙ sym (shr-shr x 1 s) in
     ap (bit a) halves ∙ bit-fallen s a (x / 2) ∙ ap (λ (d : ℕ). bit d x) (sym (suc-add s a))
 
--- the set of one name, as a shift gives it: no bit is lost
-pub shifted_one : (a : ℕ) → a < name_limit → 1 * 2 ^ a % 2 ^ 64 ≡ 2 ^ a
-shifted_one a h =
-    let fits : 1 * 2 ^ a < 2 ^ 64 = omega (arith, pow-lt {i = a} {j = 64} h) in
-    mod-eq_of_lt fits ∙ one-mul (2 ^ a)
+-- the lowest bit of a number is in it
+pub lowest-in : (k n : ℕ) → 0 < n → 2 ^ count_trailing_zeros k n ≤ n
+unfolding count_trailing_zeros
+lowest-in zero n some = omega arith
+lowest-in (suc k) n some = go (n % 2) refl (lowest-in k (n / 2))
+  where
+    go :
+        (d : ℕ) → n % 2 ≡ d → (0 < n / 2 → 2 ^ count_trailing_zeros k (n / 2) ≤ n / 2) →
+        2 ^ under d (count_trailing_zeros k (n / 2)) ≤ n
+    go zero e half = omega (arith, half (omega arith), pow-suc 2 (count_trailing_zeros k (n / 2)))
+    go (suc d) e half = omega arith

@@ -7,7 +7,7 @@ use mathlib.Core.List.{List, ◌++◌, append-nil}
 use Prim.Native.Nat.{ℕ, ◌+◌, ◌<◌, ◌≤◌}
 use native.Mathlib.Nat.{le_refl}
 use native.Mathlib.Omega.{arith}
-use lib.ListN.{length, get_or, set, take, drop, replicate, length-append, length-set, length-replicate, get_or-replicate}
+use lib.ListN.{length, get_or, set, take, drop, replicate, length-set, length-replicate, get_or-replicate}
 use lib.ListN.{drop_of_length-le}
 use lib.Seq.{get_or-set_same, get_or-set_other, get_or-take, length-take-le, take_at}
 use Rattle.base.specs.Limits.{state_limit}
@@ -55,11 +55,6 @@ front_length n list h = length-take-le n list h
 -- a front that was written anew, and read again
 pub front_again : (n : ℕ) (list front rest : List ℕ) → front ≡ list → length list ≡ n → take n (front ++ rest) ≡ list
 front_again n list front rest e size = take_at front rest n (ap length e ∙ size) ∙ e
-
-pub front_fits : (n : ℕ) (list front rest : List ℕ) → front ≡ list → length list ≡ n → n ≤ length (front ++ rest)
-front_fits n list front rest e size =
-    let same : length front ≡ length list = ap length e in
-    simp length-append (omega arith)
 
 -- a local array of as many elements as there may be states, cut to n: its length, and what it holds where nothing was written
 pub cut : (n x : ℕ) → n ≤ state_limit → n ≡ length (take n (replicate state_limit x))

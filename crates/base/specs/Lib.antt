@@ -4,3 +4,5 @@ pub mod Limits
 pub mod Lists
 pub mod Bits
 pub mod Cells
+pub mod Refusals
+pub mod Sets

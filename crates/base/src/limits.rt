@@ -39,6 +39,8 @@ pub const PLAN_DEPTH: usize = 16;
 pub const ROWS_BYTES: usize = BOOK_ROWS * (3 + ROW_LIMIT);
 
 // The marks of fields.
+// Stays: (d) marks and kinds are bytes of the files: a mark is matched where it is read and put where it is written, and the numbers of
+// kinds stand in patterns alone, from which `judging::classes::Rule` is made.
 pub const NAME_MARK: u8 = 1;
 
 pub const CLASS_MARK: u8 = 2;
@@ -49,58 +51,9 @@ pub const STATE_MARK: u8 = 4;
 
 pub const COUNT_MARK: u8 = 5;
 
-// The stages of reading.
-pub const NAME_DUE: u8 = 0;
-
-pub const NAMES_MET: u8 = 1;
-
-pub const CLASS_MET: u8 = 2;
-
-pub const ITEMS_MET: u8 = 3;
-
 // The kinds of classes.
 pub const CONTEXT_KIND: u8 = 0;
 
 pub const SEEN_SET_KIND: u8 = 1;
 
 pub const LAST_NAMES_KIND: u8 = 2;
-
-// How a walk ends.
-pub const ADMITTED: u8 = 1;
-
-pub const ON_THE_WAY: u8 = 2;
-
-pub const STOPS: u8 = 3;
-
-// The refusals.
-pub const BAD_SIZES: u8 = 1;
-
-pub const CUT_OFF: u8 = 2;
-
-pub const MISPLACED: u8 = 3;
-
-pub const UNFINISHED: u8 = 4;
-
-pub const BAD_NAME: u8 = 5;
-
-pub const NAME_ORDER: u8 = 6;
-
-pub const TOO_MANY: u8 = 7;
-
-pub const BAD_CLASS: u8 = 8;
-
-pub const BAD_ROW: u8 = 9;
-
-pub const TREE_TOO_LARGE: u8 = 10;
-
-pub const BAD_STATE: u8 = 11;
-
-pub const BAD_NUMBERING: u8 = 12;
-
-pub const OUTPUT_TOO_SHORT: u8 = 13;
-
-pub const BAD_PLAN: u8 = 14;
-
-pub const TOO_DEEP: u8 = 15;
-
-pub const UNKNOWN_CHILD: u8 = 16;

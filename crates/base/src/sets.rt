@@ -1,14 +1,42 @@
 // Sets of names in 64 bits, bit n for name n.
-ghost use Rattle.std.specs.Prelude.{◌≡◌, ◌^◌, ◌<◌};
+ghost use Rattle.std.specs.Prelude.{◌≡◌, ◌^◌, ◌<◌, MatchOption};
+ghost use Rattle.std.specs.Iterator.{at_most};
 ghost use Rattle.std.specs.Int.Bits.{bit_or};
-ghost use Rattle.std.specs.Int.Count.{ones, count_trailing_zeros};
+ghost use Rattle.std.specs.Int.Count.{ones};
 ghost use Rattle.base.specs.Limits.{name_limit};
+ghost use Rattle.base.specs.Sets.{TakenLowest};
 
-// The lowest name of a set that is not empty.
-pub fn lowest(names: u64) -> usize
-    ensures { result ≡ count_trailing_zeros name_limit names }
-{
-    u64::trailing_zeros(names) as usize
+// The names of a set, from the lowest to the highest: those that are still to come.
+#[derive(Drop)]
+pub struct Names {
+    pub left: u64,
+}
+
+impl Iterator for Names {
+    type Item = u8;
+
+    ghost next_gives = { λ before next after. MatchOption next (before.left ≡ 0) (λ name. TakenLowest before.left name after.left) };
+
+    ghost remaining = { λ names. at_most names.left };
+
+    fn next(&mut self) -> Option<u8> {
+        let left = self.left;
+        if left == 0 {
+            return None;
+        }
+        let name = u64::trailing_zeros(left) as u8;
+        self.left = left - (1u64 << name);
+        Some(name)
+    }
+}
+
+impl Names {
+    // Those of a whole set.
+    pub fn of(set: u64) -> Names
+        ensures { result.left ≡ set }
+    {
+        Names { left: set }
+    }
 }
 
 // How many names a set has.
@@ -16,14 +44,6 @@ pub fn how_many(names: u64) -> usize
     ensures { result ≡ ones names }
 {
     u64::count_ones(names) as usize
-}
-
-// The set of one name.
-pub fn only(name: usize) -> u64
-    requires { name < name_limit }
-    ensures { result ≡ 2 ^ name }
-{
-    1u64 << name
 }
 
 // The set with one name more.

@@ -109,7 +109,11 @@ module _ (settings : Settings) (allowed : Allowed settings) where
         λ (none : build_fault settings book work ≡ 0).
         short_is (building settings book work) (book_table (book_of settings book)) out refl
         ∙ le-ltb (length out) (length (book_table (book_of settings book)))
-        (omega (arith, long, table_length settings allowed book (first_of_lem (sizes_fault book work) (book_fault settings book) none).1)) in
+        (omega (
+          arith,
+          long,
+          table_length settings allowed book (first_of_lem (sizes_fault book work) (book_fault settings book) none).1,
+        )) in
         let fault = refusal_is gives (λ (b : Built). b.refusal) (λ k. refl) refl in
         call-refused (listing_book settings book work) (text ∷ [])
         (record { is = sym (fault ∙ fault_roomy (building settings book work) (out ∷ []) room); some = some })

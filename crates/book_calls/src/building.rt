@@ -1,56 +1,55 @@
 // A book's table built, and its counts where they are wanted, before the working area is cleared.
-ghost use Rattle.std.specs.Prelude.{[], ◌∷◌};
+ghost use Rattle.std.specs.Prelude.{◌≡◌, [], ◌∷◌, IfOk};
+ghost use Rattle.base.specs.Refusals.{told};
 ghost use Rattle.model.specs.Fields.{Allowed};
 ghost use Rattle.model.specs.Calls.{Gives};
 ghost use Rattle.fields.specs.Places.{settings_of};
-ghost use Rattle.results.specs.Says.{building, building_counted};
+ghost use Rattle.results.specs.Says.{not_built, building, not_counted, building_counted};
 
-use base::limits::BAD_SIZES;
-use fields::{Fields, FileKind, Settings, read_with};
+use base::refusals::Refusal;
+use fields::{FileKind, read_with};
 use inference::infer;
-use judging::sizes::sizes_bad;
-use results::{Built, Counted, as_built, not_counted};
+use judging::classes::Class;
+use judging::sizes::judge_sizes;
+use results::{Built, Counted};
 
 // Refusals 1, the fields', 10, 13; otherwise the table stands at the front of the output, and where they are wanted the counts stand at the
 // front of another.
+// Stays: (a) `wanted` beside `counts`, as in `infer`: `building_counted` has the flag, and two outputs whether counts are wanted or not.
 pub fn build_with(
-    settings: Settings,
+    default: Class,
     wanted: bool,
     book: &[u8],
     work: &mut [u8],
     out: &mut [u8],
     counts: &mut [u8],
-) -> Counted
-    requires { Allowed (settings_of settings) }
-    ensures { Gives (building_counted (settings_of settings) wanted book.now work.old)
-        (out.old ∷ (counts.old ∷ [])) (out.new ∷ (counts.new ∷ [])) result }
+) -> Result<Counted, Refusal>
+    requires { Allowed (settings_of default) }
+    ensures gives { Gives (building_counted (settings_of default) wanted book.now work.old)
+        (out.old ∷ (counts.old ∷ [])) (out.new ∷ (counts.new ∷ [])) (told not_counted result) }
+    ensures accepted { IfOk result (λ counted. counted.refusal ≡ 0) }
 {
-    if sizes_bad(book.len(), work.len()) {
-        return not_counted(BAD_SIZES);
-    }
-    let read = read_with(book, FileKind::Book, settings);
-    match read {
-        Fields::Accepted(p) => {
-            let inferred = infer(wanted, book, p, work, out, counts);
-            Counted {
-                refusal: inferred.refusal,
-                length: inferred.length as u32,
-                states: inferred.states as u32,
-                joins: inferred.joins as u32,
-                distinct: inferred.distinct as u32,
-                counts_length: inferred.counts as u32,
-            }
-        }
-        Fields::Refused(k) => not_counted(k),
-    }
+    judge_sizes(book.len(), work.len())?;
+    let place = read_with(book, FileKind::Book, default)?;
+    let inferred = infer(wanted, book, place, work, out, counts)?;
+    Ok(Counted {
+        refusal: 0,
+        length: inferred.length as u32,
+        states: inferred.states as u32,
+        joins: inferred.joins as u32,
+        distinct: inferred.distinct as u32,
+        counts_length: inferred.counts as u32,
+    })
 }
 
 // The table alone: no counts are wanted, and there is no room for any.
-pub fn build(settings: Settings, book: &[u8], work: &mut [u8], out: &mut [u8]) -> Built
-    requires { Allowed (settings_of settings) }
-    ensures { Gives (building (settings_of settings) book.now work.old)
-        (out.old ∷ []) (out.new ∷ []) result }
+pub fn build(default: Class, book: &[u8], work: &mut [u8], out: &mut [u8]) -> Result<Built, Refusal>
+    requires { Allowed (settings_of default) }
+    ensures gives { Gives (building (settings_of default) book.now work.old)
+        (out.old ∷ []) (out.new ∷ []) (told not_built result) }
+    ensures accepted { IfOk result (λ built. built.refusal ≡ 0) }
 {
-    let mut none = [0u8; 0];
-    as_built(build_with(settings, false, book, work, out, &mut none))
+    let mut none = [0; 0];
+    let counted = build_with(default, false, book, work, out, &mut none)?;
+    Ok(Built::from(counted))
 }

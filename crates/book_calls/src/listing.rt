@@ -2,18 +2,21 @@
 // which holds nothing more by then and takes every listing; from there it is copied to the text, where it fits.
 ghost use Rattle.std.specs.Prelude.{◌≡◌, [], ◌∷◌, ◌≤◌, ◌<◌, length};
 ghost use Rattle.base.specs.Limits.{work_bytes, number_limit};
+ghost use Rattle.base.specs.Refusals.{told};
 ghost use Rattle.model.specs.Fields.{Allowed, read_table};
 ghost use Rattle.model.specs.Listing.{listing};
 ghost use Rattle.model.specs.Calls.{Gives, table_of, table_states};
 ghost use Rattle.fields.specs.Places.{settings_of};
 ghost use Rattle.writing.specs.Writing.{Fits, Put};
-ghost use Rattle.results.specs.Says.{copying, listing_book};
+ghost use Rattle.results.specs.Says.{not_written, copying, listing_book};
 
 use crate::building;
-use base::limits::{OUTPUT_TOO_SHORT, TABLE_BYTES};
-use fields::{Fields, Settings, read_table};
+use base::limits::TABLE_BYTES;
+use base::refusals::Refusal;
+use fields::read_table;
+use judging::classes::Class;
 use listings::list_table;
-use results::{Written, not_written};
+use results::Written;
 use writing::copy_in;
 
 // The listing of a table that was accepted, at the front of the text; its length.
@@ -24,40 +27,38 @@ fn list_accepted(table: &[u8], joins: usize, distinct: usize, text: &mut [u8]) -
     ensures { Put text.old text.new 0
         (listing (table_of table.now).names (table_states table.now) joins distinct) result }
 {
-    let read = read_table(table);
-    match read {
-        Fields::Accepted(p) => list_table(table, p, joins, distinct, text),
-        // never met: an accepted table is accepted again
-        Fields::Refused(_) => 0,
-    }
+    let place = read_table(table).unwrap();
+    list_table(table, place, joins, distinct, text)
 }
 
 // Refusal 13; otherwise the bytes stand at the front of the text.
-fn copy_out(bytes: &[u8], text: &mut [u8]) -> Written
+fn copy_out(bytes: &[u8], text: &mut [u8]) -> Result<Written, Refusal>
     requires { length bytes.now ≤ work_bytes }
-    ensures { Gives (copying bytes.now) (text.old ∷ []) (text.new ∷ []) result }
+    ensures { Gives (copying bytes.now) (text.old ∷ []) (text.new ∷ []) (told not_written result) }
 {
     if text.len() < bytes.len() {
-        return not_written(OUTPUT_TOO_SHORT);
+        return Err(Refusal::OutputTooShort);
     }
     copy_in(text, 0, bytes);
-    Written {
+    Ok(Written {
         refusal: 0,
         length: bytes.len() as u32,
-    }
+    })
 }
 
 // Refusals 1, the fields', 10, 13; otherwise the listing stands at the front of the text.
-pub fn list(settings: Settings, book: &[u8], work: &mut [u8], text: &mut [u8]) -> Written
-    requires { Allowed (settings_of settings) }
-    ensures { Gives (listing_book (settings_of settings) book.now work.old)
-        (text.old ∷ []) (text.new ∷ []) result }
+pub fn list(
+    default: Class,
+    book: &[u8],
+    work: &mut [u8],
+    text: &mut [u8],
+) -> Result<Written, Refusal>
+    requires { Allowed (settings_of default) }
+    ensures { Gives (listing_book (settings_of default) book.now work.old)
+        (text.old ∷ []) (text.new ∷ []) (told not_written result) }
 {
-    let mut table = [0u8; TABLE_BYTES];
-    let built = building::build(settings, book, work, &mut table);
-    if built.refusal != 0 {
-        return not_written(built.refusal);
-    }
+    let mut table = [0; TABLE_BYTES];
+    let built = building::build(default, book, work, &mut table)?;
     let end = built.length as usize;
     let length = list_accepted(
         &table[..end],

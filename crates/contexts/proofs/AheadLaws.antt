@@ -15,7 +15,7 @@ use Rattle.indexed.specs.Trees.{Arrays}
 use Rattle.indexed.specs.Partitions.{Labelled, Share}
 use Rattle.base.specs.Bits.{bit}
 use Rattle.base.proofs.Bits.{bit-zero, bit-power_same, bit-of_both, bit-of_either, bit_below, bit_shifted, bit-fallen}
-use Rattle.contexts.specs.Sweeps.{Linked}
+use Rattle.contexts.specs.Sweeps.{Linked, AllLeave}
 use Rattle.contexts.specs.Ahead.{low_of, LowNames, pair_bit, LeadsOn, LeadOnBelow, Telling}
 use Rattle.contexts.proofs.ClimbLaws.{below_suc}
 use Rattle.contexts.proofs.LinkLaws.{bits_grow}
@@ -117,12 +117,12 @@ ones_tell n j parents names old ahead labelled few ones v w v_low w-low shared =
 
 -- groups out of which a name leads in common have it in both sets
 pub next_common :
-    (n j : ℕ) (parents names old next : List ℕ) → Linked n parents names old next → (v w : ℕ) →
+    (n j : ℕ) (parents names old next : List ℕ) → AllLeave n parents names old next → (v w : ℕ) →
     Share n parents names old (suc j) v w → bit_and (get_or next (get_or old v 0) 0) (get_or next (get_or old w 0) 0) ≡ 0 → ⊥
-next_common n j parents names old next linked v w s =
+next_common n j parents names old next leave v w s =
     bits_meet (get_or names s.0 0) (get_or next (get_or old v 0) 0) (get_or next (get_or old w 0) 0)
-    (subst (λ (g : ℕ). bit (get_or names s.0 0) (get_or next g 0) ≡ 1) s.7 (linked.leaves s.0 s.2 s.4))
-    (subst₂ (λ (a g : ℕ). bit a (get_or next g 0) ≡ 1) (sym s.6) s.8 (linked.leaves s.1 s.3 s.5))
+    (subst (λ (g : ℕ). bit (get_or names s.0 0) (get_or next g 0) ≡ 1) s.7 (leave s.0 s.2 s.4))
+    (subst₂ (λ (a g : ℕ). bit a (get_or next g 0) ≡ 1) (sym s.6) s.8 (leave s.1 s.3 s.5))
 
 module _ {n : ℕ} {parents names old next : List ℕ} (ahead : List ℕ) (arrays : Arrays n parents names)
     (linked : Linked n parents names old next) (leads : LeadOnBelow n parents names old next ahead) where

@@ -13,12 +13,23 @@ use Rattle.indexed.specs.Partitions.{Refines, Labelled, ForkClosed, ContextClose
 use Rattle.indexed.specs.Passes.{BySuffix, ContextJoined}
 use Rattle.indexed.proofs.Suffixes.{up-below, up-parent, parent_below, climb_sound, suffix_cast}
 use Rattle.indexed.proofs.Contexts.{suffix_closed, climbed_closed}
+use Rattle.std.specs.Prelude.{MatchOption, Option, None, Some}
+use Rattle.partition.specs.Forests.{JoinedRoots}
 use Rattle.partition.specs.Joins.{JoinedTwo}
-use Rattle.contexts.specs.Climbs.{Above, Upward, StepsJoined, ParentsJoined, Climbed, ClimbedAt, ClimbedBelow}
+use Rattle.contexts.specs.Climbs.{Above, Upward, StepsJoined, ParentsJoined, ClimbedAt, ClimbedBelow}
 
 -- what holds below i and at i holds below suc i
 pub below_suc : (P : ℕ → Type 0) (i : ℕ) → ((v : ℕ) → v < i → P v) → P i → (v : ℕ) → v < suc i → P v
 below_suc P i before here v h = ⊎_elim (λ e. subst P (sym e) here) (λ apart. before v (omega arith)) (eq_dec v i)
+
+-- the roots of two groups that are made one, or of one group that they were already
+pub joined-roots :
+    {R : Type 0} {n : ℕ} {above above' : List ℕ} {v w : ℕ} (g : ℕ) (to from : R → ℕ) (roots : Option R) →
+    MatchOption roots (JoinedRoots n above above' v w g g)
+    (λ r. (to r < from r) × JoinedRoots n above above' v w (to r) (from r)) →
+    (t f : ℕ) × JoinedRoots n above above' v w t f
+joined-roots g to from None one = (g, g, one)
+joined-roots g to from (Some r) two = (to r, from r, two.1)
 
 -- i steps of the climb from v and w are done, and have come to a and b
 pub record Climbing (n m : ℕ) (parents : List ℕ) (v w i a b : ℕ) (groups groups' : List ℕ) : Type 0 where
@@ -96,16 +107,6 @@ module _ (n m : ℕ) (parents : List ℕ) (above : Above n parents) where
           sound = more-sound;
           steps = more-steps;
         }
-
-  pub climbing_done :
-      (v w a b : ℕ) (groups groups' : List ℕ) → Climbing n m parents v w m a b groups groups' → Climbed n m parents v w groups groups'
-  climbing_done v w a b groups groups' climbing =
-      record {
-        labelled = climbing.labelled;
-        coarser = climbing.coarser;
-        sound = climbing.sound;
-        steps = climbing.steps;
-      }
 
   module _ (starts : List ℕ) (starts-labelled : Labelled n starts) where
     start-below : (v : ℕ) → v < n → get_or starts v 0 < n

@@ -123,19 +123,6 @@ pub record Chaining
     pub some : joined ≡ true → sum groups' < sum groups
 
 module _ {n j : ℕ} {parents names old links : List ℕ} {v : ℕ} {groups : List ℕ} where
-  pub chaining_none :
-      {at : ℕ} → at ≡ get_or links v 0 → Labelled n groups → Chaining n j parents names old links v groups at groups false
-  chaining_none {at} at_is labelled =
-      record {
-        labelled = labelled;
-        coarser = λ u u' hu hu' same. same;
-        sound = λ others closed given refines. refines;
-        to_come = λ w on. subst (λ (a : ℕ). OnChain links a w) at_is on;
-        together = λ w on shared. inl (subst (λ (a : ℕ). OnChain links a w) (sym at_is) on);
-        none = λ _. refl;
-        some = λ e. absurd (false≢true e);
-      }
-
   module _ {at w : ℕ} {now-groups : List ℕ} {a : Bool} (falling : Falling links (get_or links v 0) n) (at_is : at ≡ suc w)
       (chaining : Chaining n j parents names old links v groups at now-groups a) where
     on-first : OnChain links (get_or links v 0) w
@@ -194,18 +181,6 @@ module _ {n j : ℕ} {parents names old links : List ℕ} {v : ℕ} {groups : Li
 -- ---- all arcs
 
 module _ {n j : ℕ} {parents names old links : List ℕ} where
-  pub pairs_none :
-      {groups : List ℕ} → Labelled n groups → PairsJoined n 0 j parents names old links groups groups false
-  pairs_none labelled =
-      record {
-        labelled = labelled;
-        coarser = λ v w hv hw same. same;
-        sound = λ others closed given refines. refines;
-        complete = λ v w low. let z : ⊥ = omega arith in absurd z;
-        none = λ _. refl;
-        some = λ e. absurd (false≢true e);
-      }
-
   -- arc i is compared with its chain
   pub pairs_more :
       {i : ℕ} {base groups groups' : List ℕ} {before joined : Bool} → Arrays n parents names → Chains n links → i < n →

@@ -11,3 +11,4 @@ pub mod JoinLaws
 pub mod ReadyLaws
 pub mod RoundLaws
 pub mod SweepLaws
+pub mod TreeLaws

@@ -14,18 +14,12 @@ use Rattle.base.proofs.Places.{length-numbers_from}
 use Rattle.indexed.proofs.Contexts.{joined_suffix_agree}
 use Rattle.indexed.proofs.Rounds.{due, due-less}
 use Rattle.base.proofs.Fills.{front_length}
-use Rattle.worklist.specs.Forks.{Kept}
 use Rattle.contexts.specs.Climbs.{ClimbedBelow}
 use Rattle.contexts.specs.Distances.{Tested}
 use Rattle.contexts.specs.Joins.{SweptBy}
 use Rattle.contexts.specs.Rounds.{ContextSound, ForksJoined, RoundReady}
 use Rattle.contexts.proofs.ClimbLaws.{climbs-sound}
 use Rattle.contexts.proofs.FarLaws.{tested_coarser, tested_tree}
-
--- the own numbers of a front
-pub own-front :
-    (n : ℕ) (list out : List ℕ) → n ≤ length list → out ≡ numbers_from (length (take n list)) 0 → out ≡ numbers_from n 0
-own-front n list out fits own = own ∙ ap (λ (m : ℕ). numbers_from m 0) (front_length n list fits)
 
 -- sweeps so far, the last by `before`: joined says whether another is due
 pub record RoundsTo (n h m : ℕ) (parents names before groups : List ℕ) (joined : Bool) : Type 0 where
@@ -97,44 +91,12 @@ rounds_all n h m parents names before groups joined done so_far =
     is_m : (j : ℕ) → h + j ≡ h + m → j ≡ m
     is_m j e = omega arith
 
--- a front of an array, as long as it says
-pub arrays_front :
-    (n : ℕ) (list parents names : List ℕ) → n ≤ length list → Arrays n parents names → Arrays (length (take n list)) parents names
-arrays_front n list parents names fits arrays =
-    subst (λ (m : ℕ). Arrays m parents names) (sym (front_length n list fits)) arrays
-
+-- the classes of a front, as many as there are states
 pub classes_front :
     (n h : ℕ) (list parents names classes : List ℕ) → n ≤ length list →
     SuffixClasses (length (take n list)) h parents names classes → SuffixClasses n h parents names classes
 classes_front n h list parents names classes fits by =
     subst (λ (m : ℕ). SuffixClasses m h parents names classes) (front_length n list fits) by
-
--- what a sweep asks, by the length of its groups, with as many classes
-pub sweep_asked :
-    (n h m many : ℕ) (parents names numbers before groups links heads firsts seconds : List ℕ) → Arrays n parents names →
-    numbers ≡ numbers_from n 0 → 1 < m → h + m ≤ setting_limit → many ≡ n → length before ≡ n →
-    Kept n parents names numbers groups links heads firsts seconds 0 →
-    Arrays (length groups) parents names × ((numbers ≡ numbers_from (length groups) 0) × ((many ≡ length groups)
-    × ((length before ≡ length groups) × (Kept (length groups) parents names numbers groups links heads firsts seconds 0
-    × ((1 < m) × (m ≤ setting_limit))))))
-sweep_asked n h m many parents names numbers before groups links heads firsts seconds arrays own more_names limit many_is
-    before_size kept =
-    let size : n ≡ length groups = sym kept.labelled.size in (
-      subst (λ (k : ℕ). Arrays k parents names) size arrays,
-      (
-        subst (λ (k : ℕ). numbers ≡ numbers_from k 0) size own,
-        (
-          many_is ∙ size,
-          (
-            before_size ∙ size,
-            (
-              subst (λ (k : ℕ). Kept k parents names numbers groups links heads firsts seconds 0) size kept,
-              (more_names, omega arith),
-            ),
-          ),
-        ),
-      ),
-    )
 
 -- what a sweep promises, by the number of states and by the classes that its front is
 pub sweep_told :

@@ -3,17 +3,13 @@
 -- by the names that can be walked at the beginning of the sweep, in `old`; and the sweep. Assumes nothing.
 use Rattle.std.specs.Prelude.{◌≡◌, Bool, true, false, ◌⊎◌, List, ℕ, ◌+◌, ◌<◌, ◌≤◌, length, get_or}
 use Rattle.std.specs.Int.Bits.{bit_and}
-use Rattle.base.specs.Limits.{state_limit}
-use Rattle.base.specs.Lists.{numbers_from}
-use Rattle.indexed.specs.Trees.{Arrays}
 use Rattle.indexed.specs.Partitions.{Refines, Labelled, ForkClosed, Share, SuffixAgree, sum}
 use Rattle.indexed.specs.Passes.{SuffixClasses, Swept}
 use Rattle.partition.specs.Forests.{Forest, roots_of}
 use Rattle.worklist.specs.Forks.{Kept}
 use Rattle.contexts.specs.Climbs.{ParentsJoined}
 use Rattle.contexts.specs.Distances.{Tested}
-use Rattle.contexts.specs.Sweeps.{Linked, OnChain, Falling}
-use Rattle.contexts.specs.Ahead.{Telling}
+use Rattle.contexts.specs.Sweeps.{OnChain, Falling}
 
 -- a partition as a forest, without forks, and the lists of its arcs
 pub record Live (n : ℕ) (parents names numbers above links heads firsts seconds : List ℕ) : Type 0 where
@@ -25,17 +21,6 @@ abbrev pub Apart : List ℕ → List ℕ → List ℕ → ℕ → ℕ → Type 0
 Apart old next ahead v w =
     (bit_and (get_or ahead (get_or old v 0) 0) (get_or ahead (get_or old w 0) 0) ≡ 0)
     ⊎ (bit_and (get_or next (get_or old v 0) 0) (get_or next (get_or old w 0) 0) ≡ 0)
-
--- what the comparisons of a sweep need of the groups at its beginning, `old`: the sets of names that lead out of them, of one name
--- and of two in succession
-pub record Comparing (n j : ℕ) (parents names numbers old next ahead : List ℕ) : Type 0 where
-  pub arrays : Arrays n parents names
-  pub own : numbers ≡ numbers_from n 0
-  pub labelled : Labelled n old
-  pub linked : Linked n parents names old next
-  pub next_size : length next ≡ state_limit
-  pub telling : Telling n j parents names old ahead
-  pub some : 0 < j
 
 -- the chains of the arcs into n states
 pub record Chains (n : ℕ) (links : List ℕ) : Type 0 where

@@ -1,7 +1,7 @@
 -- The arcs that the sweep over pairs goes by. In order: the first arc of each group and name, as a set of names for each group; the
 -- chains of the near ones among these arcs by class, and the links of the far ones; and the arcs on a chain. A group goes by its
 -- label, an arc by the state that it leads into. Assumes nothing.
-use Rattle.std.specs.Prelude.{◌≡◌, List, ℕ, zero, suc, ◌+◌, ◌<◌, ◌≤◌, length, get_or, set}
+use Rattle.std.specs.Prelude.{◌≡◌, List, ℕ, zero, suc, ◌+◌, ◌<◌, ◌≤◌, get_or, set}
 use Rattle.base.specs.Limits.{state_limit}
 use Rattle.indexed.specs.Chains.{Chained}
 use Rattle.base.specs.Bits.{bit}
@@ -26,6 +26,11 @@ pub record ArcOf (i : ℕ) (parents names old : List ℕ) (x a : ℕ) : Type 0 w
 pub record Linked (i : ℕ) (parents names old next : List ℕ) : Type 0 where
   pub leaves : (v : ℕ) → 0 < v → v < i → bit (get_or names v 0) (get_or next (get_or old (get_or parents v 0) 0) 0) ≡ 1
   pub arc : (x a : ℕ) → bit a (get_or next x 0) ≡ 1 → ArcOf i parents names old x a
+
+-- each name that leads out of a group is in its set
+abbrev pub AllLeave : ℕ → List ℕ → List ℕ → List ℕ → List ℕ → Type 0
+AllLeave n parents names old next =
+    (v : ℕ) → 0 < v → v < n → bit (get_or names v 0) (get_or next (get_or old (get_or parents v 0) 0) 0) ≡ 1
 
 -- arc v is of class b: it is the first of its name out of its group, and leads into a state of this class
 pub record Listed (parents names classes old : List ℕ) (b v : ℕ) : Type 0 where
@@ -88,13 +93,6 @@ pub record ArcsReady (n j : ℕ) (parents names classes old dist next links head
   pub far :
       (v : ℕ) → v < n → Listed parents names classes old (get_or classes v 0) v → Far j old dist v →
       get_or links v 0 ≡ get_or heads (get_or classes v 0) 0
-
--- what linking needs of the sizes, for n states
-pub record Sizes (n : ℕ) (classes next links heads : List ℕ) : Type 0 where
-  pub classes_size : length classes ≡ n
-  pub next_size : length next ≡ state_limit
-  pub links_size : length links ≡ state_limit
-  pub heads_size : length heads ≡ state_limit
 
 -- k links down a chain from a head or a link
 unfoldable pub link_down : List ℕ → ℕ → ℕ → ℕ

@@ -6,138 +6,116 @@
 // far, and what can be walked after two far arcs was compared by the last sweep. So the chain of a class has its near arcs alone;
 // each of them is compared with those before it, and each far arc with all of them.
 ghost use Rattle.std.specs.Prelude.{◌≡◌, ℕ, ◌+◌, ◌<◌, ◌≤◌, length, get_or};
-ghost use Rattle.indexed.specs.Trees.{Arrays};
-ghost use Rattle.indexed.specs.Partitions.{Labelled};
 ghost use Rattle.base.specs.Limits.{state_limit};
-ghost use Rattle.contexts.specs.Sweeps.{Sizes, Placed, ArcsLinked, waiting, Settled, FarLinked};
+ghost use Rattle.contexts.specs.Sweeps.{Placed, ArcsLinked, waiting, FarLinked, ArcsReady};
 
+use crate::view::View;
 use base::limits::{NO_STATE, STATE_LIMIT};
-use base::numbers::{narrow16, wide8, wide16};
 use base::sets::with_name;
+use suffixes::class_above;
 
 // What a far arc has instead of a link until the chains are whole. No arc has this number.
+// Stays: (a) fixed memory, and ArcsLinked says it as `waiting`; an Option with a third case would take twice the bytes of a link.
 const WAITING: u16 = NO_STATE + 1;
 
-// Puts arc v, the first of its name out of its group, into the chain of its class, if it has one and is near; marks it, if it is
-// far.
-fn place_arc(
-    j: usize,
-    v: usize,
-    classes: &[u16],
-    old: &[u16],
-    dist: &[u8; STATE_LIMIT],
-    links: &mut [u16],
-    heads: &mut [u16],
-)
-    requires classes_size { length classes.now ≡ length old.now }
-    requires inside { v < length old.now }
-    requires few { length old.now ≤ state_limit }
-    requires group_inside { get_or old.now v 0 < state_limit }
-    requires links_size { length links.old ≡ state_limit }
-    requires heads_size { length heads.old ≡ state_limit }
-    ensures { Placed j v classes.now old.now dist.now links.old heads.old
-        links.new heads.new }
-{
-    if NO_STATE <= classes[v] {
-        return;
-    }
-    let group = wide16(old[v]);
-    if j <= wide8(dist[group]) {
-        links[v] = WAITING;
-        return;
-    }
-    let class = wide16(classes[v]);
-    let last = heads[class];
-    links[v] = last;
-    heads[class] = narrow16(v + 1);
+// What the arcs of a sweep are linked by: the classes of the states, of one name more than the sources have in common, and how near
+// the groups are.
+#[derive(Clone, Copy)]
+pub struct Marks<'a, 'b> {
+    pub view: View<'a>,
+    pub classes: &'b [u16],
+    pub dist: &'b [u8; STATE_LIMIT],
+    pub ghost size: { length classes.now ≡ length view.old.now },
 }
 
-// One arc more, linked where it is the first of its name out of its group: its name goes into the group's set, and the arc into
-// the chain of its class.
-fn link_arc(
-    j: usize,
-    v: usize,
-    parents: &[u16],
-    names: &[u8],
-    classes: &[u16],
-    old: &[u16],
-    dist: &[u8; STATE_LIMIT],
-    next: &mut [u64],
-    links: &mut [u16],
-    heads: &mut [u16],
-)
-    requires arrays { Arrays (length old.now) parents.now names.now }
-    requires labelled { Labelled (length old.now) old.now }
-    requires no_root { 0 < v }
-    requires inside { v < length old.now }
-    requires sizes { Sizes (length old.now) classes.now next.old links.old heads.old }
-    requires so_far { ArcsLinked v j parents.now names.now classes.now old.now dist.now next.old
-        links.old heads.old }
-    ensures { ArcsLinked (v + 1) j parents.now names.now classes.now old.now
-        dist.now next.new links.new heads.new }
-{
-    let from = suffixes::class_above(old, parents, v);
-    let name = names[v];
-    let known = next[from];
-    let all = with_name(known, name);
-    if all == known {
-        return;
-    }
-    next[from] = all;
-    place_arc(j, v, classes, old, dist, links, heads);
+// The set of names that lead out of each group, in `next`, and the chains of near arcs: the last arc of each class, and the one before
+// each, plus one, 0 where there is none.
+// Stays: (a) fixed memory, and Chained says it so; an Option of u16 would take twice the bytes. What is read is an Option: `arc_of`.
+#[derive(Drop)]
+pub struct Arcs {
+    pub next: [u64; STATE_LIMIT],
+    pub links: [u16; STATE_LIMIT],
+    pub heads: [u16; STATE_LIMIT],
+    pub ghost size: { length links ≡ state_limit },
 }
 
-// The set of names that lead out of each group, in `next`, and the chains of near arcs.
-pub fn link_arcs(
-    j: usize,
-    parents: &[u16],
-    names: &[u8],
-    classes: &[u16],
-    old: &[u16],
-    dist: &[u8; STATE_LIMIT],
-    next: &mut [u64],
-    links: &mut [u16],
-    heads: &mut [u16],
-)
-    requires arrays { Arrays (length old.now) parents.now names.now }
-    requires labelled { Labelled (length old.now) old.now }
-    requires sizes { Sizes (length old.now) classes.now next.old links.old heads.old }
-    requires none { ArcsLinked 1 j parents.now names.now classes.now old.now dist.now next.old
-        links.old heads.old }
-    ensures { ArcsLinked (length old.now) j parents.now names.now classes.now
-        old.now dist.now next.new links.new heads.new }
-{
-    let mut v = 1;
-    while v < old.len() {
-        link_arc(j, v, parents, names, classes, old, dist, next, links, heads);
-        v += 1;
+impl Arcs {
+    // Puts arc v, the first of its name out of its group, into the chain of its class, if it has one and is near; marks it, if it
+    // is far.
+    fn place(&mut self, by: &Marks, v: usize)
+        requires inside { v < length by.now.view.old.now }
+        ensures placed { Placed by.now.view.j v by.now.classes.now by.now.view.old.now by.now.dist.now
+            self.old.links self.old.heads self.new.links self.new.heads }
+        ensures next { self.new.next ≡ self.old.next }
+    {
+        if NO_STATE <= by.classes[v] {
+            return;
+        }
+        let group = by.view.old[v] as usize;
+        if by.view.j <= by.dist[group] as usize {
+            self.links[v] = WAITING;
+            return;
+        }
+        let class = by.classes[v] as usize;
+        self.links[v] = self.heads[class];
+        self.heads[class] = (v + 1) as u16;
     }
-}
 
-// The link of an arc in the end: a far arc leads to the last near arc of its class.
-fn settled(link: u16, class: u16, heads: &[u16]) -> u16
-    requires heads_size { length heads.now ≡ state_limit }
-    requires classed { link ≡ waiting → class < state_limit }
-    ensures { Settled link class heads.now result }
-{
-    if link == WAITING {
-        return heads[wide16(class)];
+    // One arc more, linked where it is the first of its name out of its group: its name goes into the group's set, and the arc into
+    // the chain of its class.
+    fn link(&mut self, by: &Marks, v: usize)
+        requires no_root { 0 < v }
+        requires inside { v < length by.now.view.old.now }
+        requires so_far { ArcsLinked v by.now.view.j by.now.view.tree.parents.now by.now.view.tree.names.now
+            by.now.classes.now by.now.view.old.now by.now.dist.now self.old.next self.old.links self.old.heads }
+        ensures { ArcsLinked (v + 1) by.now.view.j by.now.view.tree.parents.now by.now.view.tree.names.now
+            by.now.classes.now by.now.view.old.now by.now.dist.now self.new.next self.new.links self.new.heads }
+    {
+        let from = class_above(by.view.old, by.view.tree.parents, v);
+        let known = self.next[from];
+        let all = with_name(known, by.view.tree.names[v]);
+        if all != known {
+            self.next[from] = all;
+            self.place(by, v);
+        }
     }
-    link
-}
 
-// Links the far arcs, when all near arcs are in their chains.
-pub fn link_far(classes: &[u16], heads: &[u16], links: &mut [u16])
-    requires few { length classes.now ≤ state_limit }
-    requires heads_size { length heads.now ≡ state_limit }
-    requires links_size { length links.old ≡ state_limit }
-    requires classed { (v : ℕ) → get_or links.old v 0 ≡ waiting → get_or classes.now v 0 < state_limit }
-    ensures { FarLinked (length classes.now) classes.now heads.now links.old
-        links.new }
-{
-    let mut v = 0;
-    while v < classes.len() {
-        links[v] = settled(links[v], classes[v], heads);
-        v += 1;
+    // All arcs, the near ones linked.
+    fn link_near(&mut self, by: &Marks)
+        requires none { ArcsLinked 1 by.now.view.j by.now.view.tree.parents.now by.now.view.tree.names.now
+            by.now.classes.now by.now.view.old.now by.now.dist.now self.old.next self.old.links self.old.heads }
+        ensures { ArcsLinked (length by.now.view.old.now) by.now.view.j by.now.view.tree.parents.now by.now.view.tree.names.now
+            by.now.classes.now by.now.view.old.now by.now.dist.now self.new.next self.new.links self.new.heads }
+    {
+        for v in 1..by.view.old.len() {
+            self.link(by, v);
+        }
+    }
+
+    // Links the far arcs, when all near arcs are in their chains: a far arc leads to the last near arc of its class.
+    fn link_far(&mut self, classes: &[u16])
+        requires few { length classes.now ≤ state_limit }
+        requires classed { (v : ℕ) → get_or self.old.links v 0 ≡ waiting → get_or classes.now v 0 < state_limit }
+        ensures links { FarLinked (length classes.now) classes.now self.old.heads self.old.links self.new.links }
+        ensures heads { self.new.heads ≡ self.old.heads }
+        ensures next { self.new.next ≡ self.old.next }
+    {
+        for (v, class) in classes.iter().enumerate() {
+            if self.links[v] == WAITING {
+                self.links[v] = self.heads[*class as usize];
+            }
+        }
+    }
+
+    // The arcs out of the groups of a sweep, by the classes of the states that they lead into, and how near their groups are; none is
+    // linked at first.
+    pub fn link_all(&mut self, by: &Marks)
+        requires none { ArcsLinked 1 by.now.view.j by.now.view.tree.parents.now by.now.view.tree.names.now
+            by.now.classes.now by.now.view.old.now by.now.dist.now self.old.next self.old.links self.old.heads }
+        ensures { ArcsReady (length by.now.view.old.now) by.now.view.j by.now.view.tree.parents.now by.now.view.tree.names.now
+            by.now.classes.now by.now.view.old.now by.now.dist.now self.new.next self.new.links self.new.heads }
+    {
+        self.link_near(by);
+        self.link_far(by.classes);
     }
 }

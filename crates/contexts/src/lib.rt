@@ -4,100 +4,93 @@
 
 pub mod ahead;
 pub mod chains;
+mod copies;
 pub mod distances;
 pub mod joins;
+pub mod view;
 
 ghost use Rattle.std.specs.Prelude.{◌≡◌, ◌+◌, ◌<◌, ◌≤◌, length};
-ghost use Rattle.base.specs.Limits.{setting_limit, state_limit};
+ghost use Rattle.base.specs.Limits.{setting_limit};
 ghost use Rattle.base.specs.Lists.{numbers_from};
-ghost use Rattle.indexed.specs.Trees.{Arrays};
 ghost use Rattle.indexed.specs.Partitions.{Refines, Labelled};
 ghost use Rattle.indexed.specs.Passes.{ContextJoined};
 ghost use Rattle.partition.specs.Forests.{Forest, roots_of};
-ghost use Rattle.worklist.specs.Settling.{NoLists, QueueRoom};
-ghost use Rattle.contexts.specs.Climbs.{Above, Climbed, ClimbedAt, ClimbedBelow, ByRoots};
+ghost use Rattle.worklist.specs.Settling.{NoLists};
+ghost use Rattle.contexts.specs.Climbs.{Climbed, ClimbedAt, ClimbedBelow, ByRoots};
 ghost use Rattle.contexts.specs.Rounds.{RoundReady};
 
+use crate::copies::copy;
 use base::limits::STATE_LIMIT;
-use base::numbers::wide16;
-use base::slices::copy;
+use indexed::Tree;
 use joins::sweep;
 use partition::forest;
-use worklist::forks::start;
-use worklist::lists::PAIR_LIMIT;
+use suffixes::{by_suffix, suffix_classes};
+use worklist::forks::{Forks, start};
 
 // Joins the groups of the ancestors of v and w, the first of each, the second, and so on up to the m-th.
-fn climb(m: usize, parents: &[u16], groups: &mut [u16], v: usize, w: usize)
-    requires above { Above (length groups.old) parents.now }
+fn climb(m: usize, tree: Tree, groups: &mut [u16], v: usize, w: usize)
+    requires size { length groups.old ≡ length tree.parents.now }
     requires forest { Forest (length groups.old) groups.old }
-    requires few { length groups.old ≤ state_limit }
     requires v_inside { v < length groups.old }
     requires w_inside { w < length groups.old }
-    ensures { ByRoots (length groups.old) (Climbed (length groups.old) m parents.now v w)
+    ensures { ByRoots (length groups.old) (Climbed (length groups.old) m tree.entry.parents.now v w)
         groups.old groups.new }
 {
     let mut a = v;
     let mut b = w;
-    let mut i = 0;
-    while i < m {
-        a = wide16(parents[a]);
-        b = wide16(parents[b]);
-        forest::join(groups, a, b);
-        i += 1;
+    for _ in 0..m {
+        a = tree.parents[a] as usize;
+        b = tree.parents[b] as usize;
+        let _ = forest::join(groups, a, b);
     }
 }
 
 // The climb of v and its start. Where the parents of both have one start too, the parents' climbs join what this one would, so
 // there is none.
-fn climb_at(m: usize, parents: &[u16], starts: &[u16], groups: &mut [u16], v: usize)
-    requires above { Above (length groups.old) parents.now }
+fn climb_at(m: usize, tree: Tree, starts: &[u16], groups: &mut [u16], v: usize)
+    requires size { length groups.old ≡ length tree.parents.now }
     requires starts_labelled { Labelled (length groups.old) starts.now }
     requires forest { Forest (length groups.old) groups.old }
-    requires few { length groups.old ≤ state_limit }
     requires v_inside { v < length groups.old }
     ensures { ByRoots (length groups.old)
-        (ClimbedAt (length groups.old) m parents.now starts.now v) groups.old
+        (ClimbedAt (length groups.old) m tree.entry.parents.now starts.now v) groups.old
         groups.new }
 {
-    let start = wide16(starts[v]);
-    let a = wide16(parents[v]);
-    let b = wide16(parents[start]);
-    if starts[a] == starts[b] {
-        return;
+    let start = starts[v] as usize;
+    let a = tree.parents[v] as usize;
+    let b = tree.parents[start] as usize;
+    if starts[a] != starts[b] {
+        climb(m, tree, groups, v, start);
     }
-    climb(m, parents, groups, v, start);
 }
 
 // The climbs of all states, each with its start.
-fn climb_all(m: usize, parents: &[u16], starts: &[u16], groups: &mut [u16])
-    requires above { Above (length groups.old) parents.now }
+fn climb_all(m: usize, tree: Tree, starts: &[u16], groups: &mut [u16])
+    requires size { length groups.old ≡ length tree.parents.now }
     requires starts_labelled { Labelled (length groups.old) starts.now }
     requires forest { Forest (length groups.old) groups.old }
-    requires few { length groups.old ≤ state_limit }
     requires starts_joined { Refines (length groups.old) starts.now (roots_of groups.old) }
     ensures { ByRoots (length groups.old)
-        (ClimbedBelow (length groups.old) (length groups.old) m parents.now starts.now)
+        (ClimbedBelow (length groups.old) (length groups.old) m tree.entry.parents.now starts.now)
         groups.old groups.new }
 {
-    let mut v = 0;
-    while v < groups.len() {
-        climb_at(m, parents, starts, groups, v);
-        v += 1;
+    for v in 0..starts.len() {
+        climb_at(m, tree, starts, groups, v);
     }
 }
 
-// The climbs of all states, each with the label of its group as it was at first.
-fn climb_starts(m: usize, parents: &[u16], groups: &mut [u16])
-    requires above { Above (length groups.old) parents.now }
+// The climbs of all states, each with the label of its group as it was at first. Its array is in no frame but its own.
+#[inline(never)]
+fn climb_starts(m: usize, tree: Tree, groups: &mut [u16])
+    requires size { length groups.old ≡ length tree.parents.now }
     requires labelled { Labelled (length groups.old) groups.old }
-    requires few { length groups.old ≤ state_limit }
-    ensures { ClimbedBelow (length groups.old) (length groups.old) m parents.now groups.old
+    ensures { ClimbedBelow (length groups.old) (length groups.old) m tree.entry.parents.now groups.old
         groups.old groups.new }
 {
     let n = groups.len();
     let mut starts = [0u16; STATE_LIMIT];
     copy(groups, &mut starts[..n]);
-    climb_all(m, parents, &starts[..n], groups);
+    climb_all(m, tree, &starts[..n], groups);
     forest::flatten(groups);
 }
 
@@ -107,107 +100,66 @@ fn climb_starts(m: usize, parents: &[u16], groups: &mut [u16])
 fn close_contexts(
     h: usize,
     m: usize,
-    parents: &[u16],
-    names: &[u8],
+    tree: Tree,
     numbers: &[u16],
     before: &mut [u16],
     groups: &mut [u16],
-    links: &mut [u16; STATE_LIMIT],
-    heads: &mut [u16; STATE_LIMIT],
-    firsts: &mut [u16; PAIR_LIMIT],
-    seconds: &mut [u16; PAIR_LIMIT],
+    forks: &mut Forks,
 )
-    requires ready { RoundReady (length groups.old) h m parents.now names.now groups.old }
+    requires ready { RoundReady (length groups.old) h m tree.parents.now tree.names.now groups.old }
     requires own_numbers { numbers.now ≡ numbers_from (length groups.old) 0 }
     requires own_before { before.old ≡ numbers_from (length groups.old) 0 }
-    requires empty { NoLists links.old heads.old }
-    requires queue { QueueRoom firsts.old seconds.old }
-    ensures { ContextJoined (length groups.old) (h + m) h parents.now names.now groups.new }
+    requires empty { NoLists forks.old.lists.links forks.old.lists.heads }
+    ensures { ContextJoined (length groups.old) (h + m) h tree.entry.parents.now tree.entry.names.now groups.new }
 {
     let n = groups.len();
     let mut classes = [0u16; STATE_LIMIT];
-    suffixes::suffix_classes(h + 1, parents, names, &mut classes[..n]);
-    start(
-        parents, names, numbers, groups, links, heads, firsts, seconds,
-    );
-    let mut joined = sweep(
-        m,
-        parents,
-        names,
-        numbers,
-        &classes[..n],
-        before,
-        groups,
-        links,
-        heads,
-        firsts,
-        seconds,
-    );
-    while joined {
-        joined = sweep(
-            m,
-            parents,
-            names,
-            numbers,
-            &classes[..n],
-            before,
-            groups,
-            links,
-            heads,
-            firsts,
-            seconds,
-        );
-    }
+    suffix_classes(h + 1, tree, &mut classes[..n]);
+    start(tree.parents, tree.names, numbers, groups, forks);
+    while sweep(m, tree, numbers, &classes[..n], before, groups, forks) {}
 }
 
-// The sweeps, with the states' own numbers, and with lists and a queue that are empty at first.
-fn run_rounds(h: usize, m: usize, parents: &[u16], names: &[u8], groups: &mut [u16])
-    requires ready { RoundReady (length groups.old) h m parents.now names.now groups.old }
-    ensures { ContextJoined (length groups.old) (h + m) h parents.now names.now groups.new }
+// The sweeps, with the states' own numbers, and with lists and a queue that are empty at first. Its arrays are in no frame but its own, as
+// the stack is small.
+#[inline(never)]
+fn run_rounds(h: usize, m: usize, tree: Tree, groups: &mut [u16])
+    requires ready { RoundReady (length groups.old) h m tree.parents.now tree.names.now groups.old }
+    ensures { ContextJoined (length groups.old) (h + m) h tree.entry.parents.now tree.entry.names.now groups.new }
 {
     let n = groups.len();
     let mut numbers = [0u16; STATE_LIMIT];
     partition::own(&mut numbers[..n]);
-    let mut before = [0u16; STATE_LIMIT];
-    partition::own(&mut before[..n]);
-    let mut links = [0u16; STATE_LIMIT];
-    let mut heads = [0u16; STATE_LIMIT];
-    let mut firsts = [0u16; PAIR_LIMIT];
-    let mut seconds = [0u16; PAIR_LIMIT];
+    let mut before = numbers;
+    let mut forks = Forks::new();
     close_contexts(
         h,
         m,
-        parents,
-        names,
+        tree,
         &numbers[..n],
         &mut before[..n],
         groups,
-        &mut links,
-        &mut heads,
-        &mut firsts,
-        &mut seconds,
+        &mut forks,
     );
 }
 
 // Joins by the context rule until it applies no more: not at all where no two states have the same last k names.
-pub fn join_by_context(k: usize, h: usize, parents: &[u16], names: &[u8], groups: &mut [u16])
-    requires arrays { Arrays (length groups.old) parents.now names.now }
+pub fn join_by_context(k: usize, h: usize, tree: Tree, groups: &mut [u16])
+    requires size { length groups.old ≡ length tree.parents.now }
     requires some { 0 < h }
     requires within { h ≤ k }
     requires limit { k ≤ setting_limit }
-    ensures { ContextJoined (length groups.old) k h parents.now names.now groups.new }
+    ensures { ContextJoined (length groups.old) k h tree.entry.parents.now tree.entry.names.now groups.new }
 {
-    let joined = suffixes::by_suffix(k, parents, names, groups);
-    if !joined {
+    if !by_suffix(k, tree, groups) {
         return;
     }
     let m = k - h;
     if m == 0 {
         return;
     }
-    climb_starts(m, parents, groups);
+    climb_starts(m, tree, groups);
     if m == 1 {
         return;
     }
-    run_rounds(h, m, parents, names, groups);
+    run_rounds(h, m, tree, groups);
 }

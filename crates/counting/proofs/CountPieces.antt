@@ -4,15 +4,16 @@ use mathlib.Core.Path.{◌≡◌, refl, sym, ap, ap₂, ◌∙◌, subst}
 use mathlib.Core.List.Memᴰ.{head as here}
 use mathlib.Core.List.Memᴰ.{tail as there}
 use mathlib.Core.List.{List, [], ◌∷◌, ◌++◌, map, flat_map, Memᴰ as In}
-use Prim.Native.Nat.{ℕ, suc, ◌+◌, ◌*◌, ◌-◌, ◌^◌, ◌<◌, ◌≤◌}
+use Prim.Native.Nat.{ℕ, suc, ◌+◌, ◌*◌, ◌^◌, ◌<◌, ◌≤◌}
 use native.Mathlib.Numerals.{add-one}
 use native.Mathlib.Omega.{arith}
-use lib.Count.{ones, count_trailing_zeros}
+use lib.Count.{ones}
 use lib.ListN.{length, get_or, drop, drop_of_length-le}
 use lib.Seq.{drop-cons, get_or-take}
 use Rattle.base.specs.Limits.{name_limit, count_mark}
 use Rattle.base.specs.Lists.{total, index_in}
 use Rattle.base.specs.Cells.{cell_at}
+use Rattle.base.specs.Sets.{TakenLowest}
 use Rattle.base.proofs.Lists.{map-in}
 use Rattle.base.proofs.Places.{length-numbers_from, number_at, nth_in, place_of, index_of_nth}
 use Rattle.model.specs.Classes.{Word}
@@ -50,39 +51,34 @@ unfolding number_bytes flat_map
 no_bytes = refl
 
 -- there is a next arc, and what is left after it
-pub record PassesMore (work : List ℕ) (row set : ℕ) (bytes : List ℕ) (name : ℕ) : Type 0 where
+pub record PassesMore (work : List ℕ) (row left : ℕ) (bytes : List ℕ) (name : ℕ) : Type 0 where
   pub low : name < name_limit
-  pub in_set : 2 ^ name ≤ set
-  pub some : 0 < 2 ^ name
   pub rest : List ℕ
   pub bytes_are : bytes ≡ two_bytes (cell_at work row name) ++ rest
-  pub after : (bits : ℕ) → bits ≡ 2 ^ name → PassesToWrite work row (set - bits) rest
+  pub after : PassesToWrite work row left rest
 
 module _ {work : List ℕ} {row set : ℕ} {bytes : List ℕ} where
   pub passes_next :
-      (name : ℕ) → PassesToWrite work row set bytes → 0 < set → name ≡ count_trailing_zeros 64 set →
-      PassesMore work row set bytes name
-  passes_next name r some e =
-      let next = arcs_more name r.arcs r.at_row some e in
+      (name left : ℕ) → PassesToWrite work row set bytes → TakenLowest set name left → PassesMore work row left bytes name
+  passes_next name left r taken =
+      let next = arcs_more name r.arcs r.at_row taken.some taken.lowest in
       record {
         low = next.low;
-        in_set = next.in_set;
-        some = next.some;
         rest = number_bytes next.rest;
         bytes_are =
             r.bytes_are ∙ ap number_bytes next.is ∙ bytes_cons next.first next.rest
             ∙ ap (λ (n : ℕ). two_bytes n ++ number_bytes next.rest) (sym next.in_cell);
-        after = λ bits b.
+        after =
             record {
               size = r.size;
               arcs = next.rest;
-              at_row = subst (λ (k : ℕ). ArcsAt r.size work row (set - k) next.rest) (sym b) next.after;
+              at_row = subst (λ (k : ℕ). ArcsAt r.size work row k next.rest) (sym taken.rest_is) next.after;
               bytes_are = refl;
             };
       }
 
-  pub passes_done : PassesToWrite work row set bytes → set ≤ 0 → bytes ≡ []
-  passes_done r h = r.bytes_are ∙ ap number_bytes (arcs_done r.arcs r.at_row h) ∙ no_bytes
+  pub passes_done : PassesToWrite work row set bytes → set ≡ 0 → bytes ≡ []
+  passes_done r h = r.bytes_are ∙ ap number_bytes (arcs_done r.arcs r.at_row (omega arith)) ∙ no_bytes
 
 -- ---- one field
 

@@ -1,5 +1,4 @@
--- A number added to one of an array and to a cell, and the cells of tree arcs cleared: at the start, one more, and at the end. Assumes
--- nothing.
+-- A number added to one of an array and to a cell, and the cells of tree arcs cleared, one more at a time. Assumes nothing.
 use mathlib.Core.Path.{◌≡◌, refl, sym, ap, ap₂, ◌∙◌, subst}
 use mathlib.Core.Logic.{◌⊎◌, inl, inr}
 use mathlib.Core.Bool.{Bool, true, false, ◌&&◌, cond}
@@ -75,10 +74,6 @@ cell_added work row column more g a r c low size =
 -- ---- cells cleared
 
 module _ (rows : List Word) (parents names groups : List ℕ) (joined : Joined rows parents names groups) where
-  pub clear_start : (work : List ℕ) → work_bytes ≤ length work → CellsClear 1 parents names groups work
-  clear_start work size =
-      record { work_size = size; each = λ v pos low. let z : ⊥ = omega arith in absurd z }
-
   -- one more cell cleared
   pub clear_more :
       (v row column : ℕ) (work work' : List ℕ) → 0 < v → v < length groups → CellsClear v parents names groups work →
@@ -118,8 +113,3 @@ module _ (rows : List Word) (parents names groups : List ℕ) (joined : Joined r
             work_size = omega (arith, length-with_cell work (get_or groups (get_or parents v 0) 0) (get_or names v 0) 0, before.work_size);
             each = λ w pw h. is-clear w pw h (eq_dec w v);
           }
-
-  pub clear_end :
-      (v : ℕ) (work : List ℕ) → length groups ≤ v → CellsClear v parents names groups work →
-      CellsClear (length groups) parents names groups work
-  clear_end v work end r = record { work_size = r.work_size; each = λ w pos low. r.each w pos (omega arith) }

@@ -1,5 +1,5 @@
 // The counts file: a field for each state, in the order of their numbers.
-ghost use Rattle.std.specs.Prelude.{List, ℕ, ◌<◌, ◌≤◌, length};
+ghost use Rattle.std.specs.Prelude.{List, ℕ, ◌<◌, ◌≤◌, length, get_or};
 ghost use Rattle.base.specs.Limits.{state_limit, work_bytes};
 ghost use Rattle.model.specs.Classes.{Word};
 ghost use Rattle.model.specs.Joinings.{tree_of};
@@ -10,8 +10,8 @@ ghost use Rattle.counting.specs.Ready.{PassesToWrite, FieldToWrite, CountsReady}
 
 use base::cells::cell;
 use base::limits::COUNT_MARK;
-use base::numbers::wide16;
-use base::sets;
+use base::sets::{Names, how_many};
+use quotient::Quotient;
 use writing::{put_head, put_two};
 
 // Writes the passes of the arcs out of a group, in ascending name. Returns the offset after them.
@@ -21,50 +21,39 @@ fn write_passes(work: &[u8], row: usize, names: u64, out: &mut [u8], at: usize) 
     ensures { (bytes : List ℕ) → PassesToWrite work.now row names bytes →
         Put out.old out.new at bytes result }
 {
-    let mut left = names;
     let mut end = at;
-    while 0 < left {
-        let name = sets::lowest(left);
-        end = put_two(out, end, cell(work, row, name));
-        left -= sets::only(name);
+    for name in Names::of(names) {
+        end = put_two(out, end, cell(work, row, name as usize));
     }
     end
 }
 
 // Writes the field of a group's state: its ends, then the passes of its arcs. Returns the offset after it.
-fn write_field(work: &[u8], row: usize, names: u64, ends: u16, out: &mut [u8], at: usize) -> usize
-    requires work_bytes_in_bounds { (work_bytes ≤ length work.now) × (row < state_limit) }
-    requires by_index { (bytes : List ℕ) × FieldToWrite work.now row names ends bytes × Fits out.old at bytes }
-    ensures { (bytes : List ℕ) → FieldToWrite work.now row names ends bytes →
+fn write_field(work: &[u8], made: &Quotient, g: usize, out: &mut [u8], at: usize) -> usize
+    requires work_bytes_in_bounds { (work_bytes ≤ length work.now) × (g < state_limit) }
+    requires by_index { (bytes : List ℕ)
+        × FieldToWrite work.now g (get_or made.now.next g 0) (get_or made.now.sums g 0) bytes × Fits out.old at bytes }
+    ensures { (bytes : List ℕ) → FieldToWrite work.now g (get_or made.now.next g 0) (get_or made.now.sums g 0) bytes →
         Put out.old out.new at bytes result }
 {
-    let body = put_head(out, at, COUNT_MARK, 2 + 2 * sets::how_many(names));
-    let first = put_two(out, body, wide16(ends));
-    write_passes(work, row, names, out, first)
+    let names = made.next[g];
+    let body = put_head(out, at, COUNT_MARK, 2 + 2 * how_many(names));
+    let first = put_two(out, body, made.sums[g] as usize);
+    write_passes(work, g, names, out, first)
 }
 
 // Writes the counts file, each byte once, and leaves the rest of the output as it was. Returns how many bytes it has.
-pub fn write_counts(
-    work: &[u8],
-    next: &[u64],
-    sums: &[u16],
-    met: &[u16],
-    count: usize,
-    out: &mut [u8],
-) -> usize
+pub fn write_counts(work: &[u8], made: &Quotient, out: &mut [u8]) -> usize
     requires { (rows : List Word) × (parents : List ℕ) × (names : List ℕ) × (groups : List ℕ)
-        × CountsReady rows parents names groups work.now next.now sums.now met.now count
+        × CountsReady rows parents names groups work.now made.now.next made.now.sums made.now.met.order made.now.met.count
         × Fits out.old 0 (counts_file (states_of rows (tree_of rows) groups) rows) }
     ensures { (rows : List Word) → (parents : List ℕ) → (names : List ℕ) → (groups : List ℕ) →
-        CountsReady rows parents names groups work.now next.now sums.now met.now count →
+        CountsReady rows parents names groups work.now made.now.next made.now.sums made.now.met.order made.now.met.count →
         Put out.old out.new 0 (counts_file (states_of rows (tree_of rows) groups) rows) result }
 {
     let mut end = 0;
-    let mut i = 0;
-    while i < count {
-        let g = wide16(met[i]);
-        end = write_field(work, g, next[g], sums[g], out, end);
-        i += 1;
+    for i in 0..made.met.count {
+        end = write_field(work, made, made.met.order[i] as usize, out, end);
     }
     end
 }

@@ -8,15 +8,19 @@ use native.Mathlib.Omega.{arith}
 use lib.ListN.{length, get_or, take, drop}
 use Rattle.base.specs.Lists.{last_or}
 use Rattle.base.specs.Limits.{name_limit, state_limit}
-use Rattle.model.specs.Calls.{Refuses}
+use Rattle.base.specs.Refusals.{number_of}
+use Rattle.base.specs.declared.refusals.Refusal.{Refusal}
+use Rattle.base.specs.declared.refusals.Refusal.TheVariants as refusal
+use Rattle.std.specs.Prelude.{Result, Ok, Err}
+use Rattle.std.specs.Result.{IsErrAnd}
 use Rattle.model.specs.Fields.{File, name_fault, class_fault, row_fault, state_fault, with_field}
 use Rattle.model.proofs.FieldLaws.{name_fits, class_fits, class_parts, row_fits, state-fits}
 use Rattle.judging.specs.Offsets.{length_at, body_at, next_at, offset_at, fields_at}
 use Rattle.judging.specs.Judged.{NameJudged, ItemJudged}
-use Rattle.fields.specs.Places.{file_of, with_item, Sound, Whole, Grown, StepBy}
+use Rattle.fields.specs.Places.{stage_of, file_of, Sound, Whole, Grown, Stepped, StepBy}
 use Rattle.fields.specs.declared.Place.{Place}
+use Rattle.fields.specs.declared.Stage.TheVariants as stage
 use Rattle.base.proofs.Lists.{last_or-snoc}
-use Rattle.fields.specs.declared.Step.{Step}
 use Rattle.judging.proofs.OffsetLaws.{body_at_lem, length-body, offset_suc, length_fields, fields_more}
 
 -- where nothing refuses one more row or state, there are fewer than the limit of both; a class has three bytes
@@ -34,31 +38,41 @@ abbrev pub name_place : Place → ℕ → ℕ → Place
 name_place p next width =
     record {
       at = next;
-      stage = 1;
+      stage = stage.NamesMet;
       names = p.names + 1;
       last = p.at + 3;
       width = width;
-      kind = p.kind;
-      first = p.first;
-      second = p.second;
+      class = p.class;
       start = next;
       items = 0;
     }
 
 -- the place after a class field with these bytes
 abbrev pub class_place : Place → ℕ → List ℕ → Place
-class_place p next class =
+class_place p next bytes =
     record {
       at = next;
-      stage = 2;
+      stage = stage.ClassMet;
       names = p.names;
       last = p.last;
       width = p.width;
-      kind = get_or class 0 0;
-      first = get_or class 1 0;
-      second = get_or class 2 0;
+      class = record { kind = get_or bytes 0 0; first = get_or bytes 1 0; second = get_or bytes 2 0 };
       start = next;
       items = 0;
+    }
+
+-- the place after one row or state more, which ends where the field at `next` begins
+abbrev pub item_place : Place → ℕ → Place
+item_place p next =
+    record {
+      at = next;
+      stage = stage.ItemsMet;
+      names = p.names;
+      last = p.last;
+      width = p.width;
+      class = p.class;
+      start = p.start;
+      items = p.items + 1;
     }
 
 module _ (s : List ℕ) (p : Place) (whole : Whole s p) where
@@ -69,13 +83,13 @@ module _ (s : List ℕ) (p : Place) (whole : Whole s p) where
   fits = whole.fits
 
   -- what a name ends at, and the run of names with it
-  names-next : p.stage ≤ 1 → offset_at s 0 (p.names + 1) ≡ next_at s p.at
+  names-next : stage_of p.stage ≤ 1 → offset_at s 0 (p.names + 1) ≡ next_at s p.at
   names-next h = rw (add-one, offset_suc, sound.names_end_fact h)
 
-  names_more : p.stage ≤ 1 → fields_at s 0 (p.names + 1) ≡ fields_at s 0 p.names ++ (body_at s p.at ∷ [])
+  names_more : stage_of p.stage ≤ 1 → fields_at s 0 (p.names + 1) ≡ fields_at s 0 p.names ++ (body_at s p.at ∷ [])
   names_more h = rw (add-one, fields_more, sound.names_end_fact h)
 
-  no_items_yet : p.stage ≤ 2 → fields_at s p.start p.items ≡ []
+  no_items_yet : stage_of p.stage ≤ 2 → fields_at s p.start p.items ≡ []
   unfolding fields_at
   no_items_yet h = rw (sound.no_items h)
 
@@ -84,7 +98,7 @@ module _ (s : List ℕ) (p : Place) (whole : Whole s p) where
       let q : next_at s p.at - (p.at + 3) ≡ length_at s p.at = omega arith in
       rw q at (body_at_lem s p.at)
 
-  name-sound : p.stage ≤ 1 → p.names < name_limit → Sound s (name_place p (next_at s p.at) (length_at s p.at))
+  name-sound : stage_of p.stage ≤ 1 → p.names < name_limit → Sound s (name_place p (next_at s p.at) (length_at s p.at))
   unfolding offset_at
   name-sound h few =
       record {
@@ -100,7 +114,7 @@ module _ (s : List ℕ) (p : Place) (whole : Whole s p) where
         some_items = λ (g : 3 ≤ 1). let z : ⊥ = omega arith in absurd z;
       }
 
-  name-grows : p.stage ≤ 1 → name_fault (file_of s p).names (body_at s p.at) ≡ 0
+  name-grows : stage_of p.stage ≤ 1 → name_fault (file_of s p).names (body_at s p.at) ≡ 0
       → Grown s p (name_fault (file_of s p).names (body_at s p.at)) (with_field (file_of s p) 1 (body_at s p.at))
       (name_place p (next_at s p.at) (length_at s p.at))
   unfolding with_field fields_at
@@ -112,7 +126,7 @@ module _ (s : List ℕ) (p : Place) (whole : Whole s p) where
         after = refl;
       }
 
-  class_grows : p.stage ≤ 2 → class_fault (body_at s p.at) ≡ 0
+  class_grows : stage_of p.stage ≤ 2 → class_fault (body_at s p.at) ≡ 0
       → Grown s p (class_fault (body_at s p.at)) (with_field (file_of s p) 2 (body_at s p.at))
       (class_place p (next_at s p.at) (body_at s p.at))
   unfolding with_field fields_at offset_at
@@ -142,7 +156,7 @@ module _ (s : List ℕ) (p : Place) (whole : Whole s p) where
   items_more : fields_at s p.start (p.items + 1) ≡ fields_at s p.start p.items ++ (body_at s p.at ∷ [])
   items_more = rw (add-one, fields_more, sound.items_end)
 
-  item_sound : p.items < state_limit → Sound s (with_item p (next_at s p.at))
+  item_sound : p.items < state_limit → Sound s (item_place p (next_at s p.at))
   item_sound few =
       record {
         within = fits;
@@ -158,30 +172,49 @@ module _ (s : List ℕ) (p : Place) (whole : Whole s p) where
       }
 
   -- the place after an item that nothing refuses
-  pub item_goes : (q : Place) (next fault : ℕ) → q ≡ with_item p next → next ≡ next_at s p.at → fault ≡ 0 → p.items < state_limit
-      → Grown s p fault (with_field (file_of s p) 3 (body_at s p.at)) q
+  pub item_goes : (next fault : ℕ) → next ≡ next_at s p.at → fault ≡ 0 → p.items < state_limit
+      → Grown s p fault (with_field (file_of s p) 3 (body_at s p.at)) (item_place p next)
   unfolding with_field
-  item_goes q next fault m n e few =
-      rw (m, n) (record { no_fault = e; sound = item_sound few; file_is = rw items_more; after = refl })
+  item_goes next fault n e few =
+      rw n (record { no_fault = e; sound = item_sound few; file_is = rw items_more; after = refl })
 
--- a fault that is not 0 is a refusal
-pub refuses_some : (fault number : ℕ) → fault ≡ number → (number ≡ 0 → ⊥) → Refuses fault number
-refuses_some fault number e n = record { is = e; some = omega arith }
+-- a refusal's number is not 0
+pub number_some : (k : Refusal) → 0 < number_of k
+number_some refusal.BadSizes = omega arith
+number_some refusal.CutOff = omega arith
+number_some refusal.Misplaced = omega arith
+number_some refusal.Unfinished = omega arith
+number_some refusal.BadName = omega arith
+number_some refusal.NameOrder = omega arith
+number_some refusal.TooMany = omega arith
+number_some refusal.BadClass = omega arith
+number_some refusal.BadRow = omega arith
+number_some refusal.TreeTooLarge = omega arith
+number_some refusal.BadState = omega arith
+number_some refusal.BadNumbering = omega arith
+number_some refusal.OutputTooShort = omega arith
+number_some refusal.BadPlan = omega arith
+number_some refusal.TooDeep = omega arith
+number_some refusal.UnknownChild = omega arith
+
+-- what is handed on as it was found
+pub handed_on : (s : List ℕ) (p : Place) (fault : ℕ) (grown : File) (r : Result Place Refusal) (k : Refusal) → IsErrAnd r (λ y. y ≡ k)
+    → fault ≡ number_of k → Stepped s p fault grown r
+handed_on s p fault grown (Ok q) k e h = absurd e
+handed_on s p fault grown (Err y) k e h = rw e (record { is = h; some = number_some k })
 
 -- What the code has at hand after judging a field: the field's bytes, its fault, where the next field begins. Of a name:
 module _ (s : List ℕ) (p : Place) (whole : Whole s p) (name : List ℕ) (fault : ℕ) (bytes : name ≡ body_at s p.at)
     (judged : NameJudged (take (p.last + p.width - p.last) (drop p.last s)) p.names name fault) where
-  name-fault-is : name_fault (file_of s p).names (body_at s p.at) ≡ fault
+  pub name-fault-is : name_fault (file_of s p).names (body_at s p.at) ≡ fault
   name-fault-is =
       let q : p.last + p.width - p.last ≡ p.width = omega arith in
       let last : last_or [] (fields_at s 0 p.names) ≡ take (p.last + p.width - p.last) (drop p.last s) =
       rw q whole.sound.last_is in
-      subst (λ (b : List ℕ). name_fault (file_of s p).names b ≡ fault) bytes (judged.is (file_of s p).names last (length_fields s 0 p.names))
+      subst (λ (b : List ℕ). name_fault (file_of s p).names b ≡ fault) bytes
+      (judged.is (file_of s p).names last (length_fields s 0 p.names))
 
-  pub name-refused : (fault ≡ 0 → ⊥) → Refuses (name_fault (file_of s p).names (body_at s p.at)) fault
-  name-refused n = refuses_some (name_fault (file_of s p).names (body_at s p.at)) fault name-fault-is n
-
-  pub name-goes : (next : ℕ) → next ≡ next_at s p.at → p.stage ≤ 1 → fault ≡ 0
+  pub name-goes : (next : ℕ) → next ≡ next_at s p.at → stage_of p.stage ≤ 1 → fault ≡ 0
       → Grown s p (name_fault (file_of s p).names (body_at s p.at)) (with_field (file_of s p) 1 (body_at s p.at))
       (name_place p next (length name))
   name-goes next n h e = rw (n, bytes, length-body s p.at whole.fits) (name-grows s p whole h (name-fault-is ∙ e))
@@ -189,13 +222,10 @@ module _ (s : List ℕ) (p : Place) (whole : Whole s p) (name : List ℕ) (fault
 -- of a class:
 module _ (s : List ℕ) (p : Place) (whole : Whole s p) (class : List ℕ) (fault : ℕ) (bytes : class ≡ body_at s p.at)
     (judged : fault ≡ class_fault class) where
-  class-fault-is : class_fault (body_at s p.at) ≡ fault
+  pub class-fault-is : class_fault (body_at s p.at) ≡ fault
   class-fault-is = rw bytes at (sym judged)
 
-  pub class_refused : (fault ≡ 0 → ⊥) → Refuses (class_fault (body_at s p.at)) fault
-  class_refused n = refuses_some (class_fault (body_at s p.at)) fault class-fault-is n
-
-  pub class_goes : (next : ℕ) → next ≡ next_at s p.at → p.stage ≤ 2 → fault ≡ 0
+  pub class_goes : (next : ℕ) → next ≡ next_at s p.at → stage_of p.stage ≤ 2 → fault ≡ 0
       → Grown s p (class_fault (body_at s p.at)) (with_field (file_of s p) 2 (body_at s p.at)) (class_place p next class)
   class_goes next n h e = rw (n, bytes) (class_grows s p whole h (class-fault-is ∙ e))
 
@@ -213,5 +243,5 @@ module _ (judge : File → List ℕ → ℕ) (s : List ℕ) (p : Place) (item : 
       omega (arith, few (file_of s p) (body_at s p.at) (item-fault-is ∙ e), length_fields s p.start p.items)
 
   -- what is found of its fault is found of what judges it; a row and a state are added to a file in one way
-  pub item_step : (r : Step) → StepBy (λ _ _. fault) 3 s p r → StepBy judge 3 s p r
+  pub item_step : (r : Result Place Refusal) → StepBy (λ _ _. fault) 3 s p r → StepBy judge 3 s p r
   item_step r h = rw item-fault-is h

@@ -14,12 +14,16 @@ use Rattle.model.specs.Fields.{FileKind, File, refused, last_stage, at_end, fiel
 use Rattle.model.specs.Fields.{stated_length, Settings, read_from, read_with}
 use Rattle.base.specs.Lists.{last_or}
 use Rattle.judging.specs.Offsets.{length_at, body_at, next_at, offset_at, fields_at}
-use Rattle.fields.specs.Places.{file_of, Sound, FieldStep, Turned, Goes, RefusedAt, Finished, ReadAs}
+use Rattle.base.specs.Refusals.{number_of}
+use Rattle.base.specs.declared.refusals.Refusal.{Refusal}
+use Rattle.base.specs.declared.refusals.Refusal.TheVariants.{Unfinished}
+use Rattle.judging.specs.declared.classes.Class.{Class}
+use Rattle.std.specs.Prelude.{Result, Ok, Err}
+use Rattle.std.specs.Result.{IsErrAnd}
+use Rattle.fields.specs.Places.{stage_of, settings_of, file_of, Sound, FieldStep, Turned, Goes, RefusedAt, Finished, ReadAs}
 use Rattle.fields.specs.declared.Place.{Place}
-use Rattle.fields.specs.declared.Step.{Step}
-use Rattle.fields.specs.declared.Step.TheVariants.{Go, Refused}
-use Rattle.fields.specs.declared.Fields.TheVariants as answer
-use Rattle.base.specs.Limits.{cut_off, unfinished}
+use Rattle.fields.specs.declared.Stage.TheVariants as stage
+use Rattle.base.specs.Limits.{cut_off}
 
 -- the definition, over the bytes that are left: at the end, past the end, refused, and going on
 read_end : (l : ℕ) (kind : FileKind) (f : File) → read_from (suc l) kind f [] ≡ at_end kind f
@@ -84,7 +88,7 @@ module _ (s : List ℕ) (p : Place) (before-end : p.at < length s) where
   unfolding body_at
   fault-left kind fault e = rw mark_left e
 
-  goes : (kind : FileKind) (q : Place) → next_at s p.at ≤ length s → FieldStep kind s p (Go q) → Goes kind s p q
+  goes : (kind : FileKind) (q : Place) → next_at s p.at ≤ length s → FieldStep kind s p (Ok q) → Goes kind s p q
   unfolding body_at
   goes kind q h j =
       record {
@@ -96,33 +100,32 @@ module _ (s : List ℕ) (p : Place) (before-end : p.at < length s) where
             ∙ rw (mark_left, after-left, j.file_is, j.after);
       }
 
-  refuses : (kind : FileKind) (k : ℕ) → next_at s p.at ≤ length s → FieldStep kind s p (Refused k) → RefusedAt kind s p k
+  refuses : (kind : FileKind) (k : Refusal) → next_at s p.at ≤ length s → FieldStep kind s p (Err k) → RefusedAt kind s p (number_of k)
   refuses kind k h j =
-      let n : k ≡ 0 → ⊥ = λ (e : k ≡ 0). omega (arith, j.some, e) in
+      let fault = number_of k in
+      let n : fault ≡ 0 → ⊥ = λ (e : fault ≡ 0). omega (arith, j.some, e) in
       record {
         some = j.some;
         reads =
             λ (l : ℕ).
-            read_refused l kind (file_of s p) (drop p.at s) k some_left (whole h) (fault-left kind k j.is) (ne_eqb k 0 n);
+            read_refused l kind (file_of s p) (drop p.at s) fault some_left (whole h) (fault-left kind fault j.is) (ne_eqb fault 0 n);
       }
 
   -- a whole field: the turn is what judging it found
-  pub turn : (kind : FileKind) (r : Step) → next_at s p.at ≤ length s → FieldStep kind s p r → Turned kind s p r
-  turn kind (Go q) h j = goes kind q h j
-  turn kind (Refused k) h j = refuses kind k h j
+  pub turn : (kind : FileKind) (r : Result Place Refusal) → next_at s p.at ≤ length s → FieldStep kind s p r → Turned kind s p r
+  turn kind (Ok q) h j = goes kind q h j
+  turn kind (Err k) h j = refuses kind k h j
 
 -- where reading begins
-abbrev pub begin : Settings → Place
-begin settings =
+abbrev pub begin : Class → Place
+begin default =
     record {
       at = 0;
-      stage = 0;
+      stage = stage.NameDue;
       names = 0;
       last = 0;
       width = 0;
-      kind = settings.default_class.kind;
-      first = settings.default_class.first;
-      second = settings.default_class.second;
+      class = default;
       start = 0;
       items = 0;
     }
@@ -134,9 +137,9 @@ pub record Reading (settings : Settings) (kind : FileKind) (s : List ℕ) (p : P
   pub enough : length s < fuel + p.at
   pub reads : read_from fuel kind (file_of s p) (drop p.at s) ≡ read_with settings kind s
 
-begin-sound : (settings : Settings) (s : List ℕ) → Sound s (begin settings)
+begin-sound : (default : Class) (s : List ℕ) → Sound s (begin default)
 unfolding offset_at fields_at last_or
-begin-sound settings s =
+begin-sound default s =
     record {
       within = omega arith;
       few_names = omega arith;
@@ -150,9 +153,9 @@ begin-sound settings s =
       some_items = λ (g : 3 ≤ 0). let z : ⊥ = omega arith in absurd z;
     }
 
-pub reading_begins : (settings : Settings) (kind : FileKind) (s : List ℕ) → Reading settings kind s (begin settings)
+pub reading_begins : (default : Class) (kind : FileKind) (s : List ℕ) → Reading (settings_of default) kind s (begin default)
 unfolding fields_at read_with
-reading_begins settings kind s = record { sound = begin-sound settings s; fuel = suc (length s); enough = omega arith; reads = refl }
+reading_begins default kind s = record { sound = begin-sound default s; fuel = suc (length s); enough = omega arith; reads = refl }
 
 module _ (settings : Settings) (kind : FileKind) (s : List ℕ) (p : Place) (reading : Reading settings kind s p) where
   -- there is fuel for one turn at least
@@ -174,21 +177,24 @@ module _ (settings : Settings) (kind : FileKind) (s : List ℕ) (p : Place) (rea
         reads = sym (g.reads t.0) ∙ t.2;
       }
 
-  pub reading_refused : (k : ℕ) → RefusedAt kind s p k → ReadAs settings kind s (answer.Refused k)
-  reading_refused k g =
+  -- what refuses a turn refuses the file
+  pub reading_refused : (r : Result Place Refusal) (k : Refusal) → IsErrAnd r (λ y. y ≡ k) → RefusedAt kind s p (number_of k)
+      → ReadAs settings kind s r
+  reading_refused (Ok q) k e g = absurd e
+  reading_refused (Err y) k e g =
       let t = one_turn in
-      record { is = sym (g.reads t.0) ∙ t.2; kept = g.some }
+      rw e (record { is = sym (g.reads t.0) ∙ t.2; kept = g.some })
 
   at_end_fact : length s ≤ p.at → at_end kind (file_of s p) ≡ read_with settings kind s
   at_end_fact h =
       let t = one_turn in
       sym (read_end t.0 kind (file_of s p)) ∙ rw (drop_of_length-le s h) at t.2
 
-  finished : length s ≤ p.at → p.stage ≡ last_stage kind → Finished kind s p
+  finished : length s ≤ p.at → stage_of p.stage ≡ last_stage kind → Finished kind s p
   finished h e = record { sound = reading.sound; at_end_fact = omega (arith, reading.sound.within); met = e }
 
-  pub reading_accepted : length s ≤ p.at → p.stage ≡ last_stage kind → ReadAs settings kind s (answer.Accepted p)
-  reading_accepted h e = record { is = rw (eq-eqb p.stage (last_stage kind) e) at (at_end_fact h); kept = finished h e }
+  pub reading_accepted : length s ≤ p.at → stage_of p.stage ≡ last_stage kind → ReadAs settings kind s (Ok p)
+  reading_accepted h e = record { is = rw (eq-eqb (stage_of p.stage) (last_stage kind) e) at (at_end_fact h); kept = finished h e }
 
-  pub reading_unfinished : length s ≤ p.at → (p.stage ≡ last_stage kind → ⊥) → ReadAs settings kind s (answer.Refused unfinished)
-  reading_unfinished h e = record { is = rw (ne_eqb p.stage (last_stage kind) e) at (at_end_fact h); kept = omega arith }
+  pub reading_unfinished : length s ≤ p.at → (stage_of p.stage ≡ last_stage kind → ⊥) → ReadAs settings kind s (Err Unfinished)
+  reading_unfinished h e = record { is = rw (ne_eqb (stage_of p.stage) (last_stage kind) e) at (at_end_fact h); kept = omega arith }

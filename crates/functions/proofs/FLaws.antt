@@ -1,6 +1,6 @@
 -- The rule of f from rounds: joined until closed, from the partition by ends on, is joined by the rule of f. One law over what it
 -- is to be closed against the arcs, then last names and seen sets. Assumes nothing.
-use mathlib.Core.Path.{◌≡◌, sym, ap, subst}
+use mathlib.Core.Path.{◌≡◌, ap}
 use mathlib.Core.Logic.{inr, ⊎_elim}
 use mathlib.Core.Bool.{true, false}
 use mathlib.Core.List.{List}
@@ -62,10 +62,6 @@ module _ (n : ℕ) (parents names ends values : List ℕ) (arrays : Arrays n par
           until.sound values
           (round-closed values (λ a b ha hb e. e) value-forks (λ v w pv pw hv hw same_name one same. one))
           (ends-inside start values by (λ v w hv hw in-v in-w alike. alike))
-
--- the tree's arrays, by the length of another array of as many states
-pub arrays_for : (n m : ℕ) (parents names : List ℕ) → m ≡ n → Arrays n parents names → Arrays m parents names
-arrays_for n m parents names size arrays = subst (λ (k : ℕ). Arrays k parents names) (sym size) arrays
 
 -- keys of none but 64 ask nothing
 none-closed :

@@ -8,16 +8,17 @@ use native.Mathlib.Nat.{pow-suc}
 use native.Mathlib.Omega.{arith}
 use lib.Bits.{bit_and, bit_or, and_step, or_zero_l, or_disjoint}
 use lib.Count.{ones, ones_step, count_trailing_zeros}
+use lib.Dec.{eqb}
 use lib.ListN.{get_or}
 use lib.Pow.{pow_pos}
 use borrow.Author.Tests.{eq-eqb, ne_eqb}
+use Rattle.std.specs.Prelude.{Option, None, Some}
+use Rattle.std.specs.Option.{unwrap_or, is_some}
 use Rattle.base.specs.Limits.{name_limit}
-use Rattle.model.proofs.NameSets.{trailing_shifted}
 use Rattle.base.proofs.Tests.{eq_dec}
-use Rattle.indexed.specs.Passes.{SeenSets}
+use Rattle.model.proofs.NameSets.{trailing_shifted}
 use Rattle.base.specs.Bits.{bit}
 use Rattle.base.proofs.Bits.{bit-zero, bit-of_set, bit-of_both, bits_told, set-again}
-use Rattle.functions.specs.Parts.{key_where, KeyAt}
 
 -- 0 has no bit, a power of 2 has one
 no_bit : (a : ℕ) → bit a 0 ≡ 1 → ⊥
@@ -65,48 +66,62 @@ grown name before after is = ⊎_elim (λ one. inl (is ∙ set-again before name
 pub not_less : (name before after : ℕ) → after ≡ bit_or before (2 ^ name) → before ≤ after
 not_less name before after is = ⊎_elim (λ same. omega arith) (λ more. omega (arith, more.0)) (grown name before after is)
 
--- the keys of an arc where the set has another number of names after it: the lowest name added, and none
-pub keys_enlarging :
-    (before after name : ℕ) → name < name_limit → after ≡ bit_or before (2 ^ name) → (ones before ≡ ones after → ⊥) →
-    (count_trailing_zeros 64 (after - before) ≡ key_where true before after name) × (name_limit ≡ key_where false before after name)
-keys_enlarging before after name below is more = go (grown name before after is)
+-- where the set has more names after the arc, the lowest name added is the arc's
+pub added_name :
+    (before after name : ℕ) → ones before < ones after → name < name_limit → after ≡ bit_or before (2 ^ name) →
+    Some (count_trailing_zeros 64 (after - before)) ≡ cond (eqb after before) None (Some name)
+added_name before after name more below is = go (grown name before after is)
   where
-    go :
-        Grown name before after →
-        (count_trailing_zeros 64 (after - before) ≡ key_where true before after name) × (name_limit ≡ key_where false before after name)
-    go (inl same) = absurd (more (sym (ap ones same)))
+    go : Grown name before after → Some (count_trailing_zeros 64 (after - before)) ≡ cond (eqb after before) None (Some name)
+    go (inl same) = absurd (omega (arith, ap ones same))
     go (inr added) =
         let difference : after - before ≡ 1 * 2 ^ name = omega (arith, added.0) in
-        let other = sym (ne_eqb after before (λ e. omega (arith, added.0, pow_pos name))) in (
-          ap (count_trailing_zeros 64) difference ∙ trailing_shifted 64 1 name refl below
-              ∙ ap (λ (b : Bool). cond (beq b true) name_limit name) other,
-          ap (λ (b : Bool). cond (beq b false) name_limit name) other,
-        )
+        ap (λ (n : ℕ). Some (count_trailing_zeros 64 n)) difference ∙ ap Some (trailing_shifted 64 1 name refl below)
+        ∙ sym (ap (λ (b : Bool). cond b None (Some name)) (ne_eqb after before (λ e. omega (arith, added.0, pow_pos name))))
 
--- and where it has no more: none, and the name
-pub keys_other :
-    (before after name : ℕ) → after ≡ bit_or before (2 ^ name) → ones after ≤ ones before →
-    (name_limit ≡ key_where true before after name) × (name ≡ key_where false before after name)
-keys_other before after name is no_more =
-    let same : after ≡ before = ⊎_elim (λ e. e) (λ added. absurd (omega (arith, added.1))) (grown name before after is) in
-    let both = sym (eq-eqb after before same) in (
-      ap (λ (b : Bool). cond (beq b true) name_limit name) both,
-      ap (λ (b : Bool). cond (beq b false) name_limit name) both,
-    )
+-- and where it has no more, none is added
+pub added_none :
+    (before after name : ℕ) → (ones before < ones after → ⊥) → after ≡ bit_or before (2 ^ name) →
+    None ≡ cond (eqb after before) None (Some name)
+added_none before after name no_more is =
+    let same : after ≡ before = ⊎_elim (λ e. e) (λ added. absurd (no_more (omega (arith, added.1)))) (grown name before after is) in
+    sym (ap (λ (b : Bool). cond b None (Some name)) (eq-eqb after before same))
 
--- the key of an arc, by the sets at its ends
-pub key_arc :
-    (enlarge : Bool) (parents names seen : List ℕ) (v parent x : ℕ) → 0 < v → parent ≡ get_or parents v 0 →
-    x ≡ key_where enlarge (get_or seen parent 0) (get_or seen v 0) (get_or names v 0) → KeyAt enlarge parents names seen v x
-key_arc enlarge parents names seen v parent x some is e =
-    record {
-      root = λ q. absurd (omega arith);
-      arc = λ h. e ∙ ap (λ (p : ℕ). key_where enlarge (get_or seen p 0) (get_or seen v 0) (get_or names v 0)) is;
-    }
+-- the key of the arc to v: its name among the arcs that enlarge the seen set, or among those that do not
+pub record KeyAt (enlarge : Bool) (parents names seen : List ℕ) (v answer : ℕ) : Type 0 where
+  pub root : v ≡ 0 → answer ≡ name_limit
+  pub arc :
+      0 < v →
+      answer ≡ cond (beq (eqb (get_or seen v 0) (get_or seen (get_or parents v 0) 0)) enlarge) name_limit (get_or names v 0)
 
--- the set after an arc, by the set before it
-pub arc-set :
-    (n : ℕ) (parents names seen : List ℕ) (v parent : ℕ) → SeenSets n parents names seen → 0 < v → v < n →
-    parent ≡ get_or parents v 0 → get_or seen v 0 ≡ bit_or (get_or seen parent 0) (2 ^ get_or names v 0)
-arc-set n parents names seen v parent sets not_root inside is =
-    sets.arc_seen v not_root inside ∙ ap (λ (p : ℕ). bit_or (get_or seen p 0) (2 ^ get_or names v 0)) (sym is)
+-- a key told by the name added, and by whether there is one
+key_added : (same : Bool) (name : ℕ) → unwrap_or (cond same None (Some name)) name_limit ≡ cond (beq same true) name_limit name
+key_added true name = refl
+key_added false name = refl
+
+key_kept : (same : Bool) (name : ℕ) →
+    cond (is_some (cond same None (Some name))) name_limit name ≡ cond (beq same false) name_limit name
+key_kept true name = refl
+key_kept false name = refl
+
+-- the keys of an arc, by the sets at its ends
+module _ (parents names seen : List ℕ) (v x : ℕ) (lowest : Option ℕ) (some : 0 < v)
+    (is : lowest ≡ cond (eqb (get_or seen v 0) (get_or seen (get_or parents v 0) 0)) None (Some (get_or names v 0))) where
+  same : Bool
+  same = eqb (get_or seen v 0) (get_or seen (get_or parents v 0) 0)
+
+  pub key_enlarging : x ≡ unwrap_or lowest name_limit → KeyAt true parents names seen v x
+  unfolding same
+  key_enlarging e =
+      record {
+        root = λ q. absurd (omega arith);
+        arc = λ h. e ∙ ap (λ (o : Option ℕ). unwrap_or o name_limit) is ∙ key_added same (get_or names v 0);
+      }
+
+  pub key_other : x ≡ cond (is_some lowest) name_limit (get_or names v 0) → KeyAt false parents names seen v x
+  unfolding same
+  key_other e =
+      record {
+        root = λ q. absurd (omega arith);
+        arc = λ h. e ∙ ap (λ (o : Option ℕ). cond (is_some o) name_limit (get_or names v 0)) is ∙ key_kept same (get_or names v 0);
+      }

@@ -1,7 +1,5 @@
 -- Laws that the functions of this crate rest on. Assumes nothing.
-pub mod FillLaws
 pub mod SeenLaws
 pub mod KeyLaws
 pub mod RoundLaws
 pub mod FLaws
-pub mod PreparedLaws

@@ -1,51 +1,17 @@
--- Laws of the parts of a joining: it is ready to be closed after the partition by ends, closed it is finished, and it is closed
--- already where the ends join nothing. Assumes nothing.
-use mathlib.Core.Path.{◌≡◌, sym, ap, subst, subst₂}
+-- Laws of a joining whose ends join nothing: it is closed already. Assumes nothing.
+use mathlib.Core.Path.{◌≡◌, ap}
 use mathlib.Core.List.{List}
 use Prim.Native.Nat.{ℕ}
-use lib.ListN.{length, get_or}
+use lib.ListN.{get_or}
 use Rattle.base.specs.Lists.{numbers_from}
 use Rattle.indexed.specs.Trees.{Arrays}
-use Rattle.indexed.specs.Partitions.{Labelled, Alone, KeyClosed}
+use Rattle.indexed.specs.Partitions.{Alone, KeyClosed}
 use Rattle.indexed.specs.Passes.{ByEnds}
 use Rattle.base.proofs.Places.{number_at}
 use Rattle.indexed.proofs.Keys.{forks-keys}
-use Rattle.indexed.proofs.Suffixes.{parent_below}
 use Rattle.indexed.proofs.Alone.{alone_same, alone_forks}
-use Rattle.worklist.specs.Settling.{RoundReady, RoundClosed, JoinedUntil}
+use Rattle.worklist.specs.Settling.{RoundClosed}
 use Rattle.functions.specs.Rounds.{FinishReady, Finished}
-
--- it is ready after the parts before it
-pub finish-ready :
-    (n : ℕ) (parents names ends values keys more numbers start : List ℕ) →
-    FinishReady n parents names ends values keys more → numbers ≡ numbers_from n 0 → Labelled n start →
-    RoundReady (length start) parents names numbers keys more start
-finish-ready n parents names ends values keys more numbers start ready own labelled =
-    subst (λ (m : ℕ). RoundReady m parents names numbers keys more start) (sym labelled.size)
-    (record {
-      few = ready.arrays.few_states;
-      parents_size = ready.arrays.parents_size;
-      names_size = ready.arrays.names_size;
-      keys_size = ready.keys_size;
-      more_size = ready.more_size;
-      parents_below = parent_below n parents names ready.arrays;
-      own = own;
-      labelled = labelled;
-    })
-
-pub finished :
-    (n : ℕ) (parents names ends values keys more numbers start groups : List ℕ) → numbers ≡ numbers_from n 0 →
-    ByEnds n ends values start →
-    JoinedUntil (RoundClosed (length start) parents names numbers keys more) (length start) start groups →
-    Finished n parents names ends values keys more groups
-finished n parents names ends values keys more numbers start groups own by until =
-    record {
-      start = start;
-      by_ends = by;
-      until =
-          subst₂ (λ (m : ℕ) (l : List ℕ). JoinedUntil (RoundClosed m parents names l keys more) m start groups)
-          by.labelled.size own until;
-    }
 
 -- states each by itself are closed: a state has at most one child by a name, and one parent
 alone_closed :

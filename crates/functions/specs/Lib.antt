@@ -1,4 +1,3 @@
--- What the parts of a joining by the rule of f promise, and the joinings. Assumes nothing.
-pub mod Parts
+-- What joining until closed by the rule of f promises, and the joinings. Assumes nothing.
 pub mod Rounds
 pub mod Results

@@ -1,13 +1,7 @@
--- What the joinings by the rule of f need and promise: some list of values of f, and the partition joined by it until none
+-- What the joinings by the rule of f promise: some list of values of f, and the partition joined by it until none
 -- applies. Assumes nothing.
-use Rattle.std.specs.Prelude.{◌≡◌, Bool, true, false, List, ℕ, length}
-use Rattle.indexed.specs.Trees.{Arrays}
+use Rattle.std.specs.Prelude.{List, ℕ}
 use Rattle.indexed.specs.Passes.{SuffixAlike, SeenSets, FJoined}
-
--- the tree's arrays, and one of how many rows end in each state: those accept in which any do
-pub record JoinReady (n : ℕ) (parents names ends : List ℕ) : Type 0 where
-  pub arrays : Arrays n parents names
-  pub ends_size : length ends ≡ n
 
 -- f is the last j names
 pub record JoinedByLast (n j : ℕ) (parents names ends groups : List ℕ) : Type 0 where
@@ -20,8 +14,3 @@ pub record JoinedBySeen (n : ℕ) (parents names ends groups : List ℕ) : Type 
   pub seen : List ℕ
   pub sets : SeenSets n parents names seen
   pub joined : FJoined n parents names ends seen groups
-
--- f is the one or the other
-pub record JoinedByF (seen : Bool) (n j : ℕ) (parents names ends groups : List ℕ) : Type 0 where
-  pub by_seen : seen ≡ true → JoinedBySeen n parents names ends groups
-  pub by_last : seen ≡ false → JoinedByLast n j parents names ends groups

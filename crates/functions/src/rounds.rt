@@ -1,32 +1,31 @@
 // The partition by ends, joined along forks and against the arcs until closed.
-ghost use Rattle.std.specs.Prelude.{◌≡◌, false, length};
-ghost use Rattle.worklist.specs.Settling.{NoKeys};
+ghost use Rattle.std.specs.Prelude.{length, option_copied};
+ghost use Rattle.worklist.specs.Keys.{given_keys};
 ghost use Rattle.functions.specs.Rounds.{FinishReady, Finished};
 
+use base::limits::STATE_LIMIT;
+use indexed::Tree;
+
 // The partition by ends, in which accepting states with one value of f are joined, and then joins until it is closed. Where the
-// ends join no states, each state is by itself, and that is closed: a state has at most one child by a name. `both` is false where
-// the second set has no keys. The states' own numbers are written into the room lent.
+// ends join no states, each state is by itself, and that is closed: a state has at most one child by a name.
 pub fn finish(
-    both: bool,
-    parents: &[u16],
-    names: &[u8],
+    tree: Tree,
     ends: &[u16],
     values: &[u64],
     keys: &[u8],
-    more: &[u8],
-    numbers: &mut [u16],
+    more: Option<&[u8]>,
     groups: &mut [u16],
 )
-    requires ready { FinishReady (length groups.old) parents.now names.now ends.now values.now keys.now more.now }
-    requires numbers_size { length numbers.old ≡ length groups.old }
-    requires one_set { both ≡ false → NoKeys (length groups.old) more.now }
-    ensures { Finished (length groups.old) parents.now names.now ends.now
-        values.now keys.now more.now groups.new }
+    requires { FinishReady (length groups.old) tree.parents.now tree.names.now ends.now values.now keys.now
+        (given_keys (length groups.old) (option_copied more)) }
+    ensures { Finished (length groups.old) tree.entry.parents.now tree.entry.names.now ends.now values.now keys.now
+        (given_keys (length groups.old) (option_copied more.entry)) groups.new }
 {
+    let mut room = [0u16; STATE_LIMIT];
+    let numbers = &mut room[..groups.len()];
     partition::own(numbers);
     let joined = values::by_ends(ends, values, groups);
-    if !joined {
-        return;
+    if joined {
+        worklist::close(tree.parents, tree.names, numbers, keys, more, groups);
     }
-    worklist::close(both, parents, names, numbers, keys, more, groups);
 }

@@ -11,7 +11,7 @@ use lib.Dec.{leb}
 use lib.ListN.{length, get_or, take, length-append}
 use lib.Seq.{take_at}
 use Rattle.base.specs.Limits.{row_limit, name_mark, book_rows}
-use Rattle.model.specs.Fields.{Class, ClassOk, File, unread, book, read_with, with_field, class_ok, settings_ok, all_below}
+use Rattle.model.specs.Fields.{Class, ClassOk, File, unread, book, read_with, with_field, class_ok, all_below}
 use Rattle.model.specs.Tables.{field_bytes, name_fields}
 use Rattle.model.proofs.FieldLaws.{RowFits, Fitting, a_name, a_class, a_row, a_state, fitting, class_parts}
 use Rattle.model.proofs.Turns.{read_keeps}
@@ -26,7 +26,7 @@ use Rattle.judging.proofs.OffsetLaws.{length-body, offset_above, length_fields}
 use Rattle.fields.proofs.Parts.{accepted_number, accepted_file-is, length-names}
 use Rattle.prefix_tree.specs.Growth.{RowsBelow}
 use Rattle.counting.specs.PassCells.{RowsShort}
-use Rattle.inference.specs.Books.{BookAt, rows_at, names_end}
+use Rattle.inference.specs.Books.{BookAt, rows_at, class_at, names_end}
 
 -- ---- names' fields one after the other
 
@@ -139,9 +139,6 @@ module _ (s : List ℕ) (p : Place) (at : BookAt s p) where
   pub names-fit : names_end p ≤ length s
   names-fit = let sound = at.read.kept.sound in omega (arith, sound.last_end, sound.names_within, sound.within)
 
-  pub rows-within : offset_at s p.start p.items ≤ length s
-  rows-within = let sound = at.read.kept.sound in omega (arith, sound.items_end, sound.within)
-
   -- it is sound
   book_ok : BookOk (file_of s p)
   book_ok =
@@ -177,7 +174,7 @@ module _ (s : List ℕ) (p : Place) (at : BookAt s p) (bytes : (i : ℕ) → i <
       sym (take_at (name_fields (file_of s p).names) keeps.later (names_end p) size)
       ∙ ap (take (names_end p)) keeps.front
 
-  pub class_allowed : settings_ok p.kind p.first p.second ≡ true
+  pub class_allowed : ClassOk (class_at p)
   class_allowed = keeps.class_ok_fact
 
   -- entries of its rows are below the limit for names

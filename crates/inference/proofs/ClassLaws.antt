@@ -1,24 +1,21 @@
 -- A partition joined by the rule of a class, whichever its kind, has the automaton of the full joining. In order: what the settings of an
 -- allowed class are, and the three kinds. Assumes nothing.
 use mathlib.Core.Path.{◌≡◌, refl, sym, ◌∙◌, subst}
-use mathlib.Core.Logic.{⊎_elim}
 use mathlib.Core.Bool.{Bool, true, false, ◌&&◌, ◌||◌, and-eq-true_iff}
 use mathlib.Core.List.{List}
 use Prim.Native.Nat.{ℕ, ◌<◌, ◌≤◌}
-use native.Mathlib.Omega.{arith}
-use borrow.Author.Tests.{leb-true, eq-eqb, ne_eqb}
+use borrow.Author.Tests.{leb-true}
 use lib.Dec.{eqb, leb}
 use lib.ListN.{length}
-use Rattle.base.specs.Limits.{setting_limit}
-use Rattle.model.specs.Fields.{class_of, context_ok, settings_ok}
+use Rattle.base.specs.Limits.{setting_limit, context_kind, seen_set_kind, last_names_kind}
+use Rattle.model.specs.Fields.{Class, class_of, context_ok, ClassOk}
 use Rattle.model.specs.Classes.{Word}
 use Rattle.model.specs.Joinings.{tree_of}
-use Rattle.base.proofs.Tests.{tells_eqb, tells_leb, tells_and, tells_or}
 use Rattle.indexed.specs.Passes.{ContextJoined, FJoined}
 use Rattle.indexed.proofs.Joined.{ClassesOfF}
 use Rattle.indexed.proofs.Values.{last_classes, seen_classes}
 use Rattle.indexed.proofs.Closing.{context_states, f_states}
-use Rattle.functions.specs.Results.{JoinedByLast, JoinedBySeen, JoinedByF}
+use Rattle.functions.specs.Results.{JoinedByLast, JoinedBySeen}
 use Rattle.inference.specs.Books.{TreeIn, JoinedBy}
 
 -- the settings of a context
@@ -38,76 +35,50 @@ or_none : (b : Bool) → (b || false) ≡ true → b ≡ true
 or_none true e = refl
 or_none false e = e
 
-pub context_settings : (kind k h : ℕ) → settings_ok kind k h ≡ true → kind ≡ 0 → ContextSettings k h
-context_settings kind k h ok e =
-    context_ok_lem k h (or_none (context_ok k h) (subst (λ (x : ℕ). settings_ok x k h ≡ true) e ok))
+pub context_settings : (k h : ℕ) → ClassOk (class_of context_kind k h) → ContextSettings k h
+context_settings k h ok = context_ok_lem k h (or_none (context_ok k h) ok)
 
--- the setting of a rule of f: none for seen sets, a number of last names
-pub function_setting : (kind j y : ℕ) → settings_ok kind j y ≡ true → (kind ≡ 0 → ⊥) → j ≤ setting_limit
-function_setting kind j y ok not-context =
-    let rest : ((eqb kind 1 && (eqb j 0 && eqb y 0)) || (eqb kind 2 && (leb j setting_limit && eqb y 0))) ≡ true =
-    rw (ne_eqb kind 0 not-context) at ok in
-    let seen = tells_and (tells_eqb kind 1) (tells_and (tells_eqb j 0) (tells_eqb y 0)) in
-    let last = tells_and (tells_eqb kind 2) (tells_and (tells_leb j setting_limit) (tells_eqb y 0)) in
-    ⊎_elim (λ p. omega (arith, p.1.0)) (λ q. q.1.0) ((tells_or seen last).fact rest)
-
-module _ (kind first second n : ℕ) (rows : List Word) (parents names ends groups : List ℕ)
+module _ (n : ℕ) (rows : List Word) (parents names ends groups : List ℕ)
     (tree : TreeIn rows parents names ends) (size : length parents ≡ n) where
   all-states : n ≡ length (tree_of rows)
   all-states = sym size ∙ tree.tree.parents_size
 
   pub by_context_fact :
-      kind ≡ 0 → settings_ok kind first second ≡ true → ContextJoined n first second parents names groups →
-      JoinedBy (class_of kind first second) rows parents names groups
-  by_context_fact e ok joined =
-      let at : ContextJoined (length (tree_of rows)) first second parents names groups =
-      subst (λ (m : ℕ). ContextJoined m first second parents names groups) all-states joined in
-      let settings = context_settings kind first second ok e in
+      (k h : ℕ) → ContextSettings k h → ContextJoined n k h parents names groups →
+      JoinedBy (class_of context_kind k h) rows parents names groups
+  by_context_fact k h settings joined =
+      let at : ContextJoined (length (tree_of rows)) k h parents names groups =
+      subst (λ (m : ℕ). ContextJoined m k h parents names groups) all-states joined in
       record {
         labels = at.labelled;
         forks = at.fork_closed;
         states =
-            context_states (class_of kind first second) rows parents names groups tree.tree (eq-eqb kind 0 e)
-            settings.some settings.within at;
+            context_states (class_of context_kind k h) rows parents names groups tree.tree refl settings.some settings.within at;
       }
 
   by_f_lem :
-      (kind ≡ 0 → ⊥) → (classes : List ℕ) → ClassesOfF (class_of kind first second) rows classes →
-      FJoined (length (tree_of rows)) parents names ends classes groups → JoinedBy (class_of kind first second) rows parents names groups
-  by_f_lem e classes told at =
+      (c : Class) → eqb c.kind context_kind ≡ false → (classes : List ℕ) → ClassesOfF c rows classes →
+      FJoined (length (tree_of rows)) parents names ends classes groups → JoinedBy c rows parents names groups
+  by_f_lem c e classes told at =
       record {
         labels = at.labelled;
         forks = at.fork_closed;
-        states =
-            f_states (class_of kind first second) rows parents names ends classes groups tree.tree tree.ends_are told
-            (ne_eqb kind 0 e) at;
+        states = f_states c rows parents names ends classes groups tree.tree tree.ends_are told e at;
       }
 
-  by_seen :
-      (kind ≡ 0 → ⊥) → eqb kind 1 ≡ true → JoinedBySeen n parents names ends groups →
-      JoinedBy (class_of kind first second) rows parents names groups
-  by_seen not-context is joined =
+  pub by_seen : JoinedBySeen n parents names ends groups → JoinedBy (class_of seen_set_kind 0 0) rows parents names groups
+  by_seen joined =
       let at : JoinedBySeen (length (tree_of rows)) parents names ends groups =
       subst (λ (m : ℕ). JoinedBySeen m parents names ends groups) all-states joined in
-      by_f_lem not-context at.seen
-      (seen_classes (class_of kind first second) rows parents names at.seen tree.tree is at.sets)
+      by_f_lem (class_of seen_set_kind 0 0) refl at.seen
+      (seen_classes (class_of seen_set_kind 0 0) rows parents names at.seen tree.tree refl at.sets)
       at.joined
 
-  by_last :
-      (kind ≡ 0 → ⊥) → eqb kind 1 ≡ false → JoinedByLast n first parents names ends groups →
-      JoinedBy (class_of kind first second) rows parents names groups
-  by_last not-context is joined =
-      let at : JoinedByLast (length (tree_of rows)) first parents names ends groups =
-      subst (λ (m : ℕ). JoinedByLast m first parents names ends groups) all-states joined in
-      by_f_lem not-context at.codes
-      (last_classes (class_of kind first second) rows parents names at.codes tree.tree is at.by_codes)
+  pub by_last :
+      (j : ℕ) → JoinedByLast n j parents names ends groups → JoinedBy (class_of last_names_kind j 0) rows parents names groups
+  by_last j joined =
+      let at : JoinedByLast (length (tree_of rows)) j parents names ends groups =
+      subst (λ (m : ℕ). JoinedByLast m j parents names ends groups) all-states joined in
+      by_f_lem (class_of last_names_kind j 0) refl at.codes
+      (last_classes (class_of last_names_kind j 0) rows parents names at.codes tree.tree refl at.by_codes)
       at.joined
-
-  pub by_function :
-      (kind ≡ 0 → ⊥) → JoinedByF (eqb kind 1) n first parents names ends groups →
-      JoinedBy (class_of kind first second) rows parents names groups
-  by_function not-context joined = go (eqb kind 1) refl
-    where
-      go : (seen : Bool) → eqb kind 1 ≡ seen → JoinedBy (class_of kind first second) rows parents names groups
-      go true e = by_seen not-context e (joined.by_seen e)
-      go false e = by_last not-context e (joined.by_last e)

@@ -13,17 +13,13 @@ use Rattle.base.proofs.Tests.{same_tests, tells_ltb, false_or}
 use Rattle.model.specs.Fields.{Class}
 use Rattle.model.specs.Tables.{State, state_fields}
 use Rattle.model.specs.Classes.{Word}
-use Rattle.model.specs.Joinings.{tree_of}
 use Rattle.model.specs.Quotients.{book_states, book_table}
 use Rattle.base.specs.Limits.{class_bytes}
 use Rattle.model.specs.Calls.{over, too_short, fronts}
 use Rattle.counts.specs.Counts.{counts_if}
 use Rattle.fields.specs.Places.{file_of}
 use Rattle.fields.specs.declared.Place.{Place}
-use Rattle.indexed.specs.Trees.{Arrays}
 use Rattle.indexed.specs.Partitions.{Joined}
-use Rattle.indexed.proofs.Words.{tree_arrays}
-use Rattle.functions.specs.Results.{JoinReady}
 use Rattle.writing.specs.Writing.{Put, front_of}
 use Rattle.writing.proofs.WritingLaws.{put_before, written-from_zero}
 use Rattle.inference.specs.Books.{BookAt, rows_at, class_at, names_end, made_of, TreeIn, JoinedBy}
@@ -36,18 +32,6 @@ prefix_fits n front rest size = omega (arith, length-append front rest)
 
 pub prefix_again : (n : ℕ) (front rest : List ℕ) → length front ≡ n → take n (front ++ rest) ≡ front
 prefix_again n front rest size = take_at front rest n size
-
--- the tree in arrays is ready to be joined, with as many groups
-pub tree_ready :
-    (rows : List Word) (parents names ends : List ℕ) (n : ℕ) → TreeIn rows parents names ends → n ≡ length parents →
-    JoinReady n parents names ends
-tree_ready rows parents names ends n tree size =
-    let all : length (tree_of rows) ≡ n = sym tree.tree.parents_size ∙ sym size in
-    record {
-      arrays =
-          subst (λ (m : ℕ). Arrays m parents names) all (tree_arrays rows parents names tree.tree tree.few);
-      ends_size = tree.ends_are.ends_size ∙ all;
-    }
 
 -- a joined partition of the tree, as the automaton is made of it
 pub joined_tree :
@@ -194,7 +178,7 @@ module _ (s : List ℕ) (p : Place) (at : BookAt s p) (bytes : (i : ℕ) → i <
         length (front_of s (names_end p) (class_at p)) ≡ front →
         Put (back front out tail) out' 0 (front_of s (names_end p) (class_at p)) next →
         TableWritten (book_table (file_of s p)) wanted_counts (length (book_states (file_of s p))) (out ∷ (counts ∷ []))
-        (out' ∷ (counts' ∷ [])) (front + size) states more
+        (out' ∷ (counts' ∷ [])) (size + front) states more
     unfolding fronts
     table-written tail counts' out' size states more next w front-size put =
         let tail-is : tail ≡ over (state_fields made) (lent front out) = ap (λ (l : List (List ℕ)). get_or l 0 []) w.outs_are in

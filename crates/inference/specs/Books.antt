@@ -1,8 +1,8 @@
 -- The place of an accepted book, and what is made of its rows on the way to its table: the prefix tree in arrays, and a partition of its
 -- states whose automaton is that of the full joining. Assumes nothing.
-use Rattle.std.specs.Prelude.{◌≡◌, List, ℕ, ◌+◌, ◌≤◌, length}
+use Rattle.std.specs.Prelude.{◌≡◌, List, ℕ, ◌+◌, ◌≤◌, length, Ok}
 use Rattle.base.specs.Limits.{state_limit}
-use Rattle.model.specs.Fields.{Class, class_of, Settings, Allowed, book}
+use Rattle.model.specs.Fields.{Class, Settings, Allowed, book}
 use Rattle.model.specs.Tables.{State}
 use Rattle.model.specs.Classes.{Word}
 use Rattle.model.specs.Joinings.{tree_of, joined_groups}
@@ -10,7 +10,7 @@ use Rattle.model.specs.Quotients.{states_of}
 use Rattle.judging.specs.Offsets.{fields_at}
 use Rattle.fields.specs.Places.{ReadAs}
 use Rattle.fields.specs.declared.Place.{Place}
-use Rattle.fields.specs.declared.Fields.TheVariants.{Accepted}
+use Rattle.judging.specs.Classes.{class_in}
 use Rattle.indexed.specs.Trees.{TreeArrays, EndsArray}
 use Rattle.indexed.specs.Partitions.{Labelled, ForkClosed, Joined}
 use Rattle.counting.specs.PassCells.{RowsShort}
@@ -19,14 +19,14 @@ use Rattle.counting.specs.PassCells.{RowsShort}
 pub record BookAt (s : List ℕ) (p : Place) : Type 0 where
   pub settings : Settings
   pub allowed : Allowed settings
-  pub read : ReadAs settings book s (Accepted p)
+  pub read : ReadAs settings book s (Ok p)
 
 -- the rows of the book, and its class
 abbrev pub rows_at : List ℕ → Place → List Word
 rows_at s p = fields_at s p.start p.items
 
 abbrev pub class_at : Place → Class
-class_at p = class_of p.kind p.first p.second
+class_at p = class_in p.class
 
 -- how many bytes the names' fields take
 abbrev pub names_end : Place → ℕ

@@ -1,30 +1,27 @@
--- Names: the test of their bytes and their order, over what is left from an offset on; and what refuses a name. Assumes nothing.
-use mathlib.Core.Path.{◌≡◌, refl, sym, ◌∙◌}
+-- Names: the test of their bytes; their order, which is that of slices in std; and what refuses a name. Assumes nothing.
+use mathlib.Core.Path.{◌≡◌, refl, sym}
 use mathlib.Core.Bool.{Bool, true, false, and-false}
 use mathlib.Core.List.{List, [], ◌∷◌}
-use Prim.Native.Nat.{ℕ, zero, suc, ◌+◌, ◌≤◌, ◌<◌}
-use native.Mathlib.Numerals.{add-one}
+use Prim.Native.Nat.{ℕ, ◌-◌, ◌≤◌, ◌<◌}
 use native.Mathlib.Omega.{arith}
-use borrow.Author.Tests.{lt-ltb, le-ltb, le-leb, lt-leb, eq-eqb, ne_eqb}
-use lib.Dec.{ltb, leb-suc-suc}
-use lib.ListN.{length, get_or, drop, drop_of_length-le}
-use lib.Seq.{drop-cons}
+use borrow.Author.Tests.{le-leb, lt-leb}
+use lib.ListN.{length, get_or, take, drop}
+use lib.Seq.{take-length}
+use Rattle.std.specs.List.{list_all}
+use Rattle.std.specs.Cmp.Lexicographic.{slice_partial_cmp}
+use Rattle.std.specs.Ordering.{nat_cmp, is_lt, partial_lt}
+use Rattle.std.specs.Prelude.{Some}
+use Rattle.std.proofs.lemmas.Cmp.{same_from_slice_cmp_tested}
+use Rattle.std.proofs.lemmas.Bool.Decides.{nat_tests}
 use Rattle.base.specs.Lists.{all, before, last_or}
 use Rattle.model.specs.Fields.{starts_name, continues_name, name_ok, above, name_fault}
 use Rattle.judging.specs.Judged.{NameJudged}
 use Rattle.base.specs.Limits.{name_limit, name_bytes, bad_name, name_order, too_many}
 
-pub all-stop : (p : ℕ → Bool) (s : List ℕ) (i : ℕ) → i < length s → p (get_or s i 0) ≡ false → all p (drop i s) ≡ false
+pub all_is : (p : ℕ → Bool) (s : List ℕ) → list_all p s ≡ all p s
 unfolding all
-all-stop p s i h g = rw (drop-cons s i 0 h, all, g)
-
-pub all_go : (p : ℕ → Bool) (s : List ℕ) (i : ℕ) → i < length s → p (get_or s i 0) ≡ true → all p (drop (i + 1) s) ≡ all p (drop i s)
-unfolding all
-all_go p s i h g = rw (add-one, drop-cons s i 0 h, g)
-
-pub all_end : (p : ℕ → Bool) (s : List ℕ) (i : ℕ) → length s ≤ i → all p (drop i s) ≡ true
-unfolding all
-all_end p s i h = rw (drop_of_length-le s h)
+all_is p [] = refl
+all_is p (x ∷ s) = rw (all_is p s)
 
 pub name_empty : (s : List ℕ) → length s ≡ 0 → name_ok s ≡ false
 unfolding name_ok
@@ -41,43 +38,22 @@ unfolding name_ok
 name_start [] h = refl
 name_start (b ∷ s) h = rw (h, and-false)
 
-pub name_rest_lem : (s : List ℕ) → 0 < length s → length s ≤ name_bytes → starts_name (get_or s 0 0) ≡ true
-    → all continues_name (drop 1 s) ≡ name_ok s
+pub name_rest : (s : List ℕ) → 0 < length s → length s ≤ name_bytes → starts_name (get_or s 0 0) ≡ true
+    → all continues_name (take (length s - 1) (drop 1 s)) ≡ name_ok s
 unfolding name_ok
-name_rest_lem [] g h e = let z : ⊥ = omega arith in absurd z
-name_rest_lem (b ∷ s) g h e = rw (le-leb (length (b ∷ s)) name_bytes h, e)
+name_rest [] g h e = let z : ⊥ = omega arith in absurd z
+name_rest (b ∷ s) g h e =
+    let q : length (b ∷ s) - 1 ≡ length s = omega arith in
+    rw (q, take-length s, le-leb (length (b ∷ s)) name_bytes h, e)
 
-pub before-short : (a b : List ℕ) (i : ℕ) → i < length a → length b ≤ i → before (drop i a) (drop i b) ≡ false
-unfolding before
-before-short a b i h g = rw (drop-cons a i 0 h, drop_of_length-le b g)
+-- what is known of a name by each test
+pub ruleset tested = (name_empty, name_long, name_start, name_rest)
 
-pub before-less : (a b : List ℕ) (i : ℕ) → i < length a → i < length b → get_or a i 0 < get_or b i 0 → before (drop i a) (drop i b) ≡ true
+-- the order of slices in std is this order
+pub before_less : (a b : List ℕ) (r : Bool) → r ≡ partial_lt (slice_partial_cmp (λ x y. Some (nat_cmp x y))) a b → r ≡ before a b
 unfolding before
-before-less a b i h g l = rw (drop-cons a i 0 h, drop-cons b i 0 g, before, lt-ltb (get_or a i 0) (get_or b i 0) l)
-
-pub before_more : (a b : List ℕ) (i : ℕ) → i < length a → i < length b → get_or b i 0 < get_or a i 0
-    → before (drop i a) (drop i b) ≡ false
-unfolding before
-before_more a b i h g l =
-    let q : get_or b i 0 ≤ get_or a i 0 = omega arith in
-    rw (drop-cons a i 0 h, drop-cons b i 0 g, before, le-ltb (get_or a i 0) (get_or b i 0) q, ne_eqb (get_or a i 0) (get_or b i 0) (omega arith))
-
-pub before-go : (a b : List ℕ) (i : ℕ) → i < length a → i < length b → get_or a i 0 ≤ get_or b i 0 → get_or b i 0 ≤ get_or a i 0
-    → before (drop (i + 1) a) (drop (i + 1) b) ≡ before (drop i a) (drop i b)
-unfolding before
-before-go a b i h g l m =
-    rw (add-one, drop-cons a i 0 h, drop-cons b i 0 g, le-ltb (get_or a i 0) (get_or b i 0) m, eq-eqb (get_or a i 0) (get_or b i 0) (omega arith))
-
--- all of a is read: it is before b exactly when b goes on
-pub before-end : (a b : List ℕ) (i : ℕ) → length a ≤ i → before (drop i a) (drop i b) ≡ ltb i (length b)
-unfolding before
-before-end a b i h = rw (drop_of_length-le a h) (rest b i)
-  where
-    rest : (b : List ℕ) (i : ℕ) → before [] (drop i b) ≡ ltb i (length b)
-    rest [] zero = refl
-    rest [] (suc i) = sym (le-ltb (suc i) 0 (omega arith))
-    rest (y ∷ b) zero = sym (lt-ltb 0 (suc (length b)) (omega arith))
-    rest (y ∷ b) (suc i) = rest b i ∙ sym (leb-suc-suc (suc i) (length b))
+before_less =
+    same_from_slice_cmp_tested nat_cmp is_lt before refl (λ _ _. refl) (λ _ _. refl) (λ x y xs ys o h. grind (arith, nat_tests))
 
 -- the last name so far, empty where there is none, decides whether an allowed name stands above
 pub above-last : (names : List (List ℕ)) (b : List ℕ) → name_ok b ≡ true → above names b ≡ before (last_or [] names) b
@@ -116,3 +92,6 @@ name_good last count name b o h =
       is = λ (names : List (List ℕ)) (e : last_or [] names ≡ last) (g : length names ≡ count).
           rw (b, above-last names name b, e, o, g, lt-leb name_limit count h);
     }
+
+-- what is said of a name by each test
+pub ruleset judged = (name_bad, name_unordered, name_too_many, name_good)

@@ -6,9 +6,9 @@ use Prim.Native.Nat.{ℕ, zero, suc, ◌+◌, ◌-◌, ◌≤◌, ◌<◌}
 use native.Mathlib.Numerals.{add-one, add-two, add-three}
 use native.Mathlib.Omega.{arith}
 use borrow.Author.Tests.{lt-ltb, le-ltb, le-leb, lt-leb}
-use lib.Dec.{leb, ltb}
-use lib.ListN.{length, get_or, drop, drop_of_length-le, length-drop}
-use lib.Seq.{drop-cons, drop-drop}
+use lib.Dec.{eqb, eqb-suc-zero, leb, ltb}
+use lib.ListN.{length, get_or, take, drop, length-drop, length-take}
+use lib.Seq.{drop-cons, drop-drop, take-length}
 use Rattle.model.specs.Fields.{arcs_ok, state_ok}
 
 -- what is left to test from offset i on, where the next arc's name is `next` or above: as in arcsOk, for some fuel that suffices
@@ -83,9 +83,79 @@ arcs_go n s next i h g a b left =
           (sym (now.turn ∙ rw (le-leb 2 (length s - suc i) q, lt-ltb (get_or s i 0) n a, le-leb next (get_or s i 0) b)));
     }
 
-pub arcs_end : (n : ℕ) (s : List ℕ) (next i : ℕ) → length s ≤ i → ArcsLeft n s next i → state_ok n s ≡ true
-arcs_end n s next i h left = sym left.rest ∙ rw (drop_of_length-le s h) (none left.fuel)
+-- as many as there are
+take-all : (n : ℕ) (s : List ℕ) → n ≡ length s → take n s ≡ s
+take-all n s e = rw e (take-length s)
+
+-- what is left to test, the next arc's name being `next` or above, decides: as in arcs_ok, for some fuel that suffices
+pub record ArcsRest (n next : ℕ) (s : List ℕ) (answer : Bool) : Type 0 where
+  pub fuel : ℕ
+  pub enough : length s ≤ fuel
+  pub rest : arcs_ok fuel n next s ≡ answer
+
+-- the test of the arc at the front, then of what comes after it
+abbrev front_test : ℕ → ℕ → List ℕ → ℕ → Bool
+front_test n next s f =
+    let a = get_or s 0 0 in
+    leb 2 (length (drop 1 s)) && ((ltb a n && leb next a) && arcs_ok f n (suc a) (drop 3 s))
+
+record FrontArc (n next : ℕ) (s : List ℕ) (answer : Bool) : Type 0 where
+  more : ℕ
+  suffices : length s ≤ suc more
+  turn : answer ≡ front_test n next s more
+
+front_arc : (n next : ℕ) (s : List ℕ) (answer : Bool) → 0 < length s → ArcsRest n next s answer → FrontArc n next s answer
+unfolding arcs_ok
+front_arc n next s answer h left = go left.fuel s h left.enough left.rest
   where
-    none : (f : ℕ) → arcs_ok f n next [] ≡ true
-    none zero = unfold arcs_ok in refl
-    none (suc f) = unfold arcs_ok in refl
+    go : (f : ℕ) (s : List ℕ) → 0 < length s → length s ≤ f → arcs_ok f n next s ≡ answer → FrontArc n next s answer
+    go zero s h e r = let z : ⊥ = omega arith in absurd z
+    go (suc f) [] h e r = let z : ⊥ = omega arith in absurd z
+    go (suc f) (a ∷ s) h e r = record { more = f; suffices = e; turn = sym r }
+
+-- no whole arc is left: the answer is whether nothing is
+pub rest_short : (n next : ℕ) (s : List ℕ) (answer : Bool) → length s < 3 → ArcsRest n next s answer → eqb (length s) 0 ≡ answer
+unfolding arcs_ok
+rest_short n next [] answer h left = none left.fuel ∙ left.rest
+  where
+    none : (f : ℕ) → true ≡ arcs_ok f n next []
+    none zero = refl
+    none (suc f) = refl
+rest_short n next (a ∷ s) answer h left =
+    let q : length s < 2 = omega arith in
+    sym ((front_arc n next (a ∷ s) answer (omega arith) left).turn ∙ rw (lt-leb 2 (length s) q) (sym (eqb-suc-zero (length s))))
+
+-- the arc at the front is not by a name's number, or not above the one before
+pub rest_unnamed : (n next : ℕ) (s : List ℕ) (answer : Bool) → 0 < length s → n ≤ get_or s 0 0 → ArcsRest n next s answer → false ≡ answer
+rest_unnamed n next s answer h g left =
+    sym ((front_arc n next s answer h left).turn ∙ rw (le-ltb (get_or s 0 0) n g, and-false))
+
+pub rest_unordered : (n next : ℕ) (s : List ℕ) (answer : Bool) → 0 < length s → get_or s 0 0 < next → ArcsRest n next s answer
+    → false ≡ answer
+rest_unordered n next s answer h g left =
+    sym ((front_arc n next s answer h left).turn ∙ rw (lt-leb next (get_or s 0 0) g, and-false, and-false))
+
+pub rest_more : (n next : ℕ) (s : List ℕ) (answer : Bool) → 3 ≤ length s → get_or s 0 0 < n → next ≤ get_or s 0 0
+    → ArcsRest n next s answer → ArcsRest n (get_or s 0 0 + 1) (take (length s - 3) (drop 3 s)) answer
+rest_more n next s answer h a b left =
+    let now = front_arc n next s answer (omega arith) left in
+    let q : 2 ≤ length (drop 1 s) = omega (arith, length-drop 1 s) in
+    record {
+      fuel = now.more;
+      enough = omega (arith, now.suffices, length-take (length s - 3) (drop 3 s), length-drop 3 s);
+      rest =
+          rw (add-one, take-all (length s - 3) (drop 3 s) (omega (arith, length-drop 3 s)))
+          (sym (now.turn ∙ rw (le-leb 2 (length (drop 1 s)) q, lt-ltb (get_or s 0 0) n a, le-leb next (get_or s 0 0) b)));
+    }
+
+-- the first byte is 0 or 1: the arcs decide
+pub state_rest : (n : ℕ) (s : List ℕ) → 0 < length s → get_or s 0 0 ≤ 1
+    → arcs_ok (length (take (length s - 1) (drop 1 s))) n 0 (take (length s - 1) (drop 1 s)) ≡ state_ok n s
+unfolding state_ok
+state_rest n [] g h = let z : ⊥ = omega arith in absurd z
+state_rest n (b ∷ s) g h =
+    let q : length (b ∷ s) - 1 ≡ length s = omega arith in
+    rw (take-all (length (b ∷ s) - 1) s q, le-leb b 1 h)
+
+-- what is known of a state field by its first byte
+pub ruleset first_bytes = (state-empty, state-first, state_rest)

@@ -1,27 +1,59 @@
-// Class fields and their refusal, 8.
+// Class fields and their refusal, 8; and the classes that they may hold.
 ghost use Rattle.std.specs.Prelude.{◌≡◌};
-ghost use Rattle.model.specs.Fields.{settings_ok, class_fault};
+ghost use Rattle.base.specs.Refusals.{fault_of};
+ghost use Rattle.model.specs.Fields.{class_fault};
+ghost use Rattle.judging.specs.Classes.{Judged};
 
-use base::limits::{BAD_CLASS, CONTEXT_KIND, LAST_NAMES_KIND, SEEN_SET_KIND, SETTING_LIMIT};
+use base::limits::{CONTEXT_KIND, LAST_NAMES_KIND, SEEN_SET_KIND, SETTING_LIMIT};
+use base::refusals::Refusal;
 
-// Whether the two settings go with the kind.
-pub fn settings_ok(kind: u8, x: u8, y: u8) -> bool
-    ensures { result ≡ settings_ok kind x y }
-{
-    (kind == CONTEXT_KIND) & (((1 <= x) & (x <= SETTING_LIMIT)) & ((1 <= y) & (y <= x)))
-        | ((kind == SEEN_SET_KIND) & ((x == 0) & (y == 0))
-            | (kind == LAST_NAMES_KIND) & ((x <= SETTING_LIMIT) & (y == 0)))
+// The three bytes of a class field as they stand, whether a class field may hold them or not.
+#[derive(Clone, Copy, PartialEq, Eq, Debug)]
+pub struct Class {
+    pub kind: u8,
+    pub first: u8,
+    pub second: u8,
 }
 
-// What refuses a class field with these bytes; 0 for nothing.
-pub fn class_fault(body: &[u8]) -> u8
-    ensures { result ≡ class_fault body.now }
+// A class that a class field may hold.
+#[derive(Clone, Copy, PartialEq, Eq, Debug)]
+pub enum Rule {
+    Context { k: u8, h: u8 },
+    SeenSet,
+    LastNames { j: u8 },
+}
+
+// Whether the two settings go with the kind, and the class that they make.
+impl TryFrom<Class> for Rule {
+    type Error = Refusal;
+
+    ghost try_from_gives = { Judged };
+
+    fn try_from(class: Class) -> Result<Rule, Refusal> {
+        match (class.kind, class.first, class.second) {
+            (CONTEXT_KIND, k @ 1..=SETTING_LIMIT, h) if 1 <= h && h <= k => Ok(Rule::Context {
+                k,
+                h,
+            }),
+            (SEEN_SET_KIND, 0, 0) => Ok(Rule::SeenSet),
+            (LAST_NAMES_KIND, j @ 0..=SETTING_LIMIT, 0) => Ok(Rule::LastNames { j }),
+            _ => Err(Refusal::BadClass),
+        }
+    }
+}
+
+// What refuses a class field with these bytes.
+#[tactic(auto, unfolding(model::specs::Fields::class_fault))]
+pub fn class_fault(body: &[u8]) -> Result<(), Refusal>
+    ensures { fault_of result ≡ class_fault body.now }
 {
-    if body.len() != 3 {
-        return BAD_CLASS;
-    }
-    if !settings_ok(body[0], body[1], body[2]) {
-        return BAD_CLASS;
-    }
-    0
+    let &[kind, first, second] = body else {
+        return Err(Refusal::BadClass);
+    };
+    Rule::try_from(Class {
+        kind,
+        first,
+        second,
+    })?;
+    Ok(())
 }

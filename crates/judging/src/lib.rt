@@ -3,6 +3,7 @@
 #![tactic(auto)]
 
 pub mod classes;
+mod items;
 pub mod names;
 pub mod offsets;
 pub mod rows;

@@ -1,90 +1,76 @@
 // Names: which bytes they have, their order, and the refusals 5, 6 and 7; and the n-th of them, by its number.
 ghost use Rattle.std.specs.Prelude.{◌≡◌, ◌≤◌, length};
+ghost use Rattle.base.specs.Lists.{all, before};
+ghost use Rattle.base.specs.Refusals.{fault_of};
 ghost use Rattle.model.specs.Fields.{starts_name, continues_name, name_ok};
-ghost use Rattle.base.specs.Lists.{before};
 ghost use Rattle.judging.specs.Judged.{NameJudged};
 ghost use Rattle.judging.specs.Offsets.{offset_at, name_at};
 
 use crate::offsets::{body, next_field};
-use base::limits::{BAD_NAME, NAME_BYTES, NAME_LIMIT, NAME_ORDER, TOO_MANY};
+use base::limits::{NAME_BYTES, NAME_LIMIT};
+use base::refusals::Refusal;
 
 // Whether a name may begin with this byte.
 pub fn starts_name(b: u8) -> bool
     ensures { result ≡ starts_name b }
 {
-    ((65 <= b) & (b <= 90) | (97 <= b) & (b <= 122)) | ((b == 95) | (b == 58))
+    matches!(b, b'A'..=b'Z' | b'a'..=b'z' | b'_' | b':')
 }
 
 // Whether this byte may stand in a name after its first.
 pub fn continues_name(b: u8) -> bool
     ensures { result ≡ continues_name b }
 {
-    starts_name(b) | ((48 <= b) & (b <= 57) | ((b == 46) | (b == 45)))
+    starts_name(b) || matches!(b, b'0'..=b'9' | b'.' | b'-')
+}
+
+// Whether these bytes may all stand in a name after its first.
+fn all_continue(bytes: &[u8]) -> bool
+    ensures { result ≡ all continues_name bytes.now }
+{
+    bytes.iter().all(|b| continues_name(*b))
 }
 
 // Whether the bytes are an allowed name.
+#[tactic(auto, using(crate::proofs::NameLaws::tested))]
 pub fn name_ok(name: &[u8]) -> bool
     ensures { result ≡ name_ok name.now }
 {
-    if name.len() == 0 {
+    let [first, rest @ ..] = name else {
         return false;
-    }
-    if NAME_BYTES < name.len() {
-        return false;
-    }
-    if !starts_name(name[0]) {
-        return false;
-    }
-    let mut i = 1;
-    while i < name.len() {
-        if !continues_name(name[i]) {
-            return false;
-        }
-        i += 1;
-    }
-    true
+    };
+    name.len() <= NAME_BYTES && starts_name(*first) && all_continue(rest)
 }
 
 // Whether a stands strictly before b in ascending byte order.
+#[tactic(auto, using(crate::proofs::NameLaws::before_less))]
 pub fn sorts_before(a: &[u8], b: &[u8]) -> bool
     ensures { result ≡ before a.now b.now }
 {
-    let mut i = 0;
-    while i < a.len() {
-        if b.len() <= i {
-            return false;
-        }
-        let x = a[i];
-        let y = b[i];
-        if x < y {
-            return true;
-        }
-        if y < x {
-            return false;
-        }
-        i += 1;
-    }
-    i < b.len()
+    a < b
 }
 
-// What refuses one more name after `count` names, the last of them `last` (empty where there is none yet); 0 for nothing.
-pub fn name_fault(last: &[u8], count: u8, name: &[u8]) -> u8
-    ensures { NameJudged last.now count name.now result }
+// What refuses one more name after `count` names, the last of them `last` (empty where there is none yet).
+#[tactic(auto, using(crate::proofs::NameLaws::judged))]
+pub fn name_fault(last: &[u8], count: u8, name: &[u8]) -> Result<(), Refusal>
+    ensures { NameJudged last.now count name.now (fault_of result) }
 {
     if !name_ok(name) {
-        return BAD_NAME;
+        return Err(Refusal::BadName);
     }
     if !sorts_before(last, name) {
-        return NAME_ORDER;
+        return Err(Refusal::NameOrder);
     }
     if NAME_LIMIT <= count {
-        return TOO_MANY;
+        return Err(Refusal::TooMany);
     }
-    0
+    Ok(())
 }
 
 // The bytes of name n of a list of `count` name fields, as a part of it; nothing where there is no such name. The list may stand at the
 // front of a file.
+// Stays: (a) no bytes for no name, as the clause of `name_at` has it (model's names by number, which listings cite, are the same).
+#[tactic(auto, using(crate::proofs::OffsetLaws::names_turned), unfolding(crate::specs::Offsets::offset_at))]
 pub fn name_at(list: &[u8], count: u8, n: u8) -> &[u8]
     requires { offset_at list.now 0 count ≤ length list.now }
     ensures { result.now ≡ name_at list.now count n }
@@ -93,10 +79,8 @@ pub fn name_at(list: &[u8], count: u8, n: u8) -> &[u8]
         return &list[..0];
     }
     let mut at = 0;
-    let mut i: u8 = 0;
-    while i < n {
+    for _ in 0..n {
         at = next_field(list, at);
-        i += 1;
     }
     body(list, at)
 }

@@ -2,14 +2,13 @@
 ghost use Rattle.std.specs.Prelude.{◌≡◌, ◌+◌, ◌≤◌, length};
 ghost use Rattle.judging.specs.Offsets.{length_at, body_at, next_at};
 
-use base::numbers::two_bytes;
-
 // How many bytes the field at this offset says that it has after its mark and length.
+#[tactic(auto, using(crate::proofs::OffsetLaws::length_at_lem))]
 pub fn body_len(s: &[u8], at: usize) -> usize
     requires { at + 3 ≤ length s.now }
     ensures { result ≡ length_at s.now at }
 {
-    two_bytes(s[at + 1], s[at + 2])
+    u16::from_be_bytes([s[at + 1], s[at + 2]]) as usize
 }
 
 // Where the field at this offset ends, which is where the next one begins.
@@ -21,11 +20,10 @@ pub fn next_field(s: &[u8], at: usize) -> usize
 }
 
 // The bytes of the field at this offset after its mark and length.
+#[tactic(auto, using(crate::proofs::OffsetLaws::body_at_lem))]
 pub fn body(s: &[u8], at: usize) -> &[u8]
     requires { next_at s.now at ≤ length s.now }
     ensures { result.now ≡ body_at s.now at }
 {
-    let from = at + 3;
-    let end = next_field(s, at);
-    &s[from..end]
+    &s[at + 3..next_field(s, at)]
 }

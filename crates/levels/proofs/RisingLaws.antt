@@ -3,8 +3,8 @@
 use mathlib.Core.Path.{◌≡◌, sym, ap, ◌∙◌}
 use mathlib.Core.Logic.{◌⊎◌, inl, inr}
 use mathlib.Core.Bool.{Bool, true, false, ◌||◌}
-use mathlib.Core.List.{List, Memᴰ as In}
-use Prim.Native.Nat.{ℕ, ◌+◌, ◌≤◌, ◌<◌}
+use mathlib.Core.List.{List, [], ◌∷◌, Memᴰ as In}
+use Prim.Native.Nat.{ℕ, ◌≤◌, ◌<◌}
 use borrow.Author.Tests.{lt-ltb, le-ltb, eq-eqb, ne_eqb}
 use lib.Dec.{ltb}
 use lib.ListN.{length, get_or}
@@ -12,9 +12,9 @@ use Rattle.base.specs.Lists.{any}
 use Rattle.base.proofs.Tests.{Tells, tells_or, tells_any, tells_ltb, tells_itself}
 use Rattle.model.specs.Tables.{Arc, State, empty_state, state_in}
 use Rattle.model.specs.Calls.{table_states}
-use Rattle.tables.specs.Arcs.{StateOk, target_at}
+use Rattle.tables.specs.Arcs.{StateOk}
 use Rattle.tables.specs.Accepting.{Ready}
-use Rattle.tables.proofs.ArcLaws.{arcs_from, arcs_turn, arcs_end, arcs_all, state-accepts}
+use Rattle.tables.proofs.ArcReads.{state-accepts}
 use Rattle.tables.proofs.ReadyLaws.{ready_ascends, targets_inside}
 use Rattle.endings.specs.Live.{ArcsAscend, is_live}
 use Rattle.endings.proofs.Levels.{tells_live}
@@ -25,20 +25,20 @@ use Rattle.levels.specs.Found.{rises}
 abbrev pub up : ℕ → Arc → Bool
 up q a = ltb q a.to
 
-module _ (s : List ℕ) (q i to : ℕ) (h : i < length s) (e : to ≡ target_at s i) where
-  -- the arc at i leads higher
-  pub up-found : q < to → any (up q) (arcs_from s i) ≡ true
+module _ {all more : List Arc} {a : Arc} (q : ℕ) (turn : all ≡ a ∷ more) where
+  -- the next arc leads higher
+  pub up-found : q < a.to → any (up q) all ≡ true
   unfolding any
-  up-found l = ap (any (up q)) (arcs_turn s i h) ∙ rw (sym e, lt-ltb q to l)
+  up-found l = ap (any (up q)) turn ∙ rw (lt-ltb q a.to l)
 
   -- or those after it decide
-  pub up-goes : to ≤ q → any (up q) (arcs_from s i) ≡ any (up q) (arcs_from s (i + 3))
+  pub up-goes : a.to ≤ q → any (up q) all ≡ any (up q) more
   unfolding any
-  up-goes l = ap (any (up q)) (arcs_turn s i h) ∙ rw (sym e, le-ltb q to l)
+  up-goes l = ap (any (up q)) turn ∙ rw (le-ltb q a.to l)
 
-pub up-end : (s : List ℕ) (q i : ℕ) → length s ≤ i → any (up q) (arcs_from s i) ≡ false
+pub up-end : {all : List Arc} (q : ℕ) → all ≡ [] → any (up q) all ≡ false
 unfolding any
-up-end s q i h = ap (any (up q)) (arcs_end s i h)
+up-end q e = ap (any (up q)) e
 
 module _ (s : List ℕ) (q : ℕ) (ok : StateOk s) where
   -- a state that accepts rises
@@ -47,9 +47,9 @@ module _ (s : List ℕ) (q : ℕ) (ok : StateOk s) where
   rises-accepting e = rw (sym (state-accepts s ok), eq-eqb (get_or s 0 0) 1 e)
 
   -- of one that does not, its arcs decide
-  pub rises-by_arcs : (get_or s 0 0 ≡ 1 → ⊥) → any (up q) (arcs_from s 1) ≡ rises q (state_in s)
+  pub rises-by_arcs : (get_or s 0 0 ≡ 1 → ⊥) → any (up q) (state_in s).arcs ≡ rises q (state_in s)
   unfolding rises
-  rises-by_arcs n = rw (sym (state-accepts s ok), ne_eqb (get_or s 0 0) 1 n, arcs_all s)
+  rises-by_arcs n = rw (sym (state-accepts s ok), ne_eqb (get_or s 0 0) 1 n)
 
 -- where every state of an accepted table rises, every state leads to an end
 pub all-rising :

@@ -16,33 +16,32 @@ ghost use Rattle.levels.specs.Sorted.{FewArcs, SameOffsets};
 ghost use Rattle.levels.specs.Found.{LevelsFound};
 
 use base::limits::STATE_LIMIT;
-use sorting::ENDS;
+use tables::opened::Opened;
 
 // The level of each state: the fewest names from it to an accepting state, plus 1, or 0 where there is no way to one.
-pub fn find_levels(s: &[u8], count: usize, work: &mut [u8], levels: &mut [u16; STATE_LIMIT])
+pub fn find_levels(s: &[u8], count: usize, work: &mut [u8]) -> [u16; STATE_LIMIT]
     requires ready { Ready s.now work.old }
     requires count_value { count ≡ length (table_states s.now) }
     requires few_arcs { FewArcs (table_states s.now) }
     ensures same_offsets { SameOffsets work.old work.new }
-    ensures levels_found { LevelsFound (table_states s.now) levels.new }
+    ensures levels_found { LevelsFound (table_states s.now) result }
 {
-    let mut ends = [0u16; ENDS];
-    sorting::sort_arcs(s, count, work, &mut ends);
-    spreading::spread(s, count, work, &ends, levels);
+    let ends = sorting::sort_arcs(s, count, work);
+    spreading::spread(Opened { s, work, count }, &ends)
 }
 
 // Marks the states that have a way to an accepting one. Where every state accepts or has an arc to one of a higher number, as in the prefix
 // tree, all have one, and nothing need be sorted.
-pub fn mark_live(s: &[u8], count: usize, work: &mut [u8], marks: &mut [u16; STATE_LIMIT])
+// Stays: (a) marks are numbers, 0 for no way, since `Marked` speaks of them so, and levels serve as marks.
+pub fn mark_live(s: &[u8], count: usize, work: &mut [u8]) -> [u16; STATE_LIMIT]
     requires ready { Ready s.now work.old }
     requires count_value { count ≡ length (table_states s.now) }
     requires few_arcs { FewArcs (table_states s.now) }
     ensures same_offsets { SameOffsets work.old work.new }
-    ensures marked { Marked (table_states s.now) marks.new }
+    ensures marked { Marked (table_states s.now) result }
 {
-    if rising::all_rise(s, count, work) {
-        *marks = [1u16; STATE_LIMIT];
-        return;
+    if rising::all_rise(Opened { s, work, count }) {
+        return [1; STATE_LIMIT];
     }
-    find_levels(s, count, work, marks);
+    find_levels(s, count, work)
 }

@@ -2,137 +2,88 @@
 ghost use Rattle.std.specs.Prelude.{◌≡◌, ℕ, ◌*◌, ◌<◌, ◌≤◌, length, replicate};
 ghost use Rattle.base.specs.Limits.{state_limit, work_bytes, input_limit};
 ghost use Rattle.model.specs.Calls.{table_states};
-ghost use Rattle.tables.specs.Accepting.{Ready};
 ghost use Rattle.levels.specs.Sorted.{SortedArcs, source_at};
 ghost use Rattle.levels.specs.Found.{LevelsFound};
-ghost use Rattle.levels.specs.Queues.{MayEnter, Longer, SourceIn, Accepts, AcceptsBelow};
+ghost use Rattle.levels.specs.Queues.{MayEnter, Longer, SourceIn, AcceptsBelow};
 
 use crate::places::source_at;
 use crate::sorting::ENDS;
 use base::limits::STATE_LIMIT;
-use base::numbers::{narrow16, wide16};
-use tables::{accepts, field_at};
+use tables::opened::Opened;
 
-// A state that has no level yet gets this one, and enters the queue. Returns how many stand there.
-fn reach(
-    q: usize,
-    level: u16,
-    levels: &mut [u16; STATE_LIMIT],
-    queue: &mut [u16; STATE_LIMIT],
+// The level of each state, 0 for none yet; and the states that have one, in the order in which they got it, as many as `last`.
+// Stays: (a) 0 for none and arrays side by side: fixed memory, and LevelsFound speaks of these numbers.
+#[derive(Drop)]
+struct Reached {
+    levels: [u16; STATE_LIMIT],
+    queue: [u16; STATE_LIMIT],
     last: usize,
-) -> usize
-    requires q_lt_state_limit { q < state_limit }
-    requires may_enter { MayEnter level levels.old queue.old last }
-    ensures { Longer (λ (p : ℕ). p ≡ q) level levels.old queue.old last
-        levels.new queue.new result }
-{
-    if 0 < levels[q] {
-        return last;
-    }
-    levels[q] = level;
-    queue[last] = narrow16(q);
-    last + 1
 }
 
-// The state with number q has level 1 and enters the queue, if it accepts. Returns how many stand there.
-fn reach_accepting(
-    s: &[u8],
-    q: usize,
-    work: &[u8],
-    levels: &mut [u16; STATE_LIMIT],
-    queue: &mut [u16; STATE_LIMIT],
-    last: usize,
-) -> usize
-    requires ready { Ready s.now work.now }
-    requires q_in_bounds { q < length (table_states s.now) }
-    requires may_enter { MayEnter 1 levels.old queue.old last }
-    ensures { Longer (λ (p : ℕ). (p ≡ q) × Accepts (table_states s.now) q) 1 levels.old queue.old last
-        levels.new queue.new result }
-{
-    if accepts(s, field_at(work, q)) {
-        return reach(q, 1, levels, queue, last);
+impl Reached {
+    // A state that has no level yet gets this one, and enters the queue.
+    fn reach(&mut self, q: usize, level: u16)
+        requires q_lt_state_limit { q < state_limit }
+        requires may_enter { MayEnter level self.old.levels self.old.queue self.old.last }
+        ensures { Longer (λ (p : ℕ). p ≡ q) level self.old.levels self.old.queue self.old.last
+            self.new.levels self.new.queue self.new.last }
+    {
+        if 0 < self.levels[q] {
+            return;
+        }
+        let last = self.last;
+        self.levels[q] = level;
+        self.queue[last] = q as u16;
+        self.last = last + 1;
     }
-    last
+
+    // The sources in these places that have no level yet get this one, and enter the queue.
+    fn reach_from(&mut self, work: &[u8], from: usize, to: usize, level: u16)
+        requires work_bytes_in_bounds { work_bytes ≤ length work.now }
+        requires to_bound { 3 * to ≤ input_limit }
+        requires by_index { (j : ℕ) → from ≤ j → j < to → source_at work.now j < state_limit }
+        requires may_enter { MayEnter level self.old.levels self.old.queue self.old.last }
+        ensures { Longer (SourceIn work.now from to) level self.old.levels self.old.queue self.old.last
+            self.new.levels self.new.queue self.new.last }
+    {
+        for j in from..to {
+            self.reach(source_at(work, j), level);
+        }
+    }
 }
 
-// The accepting states have level 1 and stand in the queue; all others have 0. Returns how many stand there.
-fn put_accepting(
-    s: &[u8],
-    count: usize,
-    work: &[u8],
-    levels: &mut [u16; STATE_LIMIT],
-    queue: &mut [u16; STATE_LIMIT],
-) -> usize
-    requires ready { Ready s.now work.now }
-    requires count_value { count ≡ length (table_states s.now) }
-    requires queue_len { length queue.old ≡ state_limit }
-    ensures { Longer (AcceptsBelow (table_states s.now) count) 1 (replicate state_limit 0) queue.old 0
-        levels.new queue.new result }
+// The accepting states have level 1 and stand in the queue; all others have none.
+fn reach_accepting(table: Opened) -> Reached
+    ensures { Longer (AcceptsBelow (table_states table.entry.s.now) (length (table_states table.entry.s.now))) 1
+        (replicate state_limit 0) (replicate state_limit 0) 0 result.levels result.queue result.last }
 {
-    *levels = [0u16; STATE_LIMIT];
-    let mut last = 0;
-    let mut q = 0;
-    while q < count {
-        last = reach_accepting(s, q, work, levels, queue, last);
-        q += 1;
+    let mut reached = Reached {
+        levels: [0; STATE_LIMIT],
+        queue: [0; STATE_LIMIT],
+        last: 0,
+    };
+    for q in 0..table.count {
+        if table.accepts(q) {
+            reached.reach(q, 1);
+        }
     }
-    last
+    reached
 }
 
-// The sources in these places that have no level yet get this one, and enter the queue. Returns how many stand there.
-fn reach_from(
-    work: &[u8],
-    from: usize,
-    to: usize,
-    level: u16,
-    levels: &mut [u16; STATE_LIMIT],
-    queue: &mut [u16; STATE_LIMIT],
-    last: usize,
-) -> usize
-    requires work_bytes_in_bounds { work_bytes ≤ length work.now }
-    requires to_bound { 3 * to ≤ input_limit }
-    requires by_index { (j : ℕ) → from ≤ j → j < to → source_at work.now j < state_limit }
-    requires may_enter { MayEnter level levels.old queue.old last }
-    ensures { Longer (SourceIn work.now from to) level levels.old queue.old last levels.new
-        queue.new result }
+// The level of each state.
+pub fn spread(table: Opened, ends: &[u16; ENDS]) -> [u16; STATE_LIMIT]
+    requires { SortedArcs (table_states table.s.now) table.work.now ends.now }
+    ensures { LevelsFound (table_states table.entry.s.now) result }
 {
-    let mut end = last;
-    let mut j = from;
-    while j < to {
-        end = reach(source_at(work, j), level, levels, queue, end);
-        j += 1;
-    }
-    end
-}
-
-// The level of each state. The array may hold anything.
-pub fn spread(
-    s: &[u8],
-    count: usize,
-    work: &[u8],
-    ends: &[u16; ENDS],
-    levels: &mut [u16; STATE_LIMIT],
-)
-    requires ready { Ready s.now work.now }
-    requires count_value { count ≡ length (table_states s.now) }
-    requires sorted_arcs { SortedArcs (table_states s.now) work.now ends.now }
-    ensures { LevelsFound (table_states s.now) levels.new }
-{
-    let mut queue = [0u16; STATE_LIMIT];
-    let mut last = put_accepting(s, count, work, levels, &mut queue);
+    let mut reached = reach_accepting(table);
     let mut first = 0;
-    while first < last {
-        let t = wide16(queue[first]);
-        let level = levels[t] + 1;
-        last = reach_from(
-            work,
-            wide16(ends[t]),
-            wide16(ends[t + 1]),
-            level,
-            levels,
-            &mut queue,
-            last,
-        );
+    // Stays: (d) the queue grows while it is gone through, so that no `for` goes over it; a method that takes the next state is no plainer,
+    // since `reach` and `reach_from` would have to say that they leave `first` as it was.
+    while first < reached.last {
+        let t = reached.queue[first] as usize;
+        let level = reached.levels[t] + 1;
+        reached.reach_from(table.work, ends[t] as usize, ends[t + 1] as usize, level);
         first += 1;
     }
+    reached.levels
 }

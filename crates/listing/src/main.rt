@@ -22,13 +22,11 @@ fn main(rt: HostRuntime) -> io::Result<()> {
 // Whether there is an argument after the program's name: one too long to be copied is one as well.
 fn has_arguments(rt: &impl Env) -> bool {
     let mut first = [0u8; 1];
-    match rt.arg(1, &mut first) {
-        Err(FillError::NotPresent) => false,
-        _ => true,
-    }
+    !matches!(rt.arg(1, &mut first), Err(FillError::NotPresent))
 }
 
 // All of an input, or so much of it as shows that it is over the longest.
+// Stays: (d) worked_days has the same three lines; a crate for them, of which each program has to be told, is no plainer.
 fn read_book<R: Read + Drop>(alloc: Global, input: R) -> io::Result<Vec<u8>> {
     let mut book = Vec::new(alloc);
     input.take(INPUT_LIMIT as u64 + 1).read_to_end(&mut book)?;

@@ -1,48 +1,38 @@
--- Lines written piece by piece: the arcs of a state from an offset in its field on, the states of a table from a number on; each
+-- Lines written piece by piece: the arcs of a state one after another, the states of a table from a number on; each
 -- from its begin over one turn of a loop to its end; and a listing is its first line and its states' lines. Assumes nothing.
 use mathlib.Core.Path.{◌≡◌, sym, ap, ap₂, ◌∙◌, subst}
-use mathlib.Core.List.{List, ◌++◌, flat_map}
+use mathlib.Core.List.{List, [], ◌∷◌, ◌++◌, flat_map}
 use Prim.Native.Nat.{ℕ, ◌+◌, ◌≤◌, ◌<◌}
 use native.Mathlib.Numerals.{add-one}
-use lib.ListN.{length, get_or, drop, drop_of_length-le}
+use lib.ListN.{length, get_or, drop, drop_of_length-le, length-append}
 use lib.Seq.{drop-cons}
-use Rattle.model.specs.Tables.{Arc, arc, State, empty_state, state_in}
+use Rattle.model.specs.Tables.{Arc, State, empty_state}
 use Rattle.model.specs.Listing.{arc_text, state_line, state_lines, first_line, listing}
-use Rattle.tables.specs.Arcs.{target_at}
-use Rattle.tables.proofs.ArcLaws.{arcs_from, arcs_all, arcs_turn, arcs_end}
 use Rattle.writing.specs.Writing.{Fits, Put}
+use Rattle.writing.proofs.WritingLaws.{put_append}
 use Rattle.writing.proofs.TextLaws.{Writing, begins, finishes}
 
--- of the arcs of a state's field those from offset i on are left to write
-abbrev pub ArcsWriting : List (List ℕ) → List ℕ → List ℕ → ℕ → List ℕ → ℕ → ℕ → Type 0
-ArcsWriting names s text₀ at text next i =
-    Writing text₀ at (flat_map (arc_text names) (state_in s).arcs) text next (flat_map (arc_text names) (arcs_from s i))
+-- of these arcs some are left to write
+abbrev pub ArcsWriting : List (List ℕ) → List Arc → List ℕ → ℕ → List ℕ → ℕ → List Arc → Type 0
+ArcsWriting names arcs text₀ at text next left =
+    Writing text₀ at (flat_map (arc_text names) arcs) text next (flat_map (arc_text names) left)
 
-module _ (names : List (List ℕ)) (s : List ℕ) where
-  pub arcs_begin :
-      (text : List ℕ) (at : ℕ) → Fits text at (flat_map (arc_text names) (state_in s).arcs) → ArcsWriting names s text at text at 1
-  arcs_begin text at fits =
-      let whole = flat_map (arc_text names) (state_in s).arcs in
-      subst (λ (arcs : List Arc). Writing text at whole text at (flat_map (arc_text names) arcs)) (sym (arcs_all s))
-      (begins text at whole fits)
+pub arcs_begin :
+    (names : List (List ℕ)) (arcs left : List Arc) (text : List ℕ) (at : ℕ) → left ≡ arcs →
+    Fits text at (flat_map (arc_text names) arcs) → ArcsWriting names arcs text at text at left
+arcs_begin names arcs left text at e fits = rw e (begins text at (flat_map (arc_text names) arcs) fits)
 
+module _ (names : List (List ℕ)) {text₀ : List ℕ} {at : ℕ} {whole text : List ℕ} {next : ℕ} {left : List Arc} where
   -- the next arc comes first of what is left
   pub arcs_next :
-      (i to : ℕ) {text₀ : List ℕ} {at : ℕ} {whole text : List ℕ} {next : ℕ} → i < length s → to ≡ target_at s i →
-      Writing text₀ at whole text next (flat_map (arc_text names) (arcs_from s i)) →
-      Writing text₀ at whole text next (arc_text names (arc (get_or s i 0) to) ++ flat_map (arc_text names) (arcs_from s (i + 3)))
+      (a : Arc) (more : List Arc) → left ≡ a ∷ more → Writing text₀ at whole text next (flat_map (arc_text names) left) →
+      Writing text₀ at whole text next (arc_text names a ++ flat_map (arc_text names) more)
   unfolding flat_map
-  arcs_next i to {text₀} {at} {whole} {text} {next} h e w =
-      let rest = flat_map (arc_text names) (arcs_from s (i + 3)) in
-      subst (Writing text₀ at whole text next)
-      (ap (flat_map (arc_text names)) (arcs_turn s i h) ∙ ap (λ (t : ℕ). arc_text names (arc (get_or s i 0) t) ++ rest) (sym e)) w
+  arcs_next a more e w = subst (Writing text₀ at whole text next) (ap (flat_map (arc_text names)) e) w
 
-  pub arcs_finish :
-      (i : ℕ) {text₀ : List ℕ} {at : ℕ} {whole text : List ℕ} {next : ℕ} → length s ≤ i →
-      Writing text₀ at whole text next (flat_map (arc_text names) (arcs_from s i)) → Put text₀ text at whole next
+  pub arcs_finish : left ≡ [] → Writing text₀ at whole text next (flat_map (arc_text names) left) → Put text₀ text at whole next
   unfolding flat_map
-  arcs_finish i {text₀} {at} {whole} {text} {next} h w =
-      finishes (subst (Writing text₀ at whole text next) (ap (flat_map (arc_text names)) (arcs_end s i h)) w)
+  arcs_finish e w = finishes (subst (Writing text₀ at whole text next) (ap (flat_map (arc_text names)) e) w)
 
 -- of the states' lines those from state i on are left to write
 abbrev pub StatesWriting : List (List ℕ) → List State → List ℕ → ℕ → List ℕ → ℕ → ℕ → Type 0
@@ -79,3 +69,6 @@ pub listing-parts :
 unfolding listing
 listing-parts names names' states items joins distinct d e =
     ap₂ (λ (n : ℕ) (l : List (List ℕ)). first_line n joins distinct ++ state_lines l 0 states) (sym e) d
+
+-- pieces written one after the other, and how long they are together
+pub ruleset pieces = (length-append, put_append)

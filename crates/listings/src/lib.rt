@@ -4,63 +4,52 @@
 #![tactic(auto)]
 
 mod arcs;
+mod table;
 mod words;
 
 ghost use Rattle.std.specs.Prelude.{◌<◌};
 ghost use Rattle.base.specs.Limits.{number_limit};
 ghost use Rattle.model.specs.Listing.{state_line, state_lines, listing, refusal_text};
 ghost use Rattle.model.specs.Calls.{table_of, table_states};
-ghost use Rattle.fields.specs.Places.{Sound};
 ghost use Rattle.tables.specs.Accepting.{TableRead, StateField};
 ghost use Rattle.writing.specs.Writing.{Fits, Put};
-ghost use Rattle.listings.specs.Texts.{names_at, state_at};
+ghost use Rattle.listings.specs.Texts.{names_of, state_at};
 
-use base::numbers::wide8;
 use fields::Place;
 use judging::offsets::next_field;
+use table::Table;
 use tables::accepts;
 use words::{NEWLINE, SPACE, put_first_line};
 use writing::decimals::put_decimal;
 use writing::{copy_in, put_byte};
 
 // The line of state i, whose field stands at `from`.
-fn put_state_line(
-    table: &[u8],
-    place: Place,
-    i: usize,
-    from: usize,
-    text: &mut [u8],
-    at: usize,
-) -> usize
-    requires sound { Sound table.now place }
-    requires state_field { StateField table.now from }
+#[tactic(auto, using(crate::proofs::LineLaws::pieces), unfolding(model::specs::Listing::state_line))]
+fn put_state_line(table: Table, i: usize, from: usize, text: &mut [u8], at: usize) -> usize
+    requires state_field { StateField table.bytes.now from }
     requires i_lt_number_limit { i < number_limit }
-    requires fits { Fits text.old at (state_line (names_at table.now place) i (state_at table.now from)) }
+    requires fits { Fits text.old at (state_line (names_of table) i (state_at table.bytes.now from)) }
     ensures { Put text.old text.new at
-        (state_line (names_at table.now place) i (state_at table.now from)) result }
+        (state_line (names_of table.entry) i (state_at table.entry.bytes.now from)) result }
 {
     let mut next = put_decimal(text, at, i);
     next = put_byte(text, next, SPACE);
-    next = put_byte(text, next, words::sign(accepts(table, from)));
-    next = arcs::put_arcs(table, place, from, text, next);
+    next = put_byte(text, next, words::sign(accepts(table.bytes, from)));
+    next = arcs::put_arcs(table, from, text, next);
     put_byte(text, next, NEWLINE)
 }
 
-// The lines of all states of a table as read.
-fn put_states(table: &[u8], place: Place, text: &mut [u8], at: usize) -> usize
-    requires table_read { TableRead table.now place }
-    requires fits { Fits text.old at (state_lines (names_at table.now place) 0 (table_states table.now)) }
+// The lines of all states.
+fn put_states(table: Table, text: &mut [u8], at: usize) -> usize
+    requires { Fits text.old at (state_lines (names_of table) 0 (table_states table.bytes.now)) }
     ensures { Put text.old text.new at
-        (state_lines (names_at table.now place) 0 (table_states table.now)) result }
+        (state_lines (names_of table.entry) 0 (table_states table.entry.bytes.now)) result }
 {
-    let items = place.items;
-    let mut from = place.start;
+    let mut from = table.place.start;
     let mut next = at;
-    let mut i = 0;
-    while i < items {
-        next = put_state_line(table, place, i, from, text, next);
-        from = next_field(table, from);
-        i += 1;
+    for i in 0..table.place.items {
+        next = put_state_line(table, i, from, text, next);
+        from = next_field(table.bytes, from);
     }
     next
 }
@@ -80,15 +69,23 @@ pub fn list_table(
         (listing (table_of table.now).names (table_states table.now) joins distinct) result }
 {
     let next = put_first_line(place.items, joins, distinct, text);
-    put_states(table, place, text, next)
+    put_states(
+        Table {
+            bytes: table,
+            place,
+        },
+        text,
+        next,
+    )
 }
 
 // `refused N`, at the front; its length.
+#[tactic(auto, using(crate::proofs::LineLaws::pieces), unfolding(model::specs::Listing::refusal_text))]
 pub fn refusal_text(number: u8, text: &mut [u8]) -> usize
     requires { Fits text.old 0 (refusal_text number) }
     ensures { Put text.old text.new 0 (refusal_text number) result }
 {
     let mut next = copy_in(text, 0, b"refused ");
-    next = put_decimal(text, next, wide8(number));
+    next = put_decimal(text, next, number as usize);
     put_byte(text, next, NEWLINE)
 }

@@ -22,6 +22,7 @@ pub fn sign(accepting: bool) -> u8
 }
 
 // `states N joins M distinct D`, at the front.
+#[tactic(auto, using(crate::proofs::LineLaws::pieces), unfolding(model::specs::Listing::first_line))]
 pub fn put_first_line(states: usize, joins: usize, distinct: usize, text: &mut [u8]) -> usize
     requires states_lt_number_limit { (states < number_limit) × (joins < number_limit) × (distinct < number_limit) }
     requires fits { Fits text.old 0 (first_line states joins distinct) }

@@ -10,29 +10,21 @@ use Rattle.base.specs.Lists.{before}
 use Rattle.base.proofs.Places.{place_of}
 use Rattle.model.specs.Fields.{Ascends, name_number}
 use Rattle.model.proofs.NameNumbers.{number_of-unknown, number-at_place, places_below, places_above}
-use Rattle.judging.specs.Offsets.{body_at, next_at, offset_at, fields_at}
+use Rattle.judging.specs.Offsets.{body_at, next_at, name_at}
 use Rattle.judging.proofs.OffsetLaws.{field_within, field_at_lem}
-use Rattle.name_search.specs.Search.{Ordered, Indexed}
-use Rattle.name_search.specs.declared.Order.{Order}
+use Rattle.name_search.specs.Search.{Indexed}
 
--- the i-th name's field, from the offset noted: it lies within the list, and its bytes are compared as that name
-module _
-    (list index : List ℕ) (count : ℕ) (indexed : Indexed list count index) (at i : ℕ) (is : at ≡ i) (low : i < count) where
-  noted : get_or index at 0 ≡ offset_at list 0 i
-  noted = ap (λ (v : ℕ). get_or index v 0) is ∙ indexed.begins i low
+-- the i-th name's field, from the offset noted: it lies within the list, and its bytes are that name
+pub noted_within : (list index : List ℕ) (count i : ℕ) → Indexed list count index → i < count → next_at list (get_or index i 0) ≤ length list
+noted_within list index count i indexed low =
+    subst (λ (a : ℕ). next_at list a ≤ length list) (sym (indexed.begins i low))
+    (omega (arith, indexed.within, field_within list 0 count i low))
 
-  pub noted_within : next_at list (get_or index at 0) ≤ length list
-  noted_within =
-      subst (λ (a : ℕ). next_at list a ≤ length list) (sym noted)
-      (omega (arith, indexed.within, field_within list 0 count i low))
-
-  pub noted_ordered :
-      (name found : List ℕ) (answer r : Order) → found ≡ body_at list (get_or index at 0) → Ordered name found answer → answer ≡ r →
-      Ordered name (get_or (fields_at list 0 count) i []) r
-  noted_ordered name found answer r e o told =
-      let field = e ∙ ap (body_at list) noted ∙ sym (field_at_lem list 0 count i low) in
-      subst (λ (r : Order). Ordered name (get_or (fields_at list 0 count) i []) r) told
-      (subst (λ (n : List ℕ). Ordered name n answer) field o)
+pub noted_name :
+    (list index : List ℕ) (count i : ℕ) → Indexed list count index → i < count →
+    body_at list (get_or index i 0) ≡ name_at list count i
+noted_name list index count i indexed low =
+    ap (body_at list) (indexed.begins i low) ∙ sym (field_at_lem list 0 count i low)
 
 -- a name stands at no place below low, nor from high on
 pub record PlacesLeft (names : List (List ℕ)) (name : List ℕ) (low high : ℕ) : Type 0 where

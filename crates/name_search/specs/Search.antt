@@ -1,21 +1,14 @@
--- How many hashes of names there are, how one name stands to another in byte order, and the offsets at which a list's fields begin.
--- Assumes nothing.
+-- How one name stands to another in byte order, and the offsets at which a list's fields begin. Assumes nothing.
 use Rattle.std.specs.Prelude.{◌≡◌, true, List, ℕ, ◌≤◌, ◌<◌, length, get_or}
+use Rattle.std.specs.declared.cmp.Ordering.{Ordering}
+use Rattle.std.specs.Ordering.{MatchOrdering}
 use Rattle.base.specs.Limits.{name_limit}
 use Rattle.base.specs.Lists.{before}
 use Rattle.judging.specs.Offsets.{offset_at}
-use Rattle.name_search.specs.declared.Order.{Order}
-use Rattle.name_search.specs.declared.Order.TheVariants as order
-
--- so many hashes
-abbrev pub hashes : ℕ
-hashes = 256
 
 -- the answer says how a stands to b
-abbrev pub Ordered : List ℕ → List ℕ → Order → Type 0
-Ordered a b order.Before = before a b ≡ true
-Ordered a b order.Same = a ≡ b
-Ordered a b order.After = before b a ≡ true
+abbrev pub Ordered : List ℕ → List ℕ → Ordering → Type 0
+Ordered a b answer = MatchOrdering answer (before a b ≡ true) (a ≡ b) (before b a ≡ true)
 
 -- the first `count` fields, at most as many as there may be names, lie within the list and begin at the offsets that stand first in the
 -- index; of what stands behind these nothing is said

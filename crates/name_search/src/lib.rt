@@ -5,12 +5,12 @@
 ghost use Rattle.std.specs.Prelude.{◌≡◌, ◌≤◌, ◌<◌, length};
 ghost use Rattle.base.specs.Limits.{name_limit};
 ghost use Rattle.model.specs.Fields.{Ascends, name_number};
-ghost use Rattle.judging.specs.Offsets.{offset_at, fields_at};
-ghost use Rattle.name_search.specs.Search.{hashes, Ordered, Indexed};
+ghost use Rattle.judging.specs.Offsets.{offset_at, fields_at, name_at};
+ghost use Rattle.name_search.specs.Search.{Ordered, Indexed};
 
 use base::limits::NAME_LIMIT;
-use base::numbers::{narrow8, wide8};
 use judging::offsets::{body, next_field};
+use std::cmp::Ordering;
 
 // One offset for each name that a list may have.
 const STARTS: usize = NAME_LIMIT as usize;
@@ -18,109 +18,93 @@ const STARTS: usize = NAME_LIMIT as usize;
 // One guess for each hash of a name.
 const HASHES: usize = 256;
 
-// The offsets, and behind them the guesses: for a hash, the number of a name that has it. Nothing is promised of the guesses.
-pub const INDEX: usize = STARTS + HASHES;
-
-// How one name stands to another in ascending byte order.
+// The first `count` fields of a list, which are its names: where each begins; and guesses, for a hash the number of a name that has it.
+// Nothing is promised of the guesses.
 #[derive(Drop)]
-pub enum Order {
-    Before,
-    Same,
-    After,
+pub struct Index<'a> {
+    pub list: &'a [u8],
+    pub count: u8,
+    starts: [usize; STARTS],
+    guesses: [u8; HASHES],
+    ghost indexed: { Indexed list.now count starts },
 }
 
 // How a stands to b: the first difference decides, and a proper beginning comes first.
-pub fn compare(a: &[u8], b: &[u8]) -> Order
+#[tactic(auto, using(crate::proofs::OrderLaws::ordered_cmp))]
+pub fn compare(a: &[u8], b: &[u8]) -> Ordering
     ensures { Ordered a.now b.now result }
 {
-    let both = if a.len() < b.len() { a.len() } else { b.len() };
-    let mut i = 0;
-    while i < both {
-        let x = a[i];
-        let y = b[i];
-        if x != y {
-            if x < y {
-                return Order::Before;
-            }
-            return Order::After;
-        }
-        i += 1;
-    }
-    if a.len() < b.len() {
-        return Order::Before;
-    }
-    if b.len() < a.len() {
-        return Order::After;
-    }
-    Order::Same
+    a.cmp(b)
 }
 
 // The hash of a name, made from all of its bytes.
-fn hash(name: &[u8]) -> usize
-    ensures { result < hashes }
-{
-    let mut sum = 0;
-    let mut i = 0;
-    while i < name.len() {
-        sum = (31 * sum + wide8(name[i])) % HASHES;
-        i += 1;
-    }
-    sum
+fn hash(name: &[u8]) -> u8 {
+    name.iter()
+        .fold(0u8, |sum, byte| sum.wrapping_mul(31).wrapping_add(*byte))
 }
 
-// Notes where each of the first `count` fields of the list begins, and the guesses.
-pub fn index_names(list: &[u8], count: u8, index: &mut [usize; INDEX])
-    requires count_le_name_limit { count ≤ name_limit }
-    requires count_in_bounds { offset_at list.now 0 count ≤ length list.now }
-    requires name_limit_in_bounds { name_limit ≤ length index.old }
-    ensures { Indexed list.now count index.new }
-{
-    let mut at = 0;
-    let mut i: u8 = 0;
-    while i < count {
-        let number = wide8(i);
-        index[STARTS + hash(body(list, at))] = number;
-        index[number] = at;
-        at = next_field(list, at);
-        i += 1;
-    }
-}
-
-// The number of a name among the `count` names of the list; `count` where it is none of them.
-pub fn number_of(list: &[u8], index: &[usize; INDEX], count: u8, name: &[u8]) -> u8
-    requires indexed { Indexed list.now count index.now }
-    requires ascends { Ascends (fields_at list.now 0 count) }
-    ensures { result ≡ name_number (fields_at list.now 0 count) name.now }
-{
-    let mut low: u8 = 0;
-    let mut high = count;
-    while low < high {
-        let middle = (low + high) / 2;
-        let found = compare(name, body(list, index[wide8(middle)]));
-        match found {
-            Order::Before => high = middle,
-            Order::Same => return middle,
-            Order::After => low = middle + 1,
+impl<'a> Index<'a> {
+    // Notes where each of the first `count` fields of the list begins, and the guesses.
+    pub fn new(list: &'a [u8], count: u8) -> Index<'a>
+        requires count_le_name_limit { count ≤ name_limit }
+        requires count_in_bounds { offset_at list.now 0 count ≤ length list.now }
+        ensures { (result.list.now ≡ list.now) × (result.count ≡ count) }
+    {
+        let mut starts = [0usize; STARTS];
+        let mut guesses = [0u8; HASHES];
+        let mut at = 0;
+        for i in 0..count {
+            starts[i as usize] = at;
+            guesses[hash(body(list, at)) as usize] = i;
+            at = next_field(list, at);
+        }
+        Index {
+            list,
+            count,
+            starts,
+            guesses,
         }
     }
-    count
-}
 
-// The same, by the guess for the name's hash and, where that is another name's number, by the search.
-pub fn number_by_guess(list: &[u8], index: &[usize; INDEX], count: u8, name: &[u8]) -> u8
-    requires indexed { Indexed list.now count index.now }
-    requires ascends { Ascends (fields_at list.now 0 count) }
-    ensures { result ≡ name_number (fields_at list.now 0 count) name.now }
-{
-    let guess = index[STARTS + hash(name)];
-    let names = wide8(count);
-    if guess < names {
-        let found = compare(name, body(list, index[guess]));
-        match found {
-            Order::Before => {}
-            Order::Same => return narrow8(guess),
-            Order::After => {}
-        }
+    // The bytes of the name with this number.
+    #[tactic(auto, using(crate::proofs::SearchLaws::noted_within, crate::proofs::SearchLaws::noted_name))]
+    fn name(&self, number: u8) -> &'a [u8]
+        requires { number < self.now.count }
+        ensures { result.now ≡ name_at self.now.list.now self.now.count number }
+    {
+        body(self.list, self.starts[number as usize])
     }
-    number_of(list, index, count, name)
+
+    // The number of a name; how many names there are where it is none of them.
+    // Stays: (a) the count for none and no `Option`, since `name_number` gives it, and plan_reading writes it into its log as it is.
+    // Stays: (d) a search by hand: `binary_search_by` goes over the offsets with a closure that may be asked of any number, and `body`
+    // takes only those at which a name begins.
+    pub fn number_of(&self, name: &[u8]) -> u8
+        requires ascends { Ascends (fields_at self.now.list.now 0 self.now.count) }
+        ensures { result ≡ name_number (fields_at self.now.list.now 0 self.now.count) name.now }
+    {
+        let mut low: u8 = 0;
+        let mut high = self.count;
+        while low < high {
+            let middle = (low + high) / 2;
+            match compare(name, self.name(middle)) {
+                Ordering::Less => high = middle,
+                Ordering::Equal => return middle,
+                Ordering::Greater => low = middle + 1,
+            }
+        }
+        self.count
+    }
+
+    // The same, by the guess for the name's hash and, where that is another name's number, by the search.
+    pub fn number_by_guess(&self, name: &[u8]) -> u8
+        requires ascends { Ascends (fields_at self.now.list.now 0 self.now.count) }
+        ensures { result ≡ name_number (fields_at self.now.list.now 0 self.now.count) name.now }
+    {
+        let guess = self.guesses[hash(name) as usize];
+        if guess < self.count && name == self.name(guess) {
+            return guess;
+        }
+        self.number_of(name)
+    }
 }

@@ -15,7 +15,7 @@ use Rattle.base.proofs.Tests.{eq_dec}
 use Rattle.indexed.specs.Trees.{up}
 use Rattle.indexed.specs.Partitions.{Labelled}
 use Rattle.indexed.specs.Passes.{relabelled}
-use Rattle.base.proofs.Fills.{Filled, filled_none, filled_more, rest_kept}
+use Rattle.base.proofs.Fills.{Filled, filled_more, rest_kept}
 use Rattle.base.proofs.Places.{number_at, length-numbers_from}
 use Rattle.indexed.proofs.Keys.{relabelled-length, relabelled-at}
 use Rattle.partition.specs.Forests.{Forest, root_of, roots_of, FoundRoot, United}
@@ -133,10 +133,6 @@ pub root_kept :
 root_kept n above above' forest forest' same v h =
     sym (roots_at n above' forest' v h) ∙ ap (λ (l : List ℕ). get_or l v 0) same ∙ roots_at n above forest v h
 
--- a forest, by its own length
-pub forest_again : (n : ℕ) (above : List ℕ) → Forest n above → Forest (length above) above
-forest_again n above forest = subst (λ (m : ℕ). Forest m above) (sym forest.size) forest
-
 -- a partition is a forest in which each state stands right below its root
 pub flat_forest : (n : ℕ) (groups : List ℕ) → Labelled n groups → Forest n groups
 flat_forest n groups labelled = record { size = labelled.size; low = labelled.low }
@@ -181,11 +177,6 @@ pub record Finding (n : ℕ) (above₀ above : List ℕ) (v at up : ℕ) : Type 
   pub inside : at < n
   pub up_is : up ≡ get_or above at 0
   pub same_root : root_of above₀ at ≡ root_of above₀ v
-
-pub finding_start :
-    (n : ℕ) (above₀ : List ℕ) (v up : ℕ) → Forest n above₀ → v < n → up ≡ get_or above₀ v 0 → Finding n above₀ above₀ v v up
-finding_start n above₀ v up forest inside is =
-    record { forest = forest; kept = refl; inside = inside; up_is = is; same_root = refl }
 
 module _ (n : ℕ) (above₀ above : List ℕ) (v at up : ℕ) (finding : Finding n above₀ above v at up) where
   -- no step leads out of the forest
@@ -255,10 +246,9 @@ module _ (n : ℕ) (above₀ above : List ℕ) (v at up : ℕ) (finding : Findin
 
 -- root y put below root x
 pub put_below :
-    (n : ℕ) (above : List ℕ) (x y new : ℕ) → Forest n above → y < n → x < y → get_or above x 0 ≡ x → get_or above y 0 ≡ y → new ≡ x →
-    United n x y above (set above y new)
-put_below n above x y new forest inside lower own_x own-y is =
-    subst (λ (z : ℕ). United n x y above (set above y z)) (sym is) (record { forest = forest'; joined = joined })
+    (n : ℕ) (above : List ℕ) (x y : ℕ) → Forest n above → y < n → x < y → get_or above x 0 ≡ x → get_or above y 0 ≡ y →
+    United n x y above (set above y x)
+put_below n above x y forest inside lower own_x own-y = record { forest = forest'; joined = joined }
   where
     forest' : Forest n (set above y x)
     forest' = set-forest n above forest y x inside (omega arith)
@@ -303,9 +293,6 @@ IsRoot above k x = x ≡ root_of above k
 pub record Flattening (v : ℕ) (above₀ above : List ℕ) : Type 0 where
   pub filled : Filled (IsRoot above₀) v above₀ above
   pub rest : (k : ℕ) → v ≤ k → get_or above k 0 ≡ get_or above₀ k 0
-
-pub flattening_none : (above₀ : List ℕ) → Flattening 0 above₀ above₀
-flattening_none above₀ = record { filled = filled_none (IsRoot above₀) above₀; rest = λ k h. refl }
 
 module _
     (above₀ : List ℕ) (forest : Forest (length above₀) above₀) (v : ℕ) (above : List ℕ) (so_far : Flattening v above₀ above) where

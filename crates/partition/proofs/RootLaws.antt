@@ -1,7 +1,7 @@
--- Laws of two roots: found one after the other, and the higher put below the lower; that joins the groups of both states.
+-- Laws of two roots: found one after the other; and what their join says of the groups of both states.
 -- Assumes nothing.
 use mathlib.Core.Path.{◌≡◌, sym, ap, ap₂, ◌∙◌, subst, subst₂}
-use mathlib.Core.Logic.{inl, inr, ⊎_elim}
+use mathlib.Core.Logic.{⊎_elim}
 use mathlib.Core.Bool.{Bool, true, false}
 use mathlib.Core.List.{List}
 use Prim.Native.Nat.{ℕ, ◌<◌}
@@ -11,80 +11,24 @@ use Rattle.base.proofs.Tests.{eq_dec}
 use Rattle.indexed.specs.Partitions.{Labelled}
 use Rattle.indexed.specs.Passes.{relabelled}
 use Rattle.partition.specs.Joins.{JoinedTwo}
-use Rattle.partition.specs.Forests.{Forest, roots_of, FoundRoot, United, JoinedRoots}
+use Rattle.partition.specs.Forests.{Forest, root_of, roots_of, FoundRoot, JoinedRoots}
 use Rattle.partition.proofs.ForestLaws.{root_root, roots_at, roots_labelled}
 use Rattle.partition.proofs.JoinLaws.{joined_none, joined_first, joined_flip}
 
--- the roots x and y of two states found, in a forest with the same roots
-pub record Both (n : ℕ) (above above' : List ℕ) (v w x y : ℕ) : Type 0 where
-  pub forest : Forest n above'
-  pub kept : roots_of above' ≡ roots_of above
-  pub x_is : x ≡ get_or (roots_of above) v 0
-  pub y_is : y ≡ get_or (roots_of above) w 0
-  pub x_own : get_or above' x 0 ≡ x
-  pub y_own : get_or above' y 0 ≡ y
-  pub x_inside : x < n
-  pub y_inside : y < n
-
-pub both_found :
-    (n : ℕ) (above above₁ above₂ : List ℕ) (v w x y : ℕ) → v < n → FoundRoot n above above₁ v x →
-    FoundRoot (length above₁) above₁ above₂ w y → Both n above above₂ v w x y
-both_found n above above₁ above₂ v w x y inside one two =
-    go (subst (λ (m : ℕ). FoundRoot m above₁ above₂ w y) one.forest.size two)
+-- a root found first is a root still when a second one has been found
+pub first_own :
+    {n : ℕ} {above above₁ above₂ : List ℕ} {v w x y : ℕ} → FoundRoot n above above₁ v x →
+    FoundRoot (length above₁) above₁ above₂ w y → v < n → get_or above₂ x 0 ≡ x
+first_own {n} {above} {above₁} {above₂} {v} {w} {x} {y} one two inside =
+    subst (λ (r : ℕ). get_or above₂ r 0 ≡ r) (sym root) (root_root (length above₁) above₂ two.forest v inside')
   where
-    go : FoundRoot n above₁ above₂ w y → Both n above above₂ v w x y
-    go again =
-        let kept : roots_of above₂ ≡ roots_of above = again.kept ∙ one.kept in
-        let at-v : get_or (roots_of above₂) v 0 ≡ x = ap (λ (l : List ℕ). get_or l v 0) kept ∙ sym one.is_root in
-        let root = sym at-v ∙ roots_at n above₂ again.forest v inside in
-        record {
-          forest = again.forest;
-          kept = kept;
-          x_is = one.is_root;
-          y_is = again.is_root ∙ ap (λ (l : List ℕ). get_or l w 0) one.kept;
-          x_own = subst (λ (r : ℕ). get_or above₂ r 0 ≡ r) (sym root) (root_root n above₂ again.forest v inside);
-          y_own = again.own;
-          x_inside = one.inside;
-          y_inside = again.inside;
-        }
+    inside' : v < length above₁
+    inside' = omega (arith, one.forest.size)
 
-module _ (n : ℕ) (above above₂ above₃ : List ℕ) (v w x y : ℕ) (both : Both n above above₂ v w x y) where
-  -- the second root is the higher
-  pub roots_joined : x < y → United (length above₂) x y above₂ above₃ → JoinedRoots n above above₃ v w x y
-  roots_joined lower united =
-      record {
-        forest = subst (λ (m : ℕ). Forest m above₃) both.forest.size united.forest;
-        inside = both.y_inside;
-        order = omega arith;
-        ends = inl (both.x_is, both.y_is);
-        kept = λ same. absurd (omega arith);
-        joined = λ apart. united.joined ∙ ap (relabelled x y) both.kept;
-      }
-
-  -- the first root is the higher
-  pub roots_joined_back : y < x → United (length above₂) y x above₂ above₃ → JoinedRoots n above above₃ v w y x
-  roots_joined_back lower united =
-      record {
-        forest = subst (λ (m : ℕ). Forest m above₃) both.forest.size united.forest;
-        inside = both.x_inside;
-        order = omega arith;
-        ends = inr (both.y_is, both.x_is);
-        kept = λ same. absurd (omega arith);
-        joined = λ apart. united.joined ∙ ap (relabelled y x) both.kept;
-      }
-
--- both are one root
-pub roots_same :
-    (n : ℕ) (above above₂ : List ℕ) (v w x y : ℕ) → Both n above above₂ v w x y → x ≡ y → JoinedRoots n above above₂ v w x x
-roots_same n above above₂ v w x y both same =
-    record {
-      forest = both.forest;
-      inside = both.x_inside;
-      order = omega arith;
-      ends = inl (both.x_is, same ∙ both.y_is);
-      kept = λ one. both.kept;
-      joined = λ apart. absurd (omega arith);
-    }
+    root : x ≡ root_of above₂ v
+    root =
+        one.is_root ∙ ap (λ (l : List ℕ). get_or l v 0) (sym (two.kept ∙ one.kept))
+        ∙ roots_at (length above₁) above₂ two.forest v inside'
 
 -- the partition by roots is that of two groups made one
 pub roots_two :

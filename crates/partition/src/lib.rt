@@ -8,16 +8,12 @@ ghost use Rattle.std.specs.Prelude.{◌≡◌, ◌≤◌, length};
 ghost use Rattle.base.specs.Limits.{state_limit};
 ghost use Rattle.base.specs.Lists.{numbers_from};
 
-use base::numbers;
-
 // Writes each state's own number.
 pub fn own(numbers: &mut [u16])
     requires { length numbers.old ≤ state_limit }
     ensures { numbers.new ≡ numbers_from (length numbers.old) 0 }
 {
-    let mut v = 0;
-    while v < numbers.len() {
-        numbers[v] = numbers::narrow16(v);
-        v += 1;
+    for (v, number) in numbers.iter_mut().enumerate() {
+        *number = v as u16;
     }
 }

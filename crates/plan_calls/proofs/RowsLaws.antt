@@ -1,18 +1,20 @@
 -- What the calls that read a plan's rows come to, one law for each answer: rows written, a plan read and its rows written, and all that is
 -- refused before the plan is read. Assumes nothing.
 use mathlib.Core.Path.{◌≡◌, refl, sym, ap, ◌∙◌, subst}
-use mathlib.Core.Bool.{Bool, true, false}
+use mathlib.Core.Bool.{Bool, ◌||◌}
 use mathlib.Core.List.{List, [], ◌∷◌, map}
 use Prim.Native.Nat.{ℕ, ◌≤◌, ◌<◌}
 use native.Mathlib.Omega.{arith}
 use borrow.Author.Tests.{le-leb, lt-leb}
+use lib.Dec.{ltb}
 use lib.ListN.{length, get_or}
 use Rattle.base.specs.Limits.{when, first_of, book_rows, rows_bytes, bad_sizes, bad_row, bad_plan, output_too_short}
-use Rattle.model.specs.Fields.{standard, name_list, read_names}
+use Rattle.base.specs.Limits.{input_limit, work_bytes}
+use Rattle.model.specs.Fields.{standard, name_list, read_names, Ascends}
 use Rattle.model.specs.Tables.{row_fields}
-use Rattle.model.specs.Calls.{Call, Gives, Refuses, too_short, unless, fault_with, names_of}
+use Rattle.model.specs.Calls.{Call, Gives, Refuses, too_short, unless, fault_with, names_of, sizes_fault}
 use Rattle.model.proofs.CallLaws.{refuses_first, refuses_then, refuses_none, refuses_when, call-refused, gives_as}
-use Rattle.model.proofs.CallLaws.{call-one_short, call-one_wrote, sizes_bad, sizes_refuse, sizes_pass, sizes_fit}
+use Rattle.model.proofs.CallLaws.{call-one_short, call-one_wrote, sizes_fit}
 use Rattle.model.proofs.LowNumbers.{when-low, first_low, fields_low}
 use Rattle.model.proofs.NameLists.{names_ascend}
 use Rattle.judging.specs.Offsets.{fields_at}
@@ -24,13 +26,13 @@ use Rattle.writing.proofs.WritingLaws.{written-from_zero}
 use Rattle.written_plans.specs.Reading.{Reading, read_plan, entry_of, rows_in, rows_fault}
 use Rattle.written_plans.specs.Calls.{plan_reading, plan_rows, asked_fault, plan_fault}
 use Rattle.written_plans.proofs.Numbers.{plan-refusal}
-use Rattle.plan_reading.specs.Turns.{SoughtIn, Room, Logged, RefusedAs}
-use Rattle.plan_rows.specs.LoggedRows.{Held, log_rows, MeasuredAs}
+use Rattle.plan_reading.specs.Turns.{Room, Logged, RefusedAs}
+use Rattle.plan_rows.specs.LoggedRows.{log_rows, MeasuredAs}
 use Rattle.plan_rows.proofs.Faults.{rows_passed, rows_low}
 use Rattle.plan_rows.proofs.Lengths.{rows_length}
 use Rattle.results.specs.declared.PlanRows.{PlanRows}
 use Rattle.results.specs.Says.{plan_rows_of, not_read, rows_or, reading_rows}
-use Rattle.plan_calls.specs.Parts.{writing_rows, rows_with}
+use Rattle.plan_calls.specs.Parts.{placeless_rows, writing_rows, rows_with}
 
 -- ---- the answer of a refused call
 
@@ -52,8 +54,8 @@ refused-low c place k out is refuses low =
 
 module _ (rows : List (List ℕ)) (out : List ℕ) where
   -- 7 or 9
-  pub rows-refused : (k : ℕ) → Refuses (rows_fault rows) k → Gives (writing_rows rows) (out ∷ []) (out ∷ []) (plan_rows_of k 0 0 0)
-  rows-refused k refuses = refused-low (writing_rows rows) 0 k out refl refuses (omega (arith, refuses.is, rows_low rows))
+  pub rows_refused : (k : ℕ) → Refuses (rows_fault rows) k → Gives (writing_rows rows) (out ∷ []) (out ∷ []) (plan_rows_of k 0 0 0)
+  rows_refused k refuses = refused-low (writing_rows rows) 0 k out refl refuses (omega (arith, refuses.is, rows_low rows))
 
   module _ {count bytes : ℕ} (measured : MeasuredAs rows count bytes) where
     -- 13
@@ -114,21 +116,15 @@ rows_read names chosen read logged outs outs' r gives =
     subst (λ (n : ℕ). Gives (rows_or (first_of n (rows_fault rows)) read.place rows) outs outs' r) (sym logged.no_fault)
     (written_at read.place rows outs outs' r (subst (λ (l : List (List ℕ)). Gives (writing_rows l) outs outs' r) is gives))
 
--- a log that holds a plan's tags
-pub log_held :
-    {names : List (List ℕ)} {read : Reading} {s log : List ℕ} {count : ℕ} → Room s log → Logged names read s log count → Held log count
-log_held room logged =
-    record { within = omega (arith, room.short, room.long, logged.few); few = omega (arith, room.short, logged.few) }
-
 module _ (names : List (List ℕ)) (name s : List ℕ) {k p : ℕ} (refused : RefusedAs (read_plan names name s) k p) where
   -- the place of a refusal
-  pub place-within : p ≤ length s
-  place-within = omega (arith, refused.place_is, (plan-refusal names name s (omega (arith, refused.number_is, refused.some))).within)
+  pub place_within : p ≤ length s
+  place_within = omega (arith, refused.place_is, (plan-refusal names name s (omega (arith, refused.number_is, refused.some))).within)
 
   -- 14, 15 or 16, with its place
-  pub plan-refused :
+  pub plan_refused :
       (chosen : ℕ) (out : List ℕ) → Gives (rows_with names chosen (read_plan names name s)) (out ∷ []) (out ∷ []) (plan_rows_of k 0 0 p)
-  plan-refused chosen out =
+  plan_refused chosen out =
       let read = read_plan names name s in
       let high = (plan-refusal names name s (omega (arith, refused.number_is, refused.some))).high in
       gives_as (rows_with names chosen read) (out ∷ [])
@@ -140,6 +136,16 @@ module _ (names : List (List ℕ)) (name s : List ℕ) {k p : ℕ} (refused : Re
 
 -- ---- what is refused before the plan is read
 
+-- what the lent slices' sizes are refused by, as the code tells it
+pub sizes_told : (input work : List ℕ) (k : ℕ) → k ≡ when (ltb input_limit (length input) || ltb (length work) work_bytes) bad_sizes
+    → sizes_fault input work ≡ k
+unfolding sizes_fault
+sizes_told input work k is = sym is
+
+sizes_low : (input work : List ℕ) → sizes_fault input work < bad_plan
+unfolding sizes_fault
+sizes_low input work = when-low (ltb input_limit (length input) || ltb (length work) work_bytes) bad_sizes (omega arith)
+
 module _ (plan list : List ℕ) (chosen : ℕ) (work out : List ℕ) where
   -- by any of these
   asked_refused :
@@ -150,30 +156,32 @@ module _ (plan list : List ℕ) (chosen : ℕ) (work out : List ℕ) where
       refused-low (reading_rows plan list chosen work) (plan_reading plan list chosen).place k out refl (refuses_first _ refuses) low
 
   -- 1 for the plan
-  pub plan-sizes_refused :
-      sizes_bad plan work ≡ true → Gives (reading_rows plan list chosen work) (out ∷ []) (out ∷ []) (plan_rows_of bad_sizes 0 0 0)
+  pub plan_sizes_refused :
+      {k : ℕ} → sizes_fault plan work ≡ k → 0 < k → Gives (reading_rows plan list chosen work) (out ∷ []) (out ∷ []) (placeless_rows k)
   unfolding asked_fault
-  plan-sizes_refused bad = asked_refused bad_sizes (refuses_first _ (sizes_refuse plan work bad)) (omega arith)
+  plan_sizes_refused {k} is some =
+      asked_refused k (refuses_first _ (record { is = is; some = some })) (omega (arith, is, sizes_low plan work))
 
-  module _ (plan-fits : sizes_bad plan work ≡ false) where
+  module _ (plan-fits : sizes_fault plan work ≡ 0) where
     -- 1 for the list
-    pub list-sizes-refused :
-        sizes_bad list work ≡ true → Gives (reading_rows plan list chosen work) (out ∷ []) (out ∷ []) (plan_rows_of bad_sizes 0 0 0)
+    pub list_sizes_refused :
+        {k : ℕ} → sizes_fault list work ≡ k → 0 < k
+        → Gives (reading_rows plan list chosen work) (out ∷ []) (out ∷ []) (placeless_rows k)
     unfolding asked_fault
-    list-sizes-refused bad =
-        asked_refused bad_sizes (refuses_then (sizes_pass plan work plan-fits) (refuses_first _ (sizes_refuse list work bad)))
-        (omega arith)
+    list_sizes_refused {k} is some =
+        asked_refused k (refuses_then plan-fits (refuses_first _ (record { is = is; some = some })))
+        (omega (arith, is, sizes_low list work))
 
-    module _ (list-fits : sizes_bad list work ≡ false) where
+    module _ (list-fits : sizes_fault list work ≡ 0) where
       -- the list's own refusals
-      pub list-refused :
+      pub list_refused :
           (k : ℕ) → (read_names list).number ≡ k → 0 < k →
           Gives (reading_rows plan list chosen work) (out ∷ []) (out ∷ []) (plan_rows_of k 0 0 0)
       unfolding asked_fault
-      list-refused k is some =
+      list_refused k is some =
           asked_refused k
-          (refuses_then (sizes_pass plan work plan-fits)
-          (refuses_then (sizes_pass list work list-fits) (refuses_first _ (record { is = is; some = some }))))
+          (refuses_then plan-fits
+          (refuses_then list-fits (refuses_first _ (record { is = is; some = some }))))
           (omega (arith, is, fields_low standard name_list list))
 
       module _ {p : reader.Place} (at : ListAt list p) where
@@ -182,13 +190,13 @@ module _ (plan list : List ℕ) (chosen : ℕ) (work out : List ℕ) where
         names_count = ap length at.names_are ∙ length_fields list 0 p.names
 
         -- 9 for a number that names nothing
-        pub chosen-refused :
+        pub chosen_refused :
             p.names ≤ chosen → Gives (reading_rows plan list chosen work) (out ∷ []) (out ∷ []) (plan_rows_of bad_row 0 0 0)
         unfolding asked_fault
-        chosen-refused high =
+        chosen_refused high =
             asked_refused bad_row
-            (refuses_then (sizes_pass plan work plan-fits)
-            (refuses_then (sizes_pass list work list-fits)
+            (refuses_then plan-fits
+            (refuses_then list-fits
             (refuses_then at.accepted
             (refuses_when (le-leb (length (names_of list)) chosen (omega (arith, names_count))) (omega arith)))))
             (omega arith)
@@ -197,19 +205,19 @@ module _ (plan list : List ℕ) (chosen : ℕ) (work out : List ℕ) where
         none-asked : chosen < p.names → asked_fault plan list chosen work ≡ 0
         unfolding asked_fault
         none-asked some =
-            refuses_none (sizes_pass plan work plan-fits)
-            (refuses_none (sizes_pass list work list-fits)
+            refuses_none plan-fits
+            (refuses_none list-fits
             (refuses_none at.accepted
             (ap (λ (b : Bool). when b bad_row) (lt-leb (length (names_of list)) chosen (omega (arith, names_count))))))
 
         -- then the call gives what the plan and its rows come to
-        pub rows-asked :
+        pub rows_asked :
             chosen < p.names → (out' : List ℕ) (r : PlanRows) →
             Gives (rows_with (fields_at list 0 p.names) chosen
             (read_plan (fields_at list 0 p.names) (get_or (fields_at list 0 p.names) chosen []) plan)) (out ∷ []) (out' ∷ []) r →
             Gives (reading_rows plan list chosen work) (out ∷ []) (out' ∷ []) r
         unfolding reading_rows plan_fault plan_rows plan_reading
-        rows-asked some out' r gives =
+        rows_asked some out' r gives =
             let rows = plan_rows plan list chosen in
             let read = plan_reading plan list chosen in
             subst (λ (k : ℕ).
@@ -222,13 +230,10 @@ module _ (plan list : List ℕ) (chosen : ℕ) (work out : List ℕ) where
 -- ---- what a plan is read with
 
 -- a plan and an area whose sizes are not refused
-pub plan-room : (plan work : List ℕ) → sizes_bad plan work ≡ false → Room plan work
-plan-room plan work fits =
-    let fit = sizes_fit plan work (sizes_pass plan work fits) in
-    record { short = fit.input_fits; long = fit.work_fits }
+pub plan_room : (plan work : List ℕ) → sizes_fault plan work ≡ 0 → Room plan work
+plan_room plan work fits =
+    let fit = sizes_fit plan work fits in record { short = fit.input_fits; long = fit.work_fits }
 
--- the names of an accepted list, and the number of one of them
-pub list_named :
-    {list : List ℕ} {p : reader.Place} {chosen : ℕ} → ListAt list p → chosen < p.names →
-    SoughtIn list (record { names = p.names; chosen = chosen })
-list_named at some = record { ascends = names_ascend _ at.names_read.names_ok; some = some }
+-- the names of an accepted list ascend
+pub list_ascends : {list : List ℕ} {p : reader.Place} → ListAt list p → Ascends (fields_at list 0 p.names)
+list_ascends at = names_ascend _ at.names_read.names_ok

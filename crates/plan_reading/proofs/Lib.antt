@@ -5,11 +5,11 @@ pub mod ScanLaws
 pub mod StepLaws
 -- RunLaws: reading over runs of bytes
 pub mod RunLaws
--- PieceLaws: what each answer of the functions of pieces says
-pub mod PieceLaws
 -- LogLaws: the entries of the log
 pub mod LogLaws
 -- StackLaws: the open elements, and what a tag is refused for
 pub mod StackLaws
+-- PieceLaws: what each answer of the functions of pieces says
+pub mod PieceLaws
 -- TurnLaws: one turn of the reader, and a whole plan
 pub mod TurnLaws

@@ -37,9 +37,9 @@ abbrev written : List ℕ → ℕ → ℕ → ℕ → List ℕ
 written log tags number depth = set (set log (2 * tags) number) (2 * tags + 1) depth
 
 -- the entries are then these and that one
-pub entry-put : (log : List ℕ) (tags number depth : ℕ) → 2 * tags + 1 < length log
+pub entry_put : (log : List ℕ) (tags number depth : ℕ) → 2 * tags + 1 < length log
     → entries_at (written log tags number depth) 0 (tags + 1) ≡ entries_at log 0 tags ++ (entry number depth ∷ [])
-entry-put log tags number depth room =
+entry_put log tags number depth room =
     let after = written log tags number depth in
     let first : List ℕ = set log (2 * tags) number in
     let long : 2 * tags + 1 < length first = omega (arith, length-set log (2 * tags) number) in

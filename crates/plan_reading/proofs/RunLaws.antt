@@ -32,7 +32,8 @@ module _ (test : ℕ → Bool) (s : List ℕ) (q : Place) (stays : (b : ℕ) →
       → reads judge s q i ≡ reads judge s q e
   stays-from judge e zero i h within passed = let there : i ≡ e = omega arith in ap (reads judge s q) there
   stays-from judge e (suc k) i h within passed =
-      reads_go judge s q i (omega arith) q (stays (get_or s i 0) (passed i (omega arith) (omega arith))) (none (get_or s i 0) (drop (suc i) s))
+      reads_go judge s q i (omega arith) q (stays (get_or s i 0) (passed i (omega arith) (omega arith)))
+      (none (get_or s i 0) (drop (suc i) s))
       ∙ stays-from judge e k (suc i) (omega arith) within (λ (j : ℕ) (a : suc i ≤ j) (b : j < e). passed j (omega arith) b)
 
   -- past all of them

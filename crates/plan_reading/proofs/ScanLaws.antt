@@ -4,7 +4,7 @@ use mathlib.Core.Path.{◌≡◌, sym, ap, ◌∙◌, subst}
 use mathlib.Core.Logic.{⊎_elim}
 use mathlib.Core.Bool.{Bool, true, false}
 use mathlib.Core.List.{List, [], ◌∷◌, ◌++◌}
-use Prim.Native.Nat.{ℕ, suc, ◌+◌, ◌-◌, ◌≤◌, ◌<◌}
+use Prim.Native.Nat.{ℕ, suc, ◌+◌, ◌-◌, ◌≤◌, ◌<◌, min}
 use native.Mathlib.Omega.{arith}
 use lib.ListN.{length, get_or, take, drop, length-drop}
 use lib.Seq.{length-take-le, take-suc, get_or-drop}
@@ -13,7 +13,7 @@ use Rattle.base.proofs.Tests.{eq_dec}
 use Rattle.model.specs.Fields.{name_ok, starts_name, continues_name}
 use Rattle.written_plans.specs.Reading.{begins_name}
 use Rattle.written_plans.proofs.NameRule.{name_begun, name_first, name_not_first, name_more, name_not_more, name_full}
-use Rattle.plan_reading.specs.Scanning.{part, Skipped, NameEnds, Agrees}
+use Rattle.plan_reading.specs.Scanning.{part, NameEnds, Agrees}
 
 -- ---- parts
 
@@ -42,29 +42,6 @@ pub record Passing (test : ℕ → Bool) (s : List ℕ) (at i : ℕ) : Type 0 wh
   pub onward : at ≤ i
   pub within : i ≤ length s
   pub passed : (k : ℕ) → at ≤ k → k < i → test (get_or s k 0) ≡ true
-
-module _ (test : ℕ → Bool) (s : List ℕ) (at : ℕ) where
-  -- no byte is read yet
-  pub passing-start : at ≤ length s → Passing test s at at
-  passing-start h =
-      record { onward = omega arith; within = h; passed = λ (k : ℕ) (g : at ≤ k) (l : k < at). let z : ⊥ = omega arith in absurd z }
-
-  -- one byte more passes
-  pub passing-more : (i : ℕ) → Passing test s at i → i < length s → test (get_or s i 0) ≡ true → Passing test s at (i + 1)
-  passing-more i run h e =
-      let before : at ≤ i = run.onward in
-      record {
-        onward = omega arith;
-        within = omega arith;
-        passed = λ (k : ℕ) (g : at ≤ k) (l : k < i + 1).
-            ⊎_elim (λ (p : k ≡ i). subst (λ (n : ℕ). test (get_or s n 0) ≡ true) (sym p) e)
-            (λ (p : k ≡ i → ⊥). run.passed k g (omega arith))
-            (eq_dec k i);
-      }
-
-  -- the byte at `i`, if there is one, does not pass
-  pub passing-end : (i : ℕ) → Passing test s at i → (i < length s → test (get_or s i 0) ≡ false) → Skipped test s at i
-  passing-end i run stops = record { onward = run.onward; within = run.within; passed = run.passed; stopped = stops }
 
 -- ---- a name
 
@@ -124,15 +101,12 @@ module _ (s : List ℕ) (at : ℕ) where
         stopped = stops;
       }
 
-  -- no byte follows
-  pub naming_all : (i : ℕ) → Naming s at i → length s ≤ i → NameEnds s at i
-  naming_all i run h = naming_end i run (λ (g : i < length s). let z : ⊥ = omega arith in absurd z)
-
-  -- the name has the greatest length
-  pub naming_full : (i : ℕ) → Naming s at i → name_bytes ≤ i - at → NameEnds s at i
-  naming_full i run full =
-      let many : name_bytes ≤ length (part s at i) = omega (arith, length_part s at i run.within) in
-      naming_end i run (λ (g : i < length s). name_full (part s at i) (get_or s i 0) many)
+  -- no byte follows, or the name has the greatest length
+  pub naming_longest : (i : ℕ) → Naming s at i → i ≡ at + min name_bytes (length s - at) → NameEnds s at i
+  naming_longest i run all =
+      naming_end i run
+      (λ (g : i < length s).
+      name_full (part s at i) (get_or s i 0) (omega (arith, length_part s at i run.within)))
 
   -- the byte that follows stands in no name
   pub naming_stop : (i : ℕ) → Naming s at i → continues_name (get_or s i 0) ≡ false → NameEnds s at i
@@ -153,58 +127,22 @@ module _ (s : List ℕ) (at : ℕ) where
 
 -- ---- bytes that agree
 
--- the bytes from `at` to `i` agree with those from `from` to `j`, which is not past `end`
-pub record Agreeing (s : List ℕ) (from end at i j : ℕ) : Type 0 where
-  pub onward : at ≤ i
-  pub within : i ≤ length s
-  pub beside : from + (i - at) ≡ j
-  pub not_beyond : j ≤ end
-  pub passed : (k : ℕ) → k < i - at → get_or s (at + k) 0 ≡ get_or s (from + k) 0
+-- so many bytes agree; they are all of these, or the next, if there is one, does not agree
+pub agrees_for :
+    (s : List ℕ) (from end at n : ℕ) → at + n ≤ length s → from + n ≤ end
+    → ((k : ℕ) → k < n → get_or s (at + k) 0 ≡ get_or s (from + k) 0)
+    → (from + n < end → at + n < length s → get_or s (at + n) 0 ≡ get_or s (from + n) 0 → ⊥) → Agrees s from end at (at + n)
+agrees_for s from end at n within not_beyond passed stops =
+    let same : at + n - at ≡ n = omega arith in
+    record {
+      onward = omega arith;
+      within = within;
+      not_beyond = omega arith;
+      passed = λ (k : ℕ) (h : k < at + n - at). passed k (omega arith);
+      stopped = λ (h : from + (at + n - at) < end) (g : at + n < length s)
+          (e : get_or s (at + n) 0 ≡ get_or s (from + (at + n - at)) 0).
+          stops (omega arith) g (e ∙ ap (λ (i : ℕ). get_or s (from + i) 0) same);
+    }
 
-module _ (s : List ℕ) (from end at : ℕ) where
-  -- no byte is read yet
-  pub agreeing_start : from ≤ end → at ≤ length s → Agreeing s from end at at from
-  agreeing_start h g =
-      record {
-        onward = omega arith;
-        within = g;
-        beside = omega arith;
-        not_beyond = h;
-        passed = λ (k : ℕ) (l : k < at - at). let z : ⊥ = omega arith in absurd z;
-      }
-
-  -- one byte more agrees
-  pub agreeing_more :
-      (i j : ℕ) → Agreeing s from end at i j → j < end → i < length s → get_or s i 0 ≡ get_or s j 0 →
-      Agreeing s from end at (i + 1) (j + 1)
-  agreeing_more i j run h g e =
-      let before : at ≤ i = run.onward in
-      let beside : from + (i - at) ≡ j = run.beside in
-      let here : at + (i - at) ≡ i = omega arith in
-      let agrees : get_or s (at + (i - at)) 0 ≡ get_or s (from + (i - at)) 0 =
-      ap (λ (n : ℕ). get_or s n 0) here ∙ e ∙ ap (λ (n : ℕ). get_or s n 0) (sym beside) in
-      record {
-        onward = omega arith;
-        within = omega arith;
-        beside = omega arith;
-        not_beyond = omega arith;
-        passed = λ (k : ℕ) (l : k < i + 1 - at).
-            ⊎_elim (λ (p : k ≡ i - at). subst (λ (n : ℕ). get_or s (at + n) 0 ≡ get_or s (from + n) 0) (sym p) agrees)
-            (λ (p : k ≡ i - at → ⊥). run.passed k (omega arith))
-            (eq_dec k (i - at));
-      }
-
-  -- all bytes agree, or the one at `i`, if there is one, does not
-  pub agreeing_end :
-      (i j : ℕ) → Agreeing s from end at i j → (j < end → i < length s → get_or s i 0 ≡ get_or s j 0 → ⊥) → Agrees s from end at i
-  agreeing_end i j run stops =
-      let beside : from + (i - at) ≡ j = run.beside in
-      let low : j ≤ end = run.not_beyond in
-      record {
-        onward = run.onward;
-        within = run.within;
-        not_beyond = omega arith;
-        passed = run.passed;
-        stopped = λ (h : from + (i - at) < end) (g : i < length s) (e : get_or s i 0 ≡ get_or s (from + (i - at)) 0).
-            stops (omega arith) g (e ∙ ap (λ (n : ℕ). get_or s n 0) beside);
-      }
+-- a name byte by byte
+pub ruleset namings = (naming_none, naming_start, naming_more, naming_longest, naming_stop)

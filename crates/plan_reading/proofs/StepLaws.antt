@@ -1,6 +1,7 @@
 -- Reading at one offset of a plan: the end, a byte that no plan can have there, a byte that is read, and the byte after the name of a tag
 -- that begins an element. Assumes nothing.
 use mathlib.Core.Path.{◌≡◌, refl, sym, ap, ◌∙◌, subst}
+use mathlib.Core.Logic.{⊎_elim}
 use mathlib.Core.Bool.{Bool, true, false, ◌||◌, cond, false≢true}
 use mathlib.Core.List.{List, [], ◌∷◌}
 use Prim.Native.Nat.{ℕ, suc, ◌≤◌, ◌<◌}
@@ -10,6 +11,7 @@ use lib.ListN.{length, get_or, drop, drop_of_length-le}
 use lib.Seq.{drop-cons}
 use borrow.Author.Tests.{ne_eqb}
 use Rattle.base.specs.Limits.{bad_plan}
+use Rattle.base.proofs.Tests.{le_or_lt}
 use Rattle.written_plans.specs.Written.{Tag, tag, is_white, slash, greater}
 use Rattle.written_plans.specs.Reading.{Place, inside, naming, named, emptied, Next, stop, go, after_name, step, met}
 use Rattle.written_plans.specs.Reading.{Reading, refused_at, ended, with_tags, tags_fault, read_plan_from}
@@ -71,6 +73,12 @@ module _ (judge : Tag → ℕ) (s : List ℕ) (q : Place) (i : ℕ) where
     reads-refused t tg k e m f some =
         let apart : eqb k 0 ≡ false = ne_eqb k 0 (λ z. let w : ⊥ = omega arith in w) in
         reads-judged t (tg ∷ []) e m k f ∙ rw (apart, judged)
+
+  -- no plan ends there, or goes on with the byte
+  pub reads-bad : ended q i ≡ refused_at bad_plan i → (i < length s → step q (get_or s i 0) ≡ stop)
+      → reads judge s q i ≡ refused_at bad_plan i
+  reads-bad ends stops =
+      ⊎_elim (λ (h : length s ≤ i). reads_end h ∙ ends) (λ (h : i < length s). reads-stop h (stops h)) (le_or_lt (length s) i)
 
 -- ---- the byte after the name of a tag that begins an element
 

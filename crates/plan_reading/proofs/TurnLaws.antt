@@ -2,29 +2,32 @@
 -- Assumes nothing.
 use mathlib.Core.Path.{◌≡◌, refl, sym, ap, ap₂, ◌∙◌, subst}
 use mathlib.Core.Logic.{⊎_elim}
-use mathlib.Core.Bool.{Bool, true, false, ◌&&◌, cond}
+use mathlib.Core.Bool.{Bool, false, cond}
 use mathlib.Core.List.{List, [], ◌∷◌, ◌++◌, map, map-append, append-nil, append_assoc}
-use Prim.Native.Nat.{ℕ, zero, suc, ◌+◌, ◌*◌, ◌≤◌, ◌<◌}
+use Prim.Native.Nat.{ℕ, zero, suc, ◌+◌, ◌≤◌, ◌<◌}
 use native.Mathlib.Omega.{arith}
-use lib.Dec.{eqb, ltb}
-use lib.ListN.{length, get_or, drop}
+use lib.Dec.{eqb}
+use lib.ListN.{length, drop, set, length-set}
+use lib.Seq.{get_or-set_same}
 use Rattle.base.specs.Limits.{plan_depth, bad_plan}
-use Rattle.base.proofs.Tests.{Tells, not_told, told-false, tells_eqb, tells_ltb, tells_and, le_or_lt}
+use Rattle.base.specs.Refusals.{number_of}
+use Rattle.base.specs.declared.refusals.Refusal.{Refusal}
+use Rattle.base.specs.declared.refusals.Refusal.TheVariants as refusal
+use Rattle.base.proofs.Tests.{told-false, tells_eqb, le_or_lt}
 use Rattle.model.specs.Fields.{name_number}
 use Rattle.written_plans.specs.Written.{Tag, tag}
 use Rattle.written_plans.specs.Reading.{Place, before, inside, named, after, leave, tag_fault, Reading, refused_at, ended, with_tags}
 use Rattle.written_plans.specs.Reading.{read_plan, Entry, entry_of}
 use Rattle.written_plans.specs.Logs.{entries_at}
 use Rattle.plan_reading.specs.Scanning.{part}
-use Rattle.plan_reading.specs.Pieces.{open_name, open_names, between, place_of, reads, ReadsOn, Stops, NameHere, Passed, Met}
-use Rattle.plan_reading.specs.Turns.{Numbered, Standing, Begun, ElementFrom, entry, ReadFurther, RefusedAs, TurnFrom, Logged}
-use Rattle.plan_reading.specs.declared.Turn.{Turn}
-use Rattle.plan_reading.specs.declared.Turn.TheVariants as turn
+use Rattle.plan_reading.specs.Pieces.{open_at, open_names, between, place_of, reads, ReadsOn, Stops, NameHere, Passed, Met}
+use Rattle.plan_reading.specs.Turns.{Numbered, Standing, Begun, after_name_of, entry, ReadFurther, RefusedAs, Logged}
+use Rattle.plan_reading.specs.declared.opens.Open.{Open}
+use Rattle.plan_reading.specs.declared.opens.Stack.{Stack}
 use Rattle.plan_reading.specs.declared.pieces.Reached.{Reached}
 use Rattle.plan_reading.proofs.StepLaws.{reads_end, name-reads, name-refused}
 use Rattle.plan_reading.proofs.PieceLaws.{leave-between}
-use Rattle.plan_reading.proofs.StackLaws.{open_count, name_kept, names_kept, pushed, pushed-length, pushed-below}
-use Rattle.plan_reading.proofs.StackLaws.{pushed-from, pushed-end, pushed-number}
+use Rattle.plan_reading.proofs.StackLaws.{open_count, names_kept, pushed-below}
 
 -- ---- an element from the end of its name on
 
@@ -34,21 +37,27 @@ by_depth P depth below top d h =
     ⊎_elim (λ (high : depth ≤ d). let is : depth ≡ d = omega arith in subst P is top)
     (λ (low : d < depth). below d low) (le_or_lt depth d)
 
-module _ (names : List (List ℕ)) (s stack : List ℕ) (r : Reached) (from end at : ℕ)
-    (here : NameHere s from end) (ahead : r.at < from)
-    (stands : Standing names s stack r) (beyond : end < at) (within : at ≤ length s) where
+module _ (names : List (List ℕ)) (s : List ℕ) (stack : Stack) (r : Reached) (element : Open) (at : ℕ)
+    (here : NameHere s element.from element.end) (ahead : r.at < element.from)
+    (stands : Standing names s stack.opens stack.depth r) (beyond : element.end < at) (within : at ≤ length s) where
+  -- where reading stands after the element's tag
+  abbrev after_tag : Reached
+  after_tag = record { at = at; tags = r.tags + 1 }
+
   -- the place after the element's name
-  abbrev afterTheName : Place
-  afterTheName = named (open_names s stack r.depth) (part s from end)
+  abbrev after_name : Place
+  after_name = after_name_of s stack element
 
   -- an empty-element tag: the elements that are open are the same
-  pub element_empty : ReadsOn s afterTheName end (leave (open_names s stack r.depth)) at
-      → Begun names s stack stack afterTheName end r (record { at = at; depth = r.depth; tags = r.tags + 1 })
+  pub element_empty : ReadsOn s after_name element.end (leave (open_names s stack.opens stack.depth)) at
+      → Begun names s stack after_name element.end r after_tag
   element_empty on =
       let was = stands.stacked in
       record {
         reads_on = λ judge.
-            on judge ∙ ap (λ (q : Place). reads judge s q at) (leave-between (open_names s stack r.depth) (r.tags + 1) (omega arith));
+            on judge
+            ∙ ap (λ (q : Place). reads judge s q at)
+            (leave-between (open_names s stack.opens stack.depth) (r.tags + 1) (omega arith));
         standing =
             record {
               stacked =
@@ -67,53 +76,40 @@ module _ (names : List (List ℕ)) (s stack : List ℕ) (r : Reached) (from end 
         one_tag = refl;
       }
 
-  module _ (number : ℕ) (is_number : number ≡ name_number names (part s from end)) (shallow : r.depth < plan_depth) where
-    -- the stack with the element
-    abbrev after_push : List ℕ
-    after_push = pushed stack r.depth from end number
-
-    -- it has room for the element
-    has_room : 3 * r.depth + 2 < length stack
-    has_room = omega (arith, stands.stacked.room)
-
-    -- where its name begins on it
-    from_is : get_or after_push (3 * r.depth) 0 ≡ from
-    from_is = pushed-from stack r.depth from end number has_room
-
-    -- and where it ends
-    end_is : get_or after_push (3 * r.depth + 1) 0 ≡ end
-    end_is = pushed-end stack r.depth from end number has_room
+  module _ (stack' : Stack) (opens_are : stack'.opens ≡ set stack.opens stack.depth element)
+      (depth_is : stack'.depth ≡ stack.depth + 1) (shallow : stack.depth < plan_depth)
+      (is_number : element.number ≡ name_number names (part s element.from element.end)) where
+    -- it stands at its depth
+    pushed_at : open_at stack'.opens stack.depth ≡ element
+    pushed_at =
+        ap (λ (os : List Open). open_at os stack.depth) opens_are
+        ∙ get_or-set_same stack.opens stack.depth element _ (omega (arith, stands.stacked.room))
 
     -- the elements around it are what they were
-    kept : (j : ℕ) → j < 3 * r.depth → get_or after_push j 0 ≡ get_or stack j 0
-    kept = pushed-below stack r.depth from end number
-
-    -- the element's name
-    new_name : open_name s after_push r.depth ≡ part s from end
-    new_name = ap₂ (part s) from_is end_is
+    kept : (j : ℕ) → j < stack.depth → open_at stack'.opens j ≡ open_at stack.opens j
+    kept j h = ap (λ (os : List Open). open_at os j) opens_are ∙ pushed-below stack.opens stack.depth element j h
 
     -- the names of all that are open
-    new-names : open_names s after_push (r.depth + 1) ≡ part s from end ∷ open_names s stack r.depth
+    new-names : open_names s stack'.opens stack'.depth ≡ part s element.from element.end ∷ open_names s stack.opens stack.depth
     unfolding open_names
     new-names =
-        let one_more : r.depth + 1 ≡ suc r.depth = omega arith in
-        ap (open_names s after_push) one_more
-        ∙ ap₂ (λ (n : List ℕ) (ns : List (List ℕ)). n ∷ ns) new_name (names_kept s stack after_push r.depth kept)
+        let one_more : stack'.depth ≡ suc stack.depth = omega arith in
+        ap (open_names s stack'.opens) one_more
+        ∙ ap₂ (λ (o : Open) (ns : List (List ℕ)). part s o.from o.end ∷ ns) pushed_at
+        (names_kept s stack.opens stack'.opens stack.depth kept)
 
-    -- the number of each stands beside it
-    new-numbers : Numbered names s after_push (r.depth + 1)
-    new-numbers =
-        by_depth (λ (d : ℕ). get_or after_push (3 * d + 2) 0 ≡ name_number names (open_name s after_push d)) r.depth
-        (λ d h.
-        kept (3 * d + 2) (omega arith)
-        ∙ stands.numbered d h
-        ∙ sym (ap (name_number names) (name_kept s stack after_push d (λ j k. kept j (omega arith)))))
-        (pushed-number stack r.depth from end number has_room ∙ is_number ∙ ap (name_number names) (sym new_name))
+    -- what holds of each element around it, and of it
+    of_each : (P : Open → Type 0) → ((d : ℕ) → d < stack.depth → P (open_at stack.opens d)) → P element
+        → (d : ℕ) → d < stack'.depth → P (open_at stack'.opens d)
+    of_each P below top d h =
+        by_depth (λ (i : ℕ). P (open_at stack'.opens i)) stack.depth (λ i g. subst P (sym (kept i g)) (below i g))
+        (subst P (sym pushed_at) top) d (omega arith)
 
     -- a start tag: the element is open
-    pub element-opened : ReadsOn s afterTheName end (inside (part s from end) (open_names s stack r.depth)) at
-        → Begun names s stack after_push afterTheName end r (record { at = at; depth = r.depth + 1; tags = r.tags + 1 })
-    element-opened on =
+    pub element_opened :
+        ReadsOn s after_name element.end (inside (part s element.from element.end) (open_names s stack.opens stack.depth)) at
+        → Begun names s stack' after_name element.end r after_tag
+    element_opened on =
         let was = stands.stacked in
         record {
           reads_on = λ judge.
@@ -124,18 +120,13 @@ module _ (names : List (List ℕ)) (s stack : List ℕ) (r : Reached) (from end 
                     record {
                       within = within;
                       shallow = omega arith;
-                      room = pushed-length stack r.depth from end number ∙ was.room;
-                      forward = by_depth (λ (d : ℕ). get_or after_push (3 * d) 0 ≤ get_or after_push (3 * d + 1) 0) r.depth
-                          (λ d h.
-                          omega (arith, kept (3 * d) (omega arith), kept (3 * d + 1) (omega arith), was.forward d h))
-                          (omega (arith, from_is, end_is, here.some));
-                      behind = by_depth (λ (d : ℕ). get_or after_push (3 * d + 1) 0 ≤ at) r.depth
-                          (λ d h. omega (arith, kept (3 * d + 1) (omega arith), was.behind d h, here.some))
-                          (omega (arith, end_is));
+                      room = ap length opens_are ∙ length-set stack.opens stack.depth element ∙ was.room;
+                      forward = of_each (λ (o : Open). o.from ≤ o.end) was.forward (omega (arith, here.some));
+                      behind = of_each (λ (o : Open). o.end ≤ at) (λ d h. omega (arith, was.behind d h, here.some)) (omega arith);
                       begun = omega (arith, was.begun);
                       few = omega (arith, was.few, here.some);
                     };
-                numbered = new-numbers;
+                numbered = of_each (λ (o : Open). o.number ≡ name_number names (part s o.from o.end)) stands.numbered is_number;
               };
           further = beyond;
           one_tag = refl;
@@ -149,104 +140,126 @@ pub refused_as : (reading : Reading) (ts : List Tag) (k p : ℕ) → reading ≡
 refused_as reading ts k p e some =
     record { number_is = ap (λ (r : Reading). r.number) e; place_is = ap (λ (r : Reading). r.place) e; some = some }
 
--- a byte that no plan can have there
-pub turn_stops : (judge : Tag → ℕ) (s : List ℕ) (q : Place) (i p : ℕ) → Stops s q i p → RefusedAs (reads judge s q i) bad_plan p
-turn_stops judge s q i p stops = refused_as (reads judge s q i) [] bad_plan p (stops judge) (omega arith)
+-- no refusal has number 0
+pub some_number : (k : Refusal) → 0 < number_of k
+some_number refusal.BadSizes = omega arith
+some_number refusal.CutOff = omega arith
+some_number refusal.Misplaced = omega arith
+some_number refusal.Unfinished = omega arith
+some_number refusal.BadName = omega arith
+some_number refusal.NameOrder = omega arith
+some_number refusal.TooMany = omega arith
+some_number refusal.BadClass = omega arith
+some_number refusal.BadRow = omega arith
+some_number refusal.TreeTooLarge = omega arith
+some_number refusal.BadState = omega arith
+some_number refusal.BadNumbering = omega arith
+some_number refusal.OutputTooShort = omega arith
+some_number refusal.BadPlan = omega arith
+some_number refusal.TooDeep = omega arith
+some_number refusal.UnknownChild = omega arith
 
-module _ (names : List (List ℕ)) (judge : Tag → ℕ) (s stack log : List ℕ) (r : Reached) (stands : Standing names s stack r) where
+module _ (names : List (List ℕ)) (judge : Tag → ℕ) (s : List ℕ) (stack : Stack) (log : List ℕ) (r : Reached)
+    (stands : Standing names s stack.opens stack.depth r) where
+  -- where reading stands
+  abbrev place : Place
+  place = place_of s stack.opens stack.depth r
+
+  -- what reading comes to from there
+  abbrev reading : Reading
+  reading = reads judge s place r.at
+
   -- an end tag, or what stands before a tag
-  pub turn_past : (t : Reached) → Passed s stack (place_of s stack r) r.at r t
-      → ReadFurther names judge s stack stack log log r t
-  turn_past t passed =
+  pub turn_past : (stack' : Stack) (at : ℕ) → stack'.opens ≡ stack.opens → stack'.depth ≤ stack.depth
+      → Passed s stack'.opens stack'.depth place r.at (record { at = at; tags = r.tags })
+      → ReadFurther names judge s stack stack' log log r (record { at = at; tags = r.tags })
+  turn_past stack' at same not_deeper passed =
       record {
         met_tags = [];
         reads_on = passed.reads_on judge;
-        logged = ap (entries_at log 0) passed.same_tags ∙ sym (append-nil (entries_at log 0 r.tags));
-        standing = record { stacked = passed.sound; numbered = λ d h. stands.numbered d (omega (arith, passed.not_deeper)) };
+        logged = sym (append-nil (entries_at log 0 r.tags));
+        standing =
+            record {
+              stacked = passed.sound;
+              numbered = subst (λ (os : List Open). Numbered names s os stack'.depth) (sym same)
+                  (λ d h. stands.numbered d (omega arith));
+            };
         further = passed.further;
         same_room = refl;
       }
 
-  module _ (from end : ℕ) (met : Met s stack (place_of s stack r) r.at r from end) where
+  module _ (from end : ℕ) (met : Met s stack.opens stack.depth place r.at from end) where
     -- the tag that is met
-    abbrev newTag : Tag
-    newTag = tag (open_names s stack r.depth) (part s from end) (drop end s)
+    abbrev new_tag : Tag
+    new_tag = tag (open_names s stack.opens stack.depth) (part s from end) (drop end s)
 
     -- the tag is refused
-    pub turn-fault : (k : ℕ) → judge newTag ≡ k → 0 < k → RefusedAs (reads judge s (place_of s stack r) r.at) k end
-    turn-fault k fault some =
-        refused_as (reads judge s (place_of s stack r) r.at) [] k end
-        (met.reads_on judge ∙ name-refused judge s from end (open_names s stack r.depth) met.here k fault some) some
+    pub turn_fault : (k : ℕ) → judge new_tag ≡ k → 0 < k → RefusedAs reading k end
+    turn_fault k fault some =
+        refused_as reading [] k end
+        (met.reads_on judge ∙ name-refused judge s from end (open_names s stack.opens stack.depth) met.here k fault some) some
 
-    module _ (fine : judge newTag ≡ 0) where
+    module _ (fine : judge new_tag ≡ 0) where
+      -- the place after its name
+      abbrev after_it : Place
+      after_it = named (open_names s stack.opens stack.depth) (part s from end)
+
       -- reading goes on after its name
-      goes_on : reads judge s (place_of s stack r) r.at
-          ≡ with_tags (newTag ∷ []) (reads judge s (named (open_names s stack r.depth) (part s from end)) end)
-      goes_on = met.reads_on judge ∙ name-reads judge s from end (open_names s stack r.depth) met.here fine
+      goes_on : reading ≡ with_tags (new_tag ∷ []) (reads judge s after_it end)
+      goes_on = met.reads_on judge ∙ name-reads judge s from end (open_names s stack.opens stack.depth) met.here fine
 
       -- and comes to a byte that no plan can have there
-      turn-ended : (p : ℕ) → Stops s (named (open_names s stack r.depth) (part s from end)) end p
-          → RefusedAs (reads judge s (place_of s stack r) r.at) bad_plan p
-      turn-ended p stops =
-          refused_as (reads judge s (place_of s stack r) r.at) (newTag ∷ []) bad_plan p
-          (goes_on ∙ ap (with_tags (newTag ∷ [])) (stops judge)) (omega arith)
+      pub turn_ended : (p : ℕ) → Stops s after_it end p → RefusedAs reading bad_plan p
+      turn_ended p stops =
+          refused_as reading (new_tag ∷ []) bad_plan p (goes_on ∙ ap (with_tags (new_tag ∷ [])) (stops judge)) (omega arith)
 
       -- or to the end of the tag, whose entry is in the log
-      turn-begun :
-          (stack' log' : List ℕ) (number : ℕ) (t : Reached) → number ≡ name_number names (part s from end)
-          → entries_at log' 0 (r.tags + 1) ≡ entries_at log 0 r.tags ++ (entry number r.depth ∷ [])
+      pub turn_begun :
+          (stack' : Stack) (log' : List ℕ) (number : ℕ) (t : Reached) → number ≡ name_number names (part s from end)
+          → entries_at log' 0 (r.tags + 1) ≡ entries_at log 0 r.tags ++ (entry number stack.depth ∷ [])
           → length log' ≡ length log
-          → Begun names s stack stack' (named (open_names s stack r.depth) (part s from end)) end r t
+          → Begun names s stack' after_it end r t
           → ReadFurther names judge s stack stack' log log' r t
-      turn-begun stack' log' number t is_number put same_room begun =
+      turn_begun stack' log' number t is_number put same_room begun =
           record {
-            met_tags = newTag ∷ [];
-            reads_on = goes_on ∙ ap (with_tags (newTag ∷ [])) (begun.reads_on judge);
+            met_tags = new_tag ∷ [];
+            reads_on = goes_on ∙ ap (with_tags (new_tag ∷ [])) (begun.reads_on judge);
             logged = ap (entries_at log' 0) begun.one_tag
                 ∙ put
-                ∙ ap₂ (λ (n d : ℕ). entries_at log 0 r.tags ++ (entry n d ∷ [])) is_number (sym (open_count s stack r.depth));
+                ∙ ap₂ (λ (n d : ℕ). entries_at log 0 r.tags ++ (entry n d ∷ [])) is_number
+                (sym (open_count s stack.opens stack.depth));
             standing = begun.standing;
             further = omega (arith, met.further, met.here.some, begun.further);
             same_room = same_room;
           }
 
-      -- one of the two
-      pub turn-element :
-          (stack' log' : List ℕ) (number : ℕ) → number ≡ name_number names (part s from end)
-          → entries_at log' 0 (r.tags + 1) ≡ entries_at log 0 r.tags ++ (entry number r.depth ∷ [])
-          → length log' ≡ length log
-          → (t : Turn) → ElementFrom names s stack stack' r from end t → TurnFrom names judge s stack stack' log log' r t
-      turn-element stack' log' number is_number put same_room (turn.Go t) begun =
-          turn-begun stack' log' number t is_number put same_room begun
-      turn-element stack' log' number is_number put same_room (turn.Refused k p) ended =
-          subst (λ (z : ℕ). RefusedAs (reads judge s (place_of s stack r) r.at) z p) (sym ended.0) (turn-ended p ended.1)
-
 -- ---- a whole plan
 
 -- the plan is read up to what is reached, and the tags met are in the log
-pub record ReadSoFar (names : List (List ℕ)) (chosen s stack log : List ℕ) (r : Reached) : Type 0 where
+pub record ReadSoFar (names : List (List ℕ)) (chosen s : List ℕ) (stack : Stack) (log : List ℕ) (r : Reached) : Type 0 where
   pub met_tags : List Tag
-  pub reads_on : read_plan names chosen s ≡ with_tags met_tags (reads (tag_fault names chosen) s (place_of s stack r) r.at)
+  pub reads_on : read_plan names chosen s
+      ≡ with_tags met_tags (reads (tag_fault names chosen) s (place_of s stack.opens stack.depth r) r.at)
   pub logged : entries_at log 0 r.tags ≡ map (entry_of names) met_tags
-  pub standing : Standing names s stack r
+  pub standing : Standing names s stack.opens stack.depth r
 
 -- a plan that ends before its outermost element, or inside an element
-ends-badly : (s stack : List ℕ) (depth tags p : ℕ) → (depth ≡ 0 → 0 < tags → ⊥)
-    → ended (between (open_names s stack depth) tags) p ≡ refused_at bad_plan p
+ends-badly : (s : List ℕ) (opens : List Open) (depth tags p : ℕ) → (depth ≡ 0 → 0 < tags → ⊥)
+    → ended (between (open_names s opens depth) tags) p ≡ refused_at bad_plan p
 unfolding open_names ended
-ends-badly s stack zero zero p elsewhere = refl
-ends-badly s stack zero (suc tags) p elsewhere = absurd (elsewhere refl (omega arith))
-ends-badly s stack (suc d) tags p elsewhere = refl
+ends-badly s opens zero zero p elsewhere = refl
+ends-badly s opens zero (suc tags) p elsewhere = absurd (elsewhere refl (omega arith))
+ends-badly s opens (suc d) tags p elsewhere = refl
 
 module _ (names : List (List ℕ)) (chosen s : List ℕ) where
   -- nothing is read yet
-  pub plan-begins : (stack log : List ℕ) → length stack ≡ 3 * plan_depth
-      → ReadSoFar names chosen s stack log (record { at = 0; depth = 0; tags = 0 })
+  pub plan_begins : (stack : Stack) (log : List ℕ) → length stack.opens ≡ plan_depth → stack.depth ≡ 0
+      → ReadSoFar names chosen s stack log (record { at = 0; tags = 0 })
   unfolding read_plan open_names entries_at
-  plan-begins stack log room =
+  plan_begins stack log room none =
       record {
         met_tags = [];
-        reads_on = refl;
+        reads_on = sym (ap (λ (d : ℕ). reads (tag_fault names chosen) s (between (open_names s stack.opens d) 0) 0) none);
         logged = refl;
         standing =
             record {
@@ -255,21 +268,21 @@ module _ (names : List (List ℕ)) (chosen s : List ℕ) where
                     within = omega arith;
                     shallow = omega arith;
                     room = room;
-                    forward = λ d h. let z : ⊥ = omega arith in absurd z;
-                    behind = λ d h. let z : ⊥ = omega arith in absurd z;
+                    forward = λ d h. absurd (omega arith);
+                    behind = λ d h. absurd (omega arith);
                     begun = omega arith;
                     few = omega arith;
                   };
-              numbered = λ d h. let z : ⊥ = omega arith in absurd z;
+              numbered = λ d h. absurd (omega arith);
             };
       }
 
-  module _ (stack log : List ℕ) (r : Reached) (so_far : ReadSoFar names chosen s stack log r) where
+  module _ (stack : Stack) (log : List ℕ) (r : Reached) (so_far : ReadSoFar names chosen s stack log r) where
     -- one turn more
-    pub plan-goes : (stack' log' : List ℕ) (t : Reached) → ReadFurther names (tag_fault names chosen) s stack stack' log log' r t
+    pub plan_goes : (stack' : Stack) (log' : List ℕ) (t : Reached) → ReadFurther names (tag_fault names chosen) s stack stack' log log' r t
         → ReadSoFar names chosen s stack' log' t
-    plan-goes stack' log' t turned =
-        let onward = reads (tag_fault names chosen) s (place_of s stack' t) t.at in
+    plan_goes stack' log' t turned =
+        let onward = reads (tag_fault names chosen) s (place_of s stack'.opens stack'.depth t) t.at in
         record {
           met_tags = so_far.met_tags ++ turned.met_tags;
           reads_on = so_far.reads_on
@@ -283,9 +296,9 @@ module _ (names : List (List ℕ)) (chosen s : List ℕ) where
         }
 
     -- a turn that is refused
-    pub plan-refused : (k p : ℕ) → RefusedAs (reads (tag_fault names chosen) s (place_of s stack r) r.at) k p
+    pub plan_refused : (k p : ℕ) → RefusedAs (reads (tag_fault names chosen) s (place_of s stack.opens stack.depth r) r.at) k p
         → RefusedAs (read_plan names chosen s) k p
-    plan-refused k p refused =
+    plan_refused k p refused =
         record {
           number_is = ap (λ (x : Reading). x.number) so_far.reads_on ∙ refused.number_is;
           place_is = ap (λ (x : Reading). x.place) so_far.reads_on ∙ refused.place_is;
@@ -294,24 +307,19 @@ module _ (names : List (List ℕ)) (chosen s : List ℕ) where
 
     module _ (at_end_fact : length s ≤ r.at) where
       -- what reading comes to at the plan's end
-      comes_to : read_plan names chosen s ≡ with_tags so_far.met_tags (ended (place_of s stack r) r.at)
+      comes_to : read_plan names chosen s ≡ with_tags so_far.met_tags (ended (place_of s stack.opens stack.depth r) r.at)
       comes_to =
           so_far.reads_on
-          ∙ ap (with_tags so_far.met_tags) (reads_end (tag_fault names chosen) s (place_of s stack r) r.at at_end_fact)
-
-      -- the test of a plan that is done
-      tells-done : Tells (eqb r.depth 0 && ltb 0 r.tags) ((r.depth ≡ 0) × (0 < r.tags))
-      tells-done = tells_and (tells_eqb r.depth 0) (tells_ltb 0 r.tags)
+          ∙ ap (with_tags so_far.met_tags) (reads_end (tag_fault names chosen) s (place_of s stack.opens stack.depth r) r.at at_end_fact)
 
       -- after the outermost element
-      pub plan-read : (eqb r.depth 0 && ltb 0 r.tags) ≡ true → Logged names (read_plan names chosen s) s log r.tags
+      pub plan_read : stack.depth ≡ 0 → 0 < r.tags → Logged names (read_plan names chosen s) s log r.tags
       unfolding open_names ended
-      plan-read test =
-          let done = tells-done.fact test in
+      plan_read outer some =
           let none : eqb r.tags 0 ≡ false =
-          told-false (tells_eqb r.tags 0) (λ (e : r.tags ≡ 0). let z : ⊥ = omega (arith, done.1) in z) in
-          let is : ended (place_of s stack r) r.at ≡ refused_at 0 0 =
-          ap (λ (d : ℕ). ended (between (open_names s stack d) r.tags) r.at) done.0
+          told-false (tells_eqb r.tags 0) (λ (e : r.tags ≡ 0). let z : ⊥ = omega arith in z) in
+          let is : ended (place_of s stack.opens stack.depth r) r.at ≡ refused_at 0 0 =
+          ap (λ (d : ℕ). ended (between (open_names s stack.opens d) r.tags) r.at) outer
           ∙ ap (λ (b : Bool). ended (cond b before after) r.at) none in
           let reading : read_plan names chosen s ≡ with_tags so_far.met_tags (refused_at 0 0) =
           comes_to ∙ ap (with_tags so_far.met_tags) is in
@@ -323,8 +331,14 @@ module _ (names : List (List ℕ)) (chosen s : List ℕ) where
           }
 
       -- anywhere else
-      pub plan-unfinished : (eqb r.depth 0 && ltb 0 r.tags) ≡ false → RefusedAs (read_plan names chosen s) bad_plan r.at
-      plan-unfinished test =
-          let elsewhere : r.depth ≡ 0 → 0 < r.tags → ⊥ = λ none some. not_told tells-done test (none, some) in
+      pub plan_unfinished : (stack.depth ≡ 0 → 0 < r.tags → ⊥) → RefusedAs (read_plan names chosen s) bad_plan r.at
+      plan_unfinished elsewhere =
           refused_as (read_plan names chosen s) so_far.met_tags bad_plan r.at
-          (comes_to ∙ ap (with_tags so_far.met_tags) (ends-badly s stack r.depth r.tags r.at elsewhere)) (omega arith)
+          (comes_to ∙ ap (with_tags so_far.met_tags) (ends-badly s stack.opens stack.depth r.tags r.at elsewhere)) (omega arith)
+
+-- the answers of each function
+pub ruleset elements = (element_opened, element_empty)
+
+pub ruleset turns = (some_number, turn_past, turn_fault, turn_ended, turn_begun)
+
+pub ruleset plans = (plan_begins, plan_goes, plan_read, plan_unfinished, plan_refused)

@@ -3,9 +3,10 @@ ghost use Rattle.std.specs.Prelude.{◌≡◌, [], ◌∷◌, ◌++◌, ◌+◌,
 ghost use Rattle.written_plans.specs.Logs.{entries_at};
 ghost use Rattle.plan_reading.specs.Turns.{entry};
 
-use base::numbers::narrow8;
-
+// Stays: (d) the log goes as the lent area with the number of tags beside it: reading itself needs that number, to tell before from after
+// the outermost element, and would keep a second one.
 // One entry more, after so many: the number of a name, and how many elements are around.
+#[tactic(auto, using(crate::proofs::LogLaws::entry_put))]
 pub fn put_entry(log: &mut [u8], tags: usize, number: u8, depth: usize)
     requires tags_in_bounds { 2 * tags + 1 < length log.old }
     requires depth_bound { depth < 256 }
@@ -13,5 +14,5 @@ pub fn put_entry(log: &mut [u8], tags: usize, number: u8, depth: usize)
     ensures tags_after { entries_at log.new 0 (tags + 1) ≡ entries_at log.old 0 tags ++ (entry number depth ∷ []) }
 {
     log[2 * tags] = number;
-    log[2 * tags + 1] = narrow8(depth);
+    log[2 * tags + 1] = depth as u8;
 }

@@ -1,12 +1,13 @@
 -- The rows in a log of a plan's tags, and what measuring them answers. Assumes nothing.
-use Rattle.std.specs.Prelude.{◌≡◌, List, ℕ, ◌+◌, ◌-◌, ◌*◌, ◌≤◌, length}
+use Rattle.std.specs.Prelude.{◌≡◌, List, ℕ, ◌+◌, ◌-◌, ◌*◌, ◌≤◌, length, Result, Ok, Err}
 use Rattle.base.specs.Limits.{input_limit}
 use Rattle.model.specs.Calls.{Refuses}
 use Rattle.model.specs.Tables.{row_fields}
 use Rattle.written_plans.specs.Reading.{Entry, row_after, rows_in, rows_fault}
 use Rattle.written_plans.specs.Logs.{entry_at, entries_at}
-use Rattle.plan_rows.specs.declared.Measured.{Measured}
-use Rattle.plan_rows.specs.declared.Measured.TheVariants as measured
+use Rattle.base.specs.Refusals.{number_of}
+use Rattle.base.specs.declared.refusals.Refusal.{Refusal}
+use Rattle.plan_rows.specs.declared.Size.{Size}
 
 -- of so many entries of a log, those from number i on
 unfoldable pub entries_from : List ℕ → ℕ → ℕ → List Entry
@@ -32,6 +33,6 @@ pub record MeasuredAs (rows : List (List ℕ)) (count bytes : ℕ) : Type 0 wher
   pub bytes_are : bytes ≡ length (row_fields rows)
 
 -- the rows measured, or refused
-abbrev pub Measures : List (List ℕ) → Measured → Type 0
-Measures rows (measured.Fits count bytes) = MeasuredAs rows count bytes
-Measures rows (measured.Refused k) = Refuses (rows_fault rows) k
+abbrev pub Measures : List (List ℕ) → Result Size Refusal → Type 0
+Measures rows (Ok size) = MeasuredAs rows size.rows size.bytes
+Measures rows (Err k) = Refuses (rows_fault rows) (number_of k)

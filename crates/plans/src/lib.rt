@@ -12,7 +12,7 @@ use base::cells::clear;
 use book_calls::{building, listing};
 use fields::STANDARD;
 use plan_calls::reading;
-use results::{Built, Counted, PlanRows, Rewritten, Walked, Written};
+use results::{Built, Counted, PlanRows, Rewritten, Walked, Written, not_read};
 use table_calls::{rewriting, walking};
 
 // Builds the table of a book: the prefix tree of its rows, joined by the rules of its class until none applies, numbered
@@ -23,7 +23,7 @@ pub fn build_table(book: &[u8], work: &mut [u8], out: &mut [u8]) -> Built
 {
     let built = building::build(STANDARD, book, work, out);
     clear(work);
-    built
+    built.unwrap_or_else(Built::from)
 }
 
 // Builds the table of a book as build_table does, and writes how often the book's rows use each state and each arc of it to a second
@@ -34,7 +34,7 @@ pub fn build_counted(book: &[u8], work: &mut [u8], out: &mut [u8], counts: &mut 
 {
     let counted = building::build_with(STANDARD, true, book, work, out, counts);
     clear(work);
-    counted
+    counted.unwrap_or_else(Counted::from)
 }
 
 // Reads a table and writes it again, to the same bytes.
@@ -43,16 +43,16 @@ pub fn rewrite_table(table: &[u8], work: &mut [u8], out: &mut [u8]) -> Rewritten
 {
     let rewritten = rewriting::rewrite(table, work, out);
     clear(work);
-    rewritten
+    rewritten.unwrap_or_else(Rewritten::from)
 }
 
 // Walks a row over a table, and clears the working area.
 fn walk_and_clear(table: &[u8], row: &[u8], work: &mut [u8]) -> Walked
     ensures { WalkedSays table.now row.now work.old work.new result }
 {
-    let ended = walking::walk(table, row, work);
+    let walked = walking::walk(table, row, work);
     clear(work);
-    ended
+    walked.unwrap_or_else(Walked::from)
 }
 
 // Walks a row over a table: the longest beginning of the row that begins an admitted row, as a part of the row, or the empty part where the
@@ -85,7 +85,7 @@ pub fn list_book(book: &[u8], work: &mut [u8], text: &mut [u8]) -> Written
 {
     let written = listing::list(STANDARD, book, work, text);
     clear(work);
-    written
+    written.unwrap_or_else(Written::from)
 }
 
 // Reads a plan, an XML file, and writes one row field for each of its elements with the chosen name: the numbers of the element's children.
@@ -102,8 +102,14 @@ pub fn rows_of_plan(
 {
     let rows = reading::read_rows(plan, names, chosen, work, out);
     clear(work);
-    rows
+    match rows {
+        Ok(rows) => rows,
+        Err(fault) => not_read(fault.refusal.into(), fault.at as u32),
+    }
 }
+
+// Stays: (a) the six functions from here on say the same as those above: docs/PROOFS.md names each as what C is promised, and the edits
+// c_build_leaves_work, c_counted_build_leaves_work, c_rows_leave_work and walk_leaves_work stand in them.
 
 // build_table, as C calls it.
 pub fn plans_build(book: &[u8], work: &mut [u8], out: &mut [u8]) -> Built

@@ -11,6 +11,7 @@ pub fn print_book(book: &[u8], work: &mut [u8; WORK_BYTES], text: &mut [u8; LIST
     ensures { PrintSays standard book.now work.old work.new
         text.old text.new result }
 {
+    // Stays: (a) what an entry gives back is C's struct, whose refusal is a number.
     let listed = list_book(book, work, text);
     if listed.refusal != 0 {
         return refusal_text(listed.refusal, text);

@@ -25,18 +25,6 @@ use Rattle.prefix_tree.proofs.TreeLaws.{row_there}
 
 -- ---- a child looked up
 
--- a cell whose content is not the child tells that there is none
-pub no_child : (count state name : ℕ) (parents names work : List ℕ) (c : ℕ)
-    → c ≡ cell_at work state name → (c < count → get_or parents c 0 ≡ state → get_or names c 0 ≡ name → ⊥)
-    → NoChild count state name parents names work
-no_child count state name parents names work c e out =
-    record {
-      none =
-          λ v h held p n.
-          let same : c ≡ v = e ∙ held in
-          out (omega arith) (ap (λ (k : ℕ). get_or parents k 0) same ∙ p) (ap (λ (k : ℕ). get_or names k 0) same ∙ n);
-    }
-
 module _ {nodes rows : List Word} {count : ℕ} {s : Store} (g : Grown nodes rows count s) (state name : ℕ) (low : state < count)
     (small : name < name_limit) where
   -- the root has no name
@@ -262,25 +250,22 @@ module _ {nodes rows : List Word} {count : ℕ} {s : Store} (g : Grown nodes row
 
 -- ---- the tree of no rows, and the whole
 
-pub begun-grown : (parents names ends work : List ℕ) → Sized parents names ends work
-    → Grown ([] ∷ []) [] 1 (store (set parents 0 0) (set names 0 64) (set ends 0 0) work)
+pub begun-grown : (s : Store) → get_or s.parents 0 0 ≡ 0 → get_or s.names 0 0 ≡ name_limit → get_or s.ends 0 0 ≡ 0
+    → Grown ([] ∷ []) [] 1 s
 unfolding total
-begun-grown parents names ends work sizes =
+begun-grown s parent named end =
     record {
       size = refl;
       root = refl;
-      root_parent = get_or-set_same parents 0 0 0 (omega (arith, sizes.parents_size));
-      root_name = get_or-set_same names 0 64 0 (omega (arith, sizes.names_size));
-      parent_before = λ v pos h. let z : ⊥ = omega arith in absurd z;
-      name_below = λ v pos h. let z : ⊥ = omega arith in absurd z;
-      word = λ v pos h. let z : ⊥ = omega arith in absurd z;
-      cell = λ v pos h. let z : ⊥ = omega arith in absurd z;
+      root_parent = parent;
+      root_name = named;
+      parent_before = λ v pos h. absurd (omega arith);
+      name_below = λ v pos h. absurd (omega arith);
+      word = λ v pos h. absurd (omega arith);
+      cell = λ v pos h. absurd (omega arith);
       single = λ v w h k e. omega arith;
       rows_met = λ r m. absurd (Memᴰ.not-nil m);
-      ends_at =
-          λ v h.
-          let zero-v : v ≡ 0 = omega arith in
-          rw (zero-v) (get_or-set_same ends 0 0 0 (omega (arith, sizes.ends_size)));
+      ends_at = λ v h. let zero-v : v ≡ 0 = omega arith in rw zero-v end;
     }
 
 pub grown_built : (rows : List Word) (n distinct : ℕ) (s : Store) → Grown (tree_of rows) rows n s → 0 < n → n ≤ state_limit

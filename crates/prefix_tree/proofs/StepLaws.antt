@@ -9,21 +9,21 @@ use Prim.Native.Nat.{ℕ, suc, ◌+◌, ◌<◌, ◌≤◌}
 use native.Mathlib.Numerals.{add-one}
 use native.Mathlib.Omega.{arith}
 use borrow.Author.Tests.{lt-ltb, le-ltb}
-use lib.ListN.{length, get_or, take, set, length-set}
+use lib.ListN.{length, get_or, take}
 use lib.Seq.{take-suc, take_all}
-use Rattle.base.specs.Limits.{name_limit, book_rows, state_limit, tree_too_large, when}
+use Rattle.base.specs.Limits.{name_limit, book_rows, state_limit, tree_too_large, when, work_bytes}
 use Rattle.base.specs.Lists.{same, has_row, copies}
+use Rattle.std.specs.Prelude.{Ok, Err}
+use Rattle.base.specs.declared.refusals.Refusal.TheVariants as refusal
 use Rattle.model.specs.Classes.{Word}
 use Rattle.model.specs.Joinings.{beginnings, with_states, with_rows, tree_of}
 use Rattle.model.specs.Calls.{tree_fault, different_rows}
 use Rattle.judging.specs.Offsets.{body_at, next_at, offset_at, fields_at}
 use Rattle.judging.proofs.OffsetLaws.{fields_more, offset_suc, field_within, field_at_lem, length_fields}
-use Rattle.prefix_tree.specs.Growth.{Store, store, Sized, Grown, IsChild, NoChild, appended, longer, with_state}
-use Rattle.prefix_tree.specs.Growth.{Stepped, StepTooMany, Ended, FewRows, was_there, RowAdded, RowTooMany, RowOf, RowBelow}
-use Rattle.prefix_tree.specs.Growth.{RowsBelow, number_of, count_of, different_in, TreeBuilt, TreeOf}
-use Rattle.prefix_tree.specs.declared.Added.{Added}
-use Rattle.prefix_tree.specs.declared.Tree.{Tree}
-use Rattle.prefix_tree.specs.declared.Added.TheVariants as added
+use Rattle.prefix_tree.specs.declared.Growing.{Growing}
+use Rattle.prefix_tree.specs.Growth.{Store, store, held, Sized, Grown, IsChild, NoChild, appended, longer, with_state}
+use Rattle.prefix_tree.specs.Growth.{Stepped, StepTooMany, Ended, FewRows, RowAdded, RowTooMany, RowOf, RowBelow}
+use Rattle.prefix_tree.specs.Growth.{RowsBelow, TreeBuilt, TreeOf}
 use Rattle.base.proofs.Tests.{not_told, told-false, same_tests, tells_eqb, tells_not, tells_has_row}
 use Rattle.base.proofs.Totals.{many_few}
 use Rattle.base.proofs.Places.{nth_in}
@@ -32,23 +32,13 @@ use Rattle.model.proofs.DifferentRows.{different_few, different_again, different
 use Rattle.prefix_tree.proofs.WordLaws.{snoc_new, snoc_length}
 use Rattle.prefix_tree.proofs.TreeLaws.{with_state-there, with_state-new, walked, walked_none, walked_more, walked-longer}
 use Rattle.prefix_tree.proofs.TreeLaws.{tree_of-more, tree_of-longer}
-use Rattle.prefix_tree.proofs.GrowthLaws.{child_word, child_met, child_new, appended-grown, row_met, ended-grown, begun-grown}
+use Rattle.prefix_tree.proofs.GrowthLaws.{child_word, child_met, child_new, appended-grown, row_met, ended-grown}
 use Rattle.prefix_tree.proofs.GrowthLaws.{grown_built}
 
--- arrays that kept their lengths have the room that they had
-pub sized_kept : (s s' : Store) → Sized s.parents s.names s.ends s.work
-    → length s'.parents ≡ length s.parents
-    → length s'.names ≡ length s.names
-    → length s'.ends ≡ length s.ends
-    → length s'.work ≡ length s.work
-    → Sized s'.parents s'.names s'.ends s'.work
-sized_kept s s' sizes p n a w =
-    record {
-      parents_size = p ∙ sizes.parents_size;
-      names_size = n ∙ sizes.names_size;
-      ends_size = a ∙ sizes.ends_size;
-      work_size = omega (arith, sizes.work_size);
-    }
+-- a tree as it grows has room for every state
+pub sized : (t : Growing) {work : List ℕ} → work_bytes ≤ length work → Sized t.parents t.names t.ends work
+sized t room =
+    record { parents_size = t.sized.0; names_size = t.sized.1; ends_size = t.sized.2; work_size = room }
 
 -- ---- one step
 
@@ -99,21 +89,18 @@ pub record Walking (row : Word) (count : ℕ) (s₀ s : Store) (n state i : ℕ)
   pub within : i ≤ length row
   pub low : state < n
   pub few : n ≤ state_limit
-  pub sizes : Sized s.parents s.names s.ends s.work
   pub work_kept : length s.work ≡ length s₀.work
   pub grown :
       (nodes rows : List Word) → Grown nodes rows count s₀ →
       Grown (walked nodes row i) rows n s × (get_or (walked nodes row i) state [] ≡ take i row)
 
 pub walking-begins : (row : Word) (count : ℕ) (s : Store) → 0 < count → count ≤ state_limit
-    → Sized s.parents s.names s.ends s.work
     → Walking row count s s count 0 0
-walking-begins row count s some few sizes =
+walking-begins row count s some few =
     record {
       within = omega arith;
       low = some;
       few = few;
-      sizes = sizes;
       work_kept = refl;
       grown =
           λ nodes rows g.
@@ -132,15 +119,13 @@ module _ {row : Word} {count : ℕ} {s₀ s : Store} {n state i : ℕ}
   next_walked nodes rows g = ap (with_state (walked nodes row i)) (next_word nodes rows g) ∙ sym (walked_more nodes row i more)
 
   walking-next : {s' : Store} {v m : ℕ} → Stepped n state (get_or row i 0) s s' v m
-      → Sized s'.parents s'.names s'.ends s'.work
       → length s'.work ≡ length s.work
       → Walking row count s₀ s' m v (suc i)
-  walking-next {s'} {v} {m} is sizes kept =
+  walking-next {s'} {v} {m} is kept =
       record {
         within = more;
         low = is.below;
         few = is.few;
-        sizes = sizes;
         work_kept = kept ∙ w.work_kept;
         grown =
             λ nodes rows g.
@@ -154,11 +139,10 @@ module _ {row : Word} {count : ℕ} {s₀ s : Store} {n state i : ℕ}
       }
 
   pub walking-goes : {s' : Store} {v m : ℕ} → Stepped n state (get_or row i 0) s s' v m
-      → Sized s'.parents s'.names s'.ends s'.work
       → length s'.work ≡ length s.work
       → Walking row count s₀ s' m v (i + 1)
-  walking-goes {s'} {v} {m} is sizes kept =
-      subst (λ (k : ℕ). Walking row count s₀ s' m v k) (sym (add-one i)) (walking-next is sizes kept)
+  walking-goes {s'} {v} {m} is kept =
+      subst (λ (k : ℕ). Walking row count s₀ s' m v k) (sym (add-one i)) (walking-next is kept)
 
   pub walking-full : StepTooMany n state (get_or row i 0) s → RowTooMany row count s₀
   walking-full full =
@@ -171,14 +155,15 @@ module _ {row : Word} {count : ℕ} {s₀ s : Store} {n state i : ℕ}
 
 -- a row that was there adds no state, so one for which there is no room was not there
 pub row_full :
-    {row : Word} {count : ℕ} {s s' : Store} → count ≤ state_limit → RowTooMany row count s → RowOf row count s s' added.Full
-row_full {row} {count} {s} {s'} few full =
+    {row : Word} {count : ℕ} {s s' : Store} (n : ℕ) → count ≤ state_limit → RowTooMany row count s →
+    RowOf row count s s' n (Err refusal.TreeTooLarge)
+row_full {row} {count} {s} {s'} n few full =
     record {
       told =
           λ nodes rows g.
           told-false (tells_has_row row rows)
           (λ m. omega (arith, few, full.over nodes rows g, ap length (row_met g row m), g.size));
-      tree = full;
+      tree = (refl, full);
     }
 
 -- in every state fewer rows end than a book may have
@@ -195,7 +180,8 @@ walking-few {row} {count} {s₀} {s} {n} {state} {i} w f =
 
 -- the whole row is walked, and its end counted
 module _ {row : Word} {count : ℕ} {s₀ s : Store} {n state i : ℕ} {ends' : List ℕ} {before : Bool}
-    (w : Walking row count s₀ s n state i) (done : length row ≤ i) (end : Ended s.ends ends' state before) where
+    (f : FewRows count s₀) (w : Walking row count s₀ s n state i) (done : length row ≤ i)
+    (room : length s.ends ≡ state_limit) (end : Ended s.ends ends' state before) where
   -- the arrays hold the tree with the row's beginnings, and the state is the row
   whole-walked : (nodes rows : List Word) → Grown nodes rows count s₀
       → Grown (with_states nodes (beginnings row)) rows n s × (get_or (with_states nodes (beginnings row)) state [] ≡ row)
@@ -223,40 +209,21 @@ module _ {row : Word} {count : ℕ} {s₀ s : Store} {n state i : ℕ} {ends' : 
       (λ (a : List ℕ).
       Grown (with_states nodes (beginnings row)) (rows ++ (row ∷ [])) n (store s.parents s.names a s.work))
       (sym end.set_is)
-      (ended-grown walk.0 state row w.low walk.1 (omega (arith, w.low, w.few, w.sizes.ends_size)))
-
-  pub walking-new : before ≡ false → RowOf row count s₀ (store s.parents s.names ends' s.work) (added.New n)
-  walking-new not_before =
-      record {
-        told = λ nodes rows g. walked_told nodes rows g ∙ not_before;
-        tree = record { some = omega (arith, w.low); few = w.few; grown = walked-ended };
-      }
+      (ended-grown walk.0 state row w.low walk.1 (omega (arith, w.low, w.few)))
 
   -- where the row was there, there are as many states as before
-  again_size : before ≡ true → (nodes rows : List Word) → Grown nodes rows count s₀ → n ≡ count
-  again_size was nodes rows g =
-      sym (whole-walked nodes rows g).0.size
-      ∙ ap length (row_met g row ((tells_has_row row rows).fact (walked_told nodes rows g ∙ was)))
-      ∙ g.size
+  again_size : before ≡ true → n ≡ count
+  again_size was =
+      let walk = whole-walked f.nodes f.rows f.grown in
+      sym walk.0.size
+      ∙ ap length (row_met f.grown row ((tells_has_row row f.rows).fact (walked_told f.nodes f.rows f.grown ∙ was)))
+      ∙ f.grown.size
 
-  pub walking-again : 0 < count → count ≤ state_limit → before ≡ true
-      → RowOf row count s₀ (store s.parents s.names ends' s.work) added.Again
-  walking-again some few was =
+  pub walking-ended : RowOf row count s₀ (store s.parents s.names ends' s.work) n (Ok before)
+  walking-ended =
       record {
-        told = λ nodes rows g. walked_told nodes rows g ∙ was;
-        tree =
-            record {
-              some = some;
-              few = few;
-              grown =
-                  λ nodes rows g.
-                  subst
-                  (λ (k : ℕ).
-                  Grown (with_states nodes (beginnings row)) (rows ++ (row ∷ [])) k
-                  (store s.parents s.names ends' s.work))
-                  (again_size was nodes rows g)
-                  (walked-ended nodes rows g);
-            };
+        told = walked_told;
+        tree = (record { some = omega (arith, w.low); few = w.few; grown = walked-ended }, again_size);
       }
 
 -- ---- the rows of a book
@@ -267,25 +234,21 @@ pub record Adding (book : List ℕ) (start items : ℕ) (work₀ : List ℕ) (s 
   pub at_is : at ≡ offset_at book start i
   pub some : 0 < n
   pub few : n ≤ state_limit
-  pub sizes : Sized s.parents s.names s.ends s.work
   pub work_kept : length s.work ≡ length work₀
   pub grown : Grown (tree_of (fields_at book start i)) (fields_at book start i) n s
   pub different : distinct ≡ length (different_rows (fields_at book start i))
 
-pub adding_begins : (book : List ℕ) (start items : ℕ) (parents names ends work : List ℕ) → Sized parents names ends work
-    → Adding book start items work (store (set parents 0 0) (set names 0 64) (set ends 0 0) work) 1 0 start 0
+pub adding_begins : (book : List ℕ) (start items : ℕ) {work : List ℕ} {s : Store} {n : ℕ} → Grown ([] ∷ []) [] n s
+    → length s.work ≡ length work → Adding book start items work s n 0 start 0
 unfolding tree_of with_rows fields_at offset_at different_rows
-adding_begins book start items parents names ends work sizes =
+adding_begins book start items grown kept =
     record {
       within = omega arith;
       at_is = refl;
-      some = omega arith;
-      few = omega arith;
-      sizes =
-          sized_kept (store parents names ends work) (store (set parents 0 0) (set names 0 64) (set ends 0 0) work) sizes
-          (length-set parents 0 0) (length-set names 0 64) (length-set ends 0 0) refl;
-      work_kept = refl;
-      grown = begun-grown parents names ends work sizes;
+      some = omega (arith, grown.size);
+      few = omega (arith, grown.size);
+      work_kept = kept;
+      grown = grown;
       different = refl;
     }
 
@@ -329,51 +292,41 @@ module _ {book : List ℕ} {start items : ℕ} {work₀ : List ℕ} {s : Store} 
 
   adding_next : {s' : Store} {n' distinct' next : ℕ} → RowAdded (body_at book at) n s s' n'
       → distinct' ≡ length (different_rows (fields_at book start i ++ (body_at book at ∷ [])))
-      → Sized s'.parents s'.names s'.ends s'.work
       → length s'.work ≡ length s.work
       → next ≡ next_at book at
       → Adding book start items work₀ s' n' distinct' next (i + 1)
-  adding_next {s'} {n'} {distinct'} {next} is different sizes kept e =
+  adding_next {s'} {n'} {distinct'} {next} is different kept e =
       subst (λ (k : ℕ). Adding book start items work₀ s' n' distinct' next k) (sym (add-one i))
       (record {
         within = more;
         at_is = e ∙ ap (λ (k : ℕ). next_at book k) a.at_is ∙ sym (offset_suc book start i);
         some = is.some;
         few = is.few;
-        sizes = sizes;
         work_kept = kept ∙ a.work_kept;
         grown = rw (tree_next, rows_next) (is.grown (tree_of (fields_at book start i)) (fields_at book start i) a.grown);
         different = rw rows_next different;
       })
 
   -- the answer tells whether the row is among the first i
-  row_told : {s' : Store} {answer : Added} → RowOf (body_at book at) n s s' answer
-      → has_row (body_at book at) (fields_at book start i) ≡ was_there answer
-  row_told is = is.told (tree_of (fields_at book start i)) (fields_at book start i) a.grown
+  module _ {s' : Store} {n' next : ℕ} (kept : length s'.work ≡ length s.work)
+      (e : next ≡ next_at book at) where
+    pub adding_new :
+        {again : Bool} → RowOf (body_at book at) n s s' n' (Ok again) → again ≡ false →
+        Adding book start items work₀ s' n' (distinct + 1) next (i + 1)
+    adding_new is e-false =
+        let told = is.told (tree_of (fields_at book start i)) (fields_at book start i) a.grown ∙ e-false in
+        let out = not_told (tells_has_row (body_at book at) (fields_at book start i)) told in
+        let one_more = different_new (fields_at book start i) (body_at book at) out in
+        adding_next is.tree.0 (omega (arith, one_more, a.different)) kept e
 
-  pub adding_new : {s' : Store} {m n' distinct' next : ℕ} → RowOf (body_at book at) n s s' (added.New m)
-      → n' ≡ m
-      → distinct' ≡ distinct + 1
-      → Sized s'.parents s'.names s'.ends s'.work
-      → length s'.work ≡ length s.work
-      → next ≡ next_at book at
-      → Adding book start items work₀ s' n' distinct' next (i + 1)
-  adding_new is states_are distinct_is sizes kept e =
-      let out = not_told (tells_has_row (body_at book at) (fields_at book start i)) (row_told is) in
-      let one_more = different_new (fields_at book start i) (body_at book at) out in
-      adding_next (rw states_are is.tree) (omega (arith, one_more, distinct_is, a.different)) sizes kept e
-
-  pub adding_again : {s' : Store} {n' distinct' next : ℕ} → RowOf (body_at book at) n s s' added.Again
-      → n' ≡ n
-      → distinct' ≡ distinct
-      → Sized s'.parents s'.names s'.ends s'.work
-      → length s'.work ≡ length s.work
-      → next ≡ next_at book at
-      → Adding book start items work₀ s' n' distinct' next (i + 1)
-  adding_again is states_are distinct_is sizes kept e =
-      let met = (tells_has_row (body_at book at) (fields_at book start i)).fact (row_told is) in
-      let no_more = different_again (fields_at book start i) (body_at book at) met in
-      adding_next (rw states_are is.tree) (distinct_is ∙ a.different ∙ sym no_more) sizes kept e
+    pub adding_again :
+        {again : Bool} → RowOf (body_at book at) n s s' n' (Ok again) → again ≡ true →
+        Adding book start items work₀ s' n' distinct next (i + 1)
+    adding_again is e-true =
+        let told = is.told (tree_of (fields_at book start i)) (fields_at book start i) a.grown ∙ e-true in
+        let met = (tells_has_row (body_at book at) (fields_at book start i)).fact told in
+        let no_more = different_again (fields_at book start i) (body_at book at) met in
+        adding_next is.tree.0 (a.different ∙ sym no_more) kept e
 
   pub adding_full : RowTooMany (body_at book at) n s → tree_too_large ≡ tree_fault (fields_at book start items)
   adding_full full =
@@ -384,33 +337,43 @@ module _ {book : List ℕ} {start items : ℕ} {work₀ : List ℕ} {s : Store} 
 
 pub adding_ends :
     {book : List ℕ} {start items : ℕ} {work₀ : List ℕ} {s : Store} {n distinct at i : ℕ} →
-    Adding book start items work₀ s n distinct at i → items ≤ i → items ≤ book_rows →
+    Adding book start items work₀ s n distinct at i → items ≤ i → items ≤ book_rows → Sized s.parents s.names s.ends s.work →
     TreeBuilt (fields_at book start items) s n distinct
-adding_ends {book} {start} {items} {work₀} {s} {n} {distinct} {at} {i} a done few =
+adding_ends {book} {start} {items} {work₀} {s} {n} {distinct} {at} {i} a done few sizes =
     let all : i ≡ items = omega (arith, a.within) in
     subst (λ (k : ℕ). TreeBuilt (fields_at book start k) s n distinct) all
     (grown_built (fields_at book start i) n distinct s a.grown a.some a.few
     (omega (arith, few, length_fields book start i))
     a.different
-    a.sizes)
+    sizes)
 
-pub tree_answer : (rows : List Word) (s s' : Store) (answer : Tree) → number_of answer ≡ tree_fault rows
-    → (number_of answer ≡ 0 → TreeBuilt rows s' (count_of answer) (different_in answer))
-    → Sized s.parents s.names s.ends s.work
-    → Sized s'.parents s'.names s'.ends s'.work
-    → length s'.work ≡ length s.work
-    → TreeOf rows s s' answer
-tree_answer rows s s' answer number built sizes sizes' kept =
-    record {
-      number = number;
-      built = built;
-      parents_kept = sizes'.parents_size ∙ sym sizes.parents_size;
-      names_kept = sizes'.names_size ∙ sym sizes.names_size;
-      ends_kept = sizes'.ends_size ∙ sym sizes.ends_size;
-      work_kept = kept;
-    }
+module _ (t t' : Growing) {work work' : List ℕ} (kept : length work' ≡ length work) where
+  -- a tree that is built is not too large
+  pub tree_built :
+      {rows : List Word} {distinct : ℕ} → TreeBuilt rows (held t' work') t'.count distinct →
+      TreeOf rows (held t work) (held t' work') t'.count (Ok distinct)
+  tree_built {rows} {distinct} built =
+      record {
+        number = sym (ap (λ (b : Bool). when b tree_too_large) (le-ltb _ (length (tree_of rows)) (omega (arith, built.size, built.few))));
+        built =
+            λ other e.
+            let same-number : distinct ≡ other = cc in
+            subst (λ (d : ℕ). TreeBuilt rows (held t' work') t'.count d) same-number built;
+        parents_kept = t'.sized.0 ∙ sym t.sized.0;
+        names_kept = t'.sized.1 ∙ sym t.sized.1;
+        ends_kept = t'.sized.2 ∙ sym t.sized.2;
+        work_kept = kept;
+      }
 
--- a tree that is built is not too large
-pub built-number : {rows : List Word} {s : Store} {n distinct : ℕ} → TreeBuilt rows s n distinct → 0 ≡ tree_fault rows
-built-number {rows} built =
-    sym (ap (λ (b : Bool). when b tree_too_large) (le-ltb _ (length (tree_of rows)) (omega (arith, built.size, built.few))))
+  pub tree_refused :
+      {rows : List Word} → tree_too_large ≡ tree_fault rows →
+      TreeOf rows (held t work) (held t' work') t'.count (Err refusal.TreeTooLarge)
+  tree_refused number =
+      record {
+        number = number;
+        built = λ distinct e. cc;
+        parents_kept = t'.sized.0 ∙ sym t.sized.0;
+        names_kept = t'.sized.1 ∙ sym t.sized.1;
+        ends_kept = t'.sized.2 ∙ sym t.sized.2;
+        work_kept = kept;
+      }

@@ -1,27 +1,23 @@
--- The prefix tree as it grows in lent arrays. In order: the arrays, the tree that they hold so far, and what each function
--- promises: a child looked up, a state appended, one step, an end counted, one row, with whether it was there, and all rows, with the
--- refusal's number for the answer. Assumes nothing.
-use Rattle.std.specs.Prelude.{◌≡◌, Bool, true, false, not, cond, ℕ, ◌+◌, ◌<◌, ◌≤◌, eqb, length, get_or, take, set}
+-- The prefix tree as it grows in arrays. In order: the arrays, the tree that they hold so far, and what each function promises: a
+-- child looked up, a state appended, one step, an end counted, one row, with whether it was there, and all rows. Assumes nothing.
+use Rattle.std.specs.Prelude.{◌≡◌, Option, None, Some, Result, Ok, Err, Bool, true, false, not, cond}
+use Rattle.std.specs.Prelude.{ℕ, ◌+◌, ◌<◌, ◌≤◌, eqb, length, get_or, take, set}
 use mathlib.Core.List.{List, [], ◌∷◌, ◌++◌, Memᴰ as In}
 use Rattle.base.specs.Lists.{has_row, copies}
-use Rattle.base.specs.Limits.{name_limit, book_rows, state_limit, work_bytes, tree_too_large}
+use Rattle.base.specs.Limits.{name_limit, book_rows, state_limit, work_bytes}
 use Rattle.model.specs.Classes.{Word}
 use Rattle.model.specs.Joinings.{beginnings, with_states, tree_of}
 use Rattle.model.specs.Calls.{tree_fault, different_rows}
 use Rattle.base.specs.Cells.{cell_at, with_cell}
 use Rattle.indexed.specs.Trees.{TreeArrays, EndsArray}
-use Rattle.prefix_tree.specs.declared.Found.{Found}
-use Rattle.prefix_tree.specs.declared.Went.{Went}
-use Rattle.prefix_tree.specs.declared.Added.{Added}
-use Rattle.prefix_tree.specs.declared.Tree.{Tree}
-use Rattle.prefix_tree.specs.declared.Found.TheVariants as found
-use Rattle.prefix_tree.specs.declared.Went.TheVariants as went
-use Rattle.prefix_tree.specs.declared.Added.TheVariants as added
-use Rattle.prefix_tree.specs.declared.Tree.TheVariants as tree
+use Rattle.base.specs.Refusals.{fault_of}
+use Rattle.base.specs.declared.refusals.Refusal.{Refusal}
+use Rattle.base.specs.declared.refusals.Refusal.TheVariants as refusal
+use Rattle.prefix_tree.specs.declared.Growing.{Growing}
 
 -- ---- the arrays
 
--- what the caller lends: for each state its parent, its name, how many rows end there; and the area of cells [state][name]
+-- for each state its parent, its name, how many rows end there; and the area of cells [state][name]
 pub record Store : Type 0 where
   pub parents : List ℕ
   pub names : List ℕ
@@ -31,17 +27,15 @@ pub record Store : Type 0 where
 abbrev pub store : List ℕ → List ℕ → List ℕ → List ℕ → Store
 store parents names ends work = record { parents = parents; names = names; ends = ends; work = work }
 
+-- a tree as it grows, with the area
+abbrev pub held : Growing → List ℕ → Store
+held tree work = store tree.parents tree.names tree.ends work
+
 -- the arrays have room for every state, and the area for every cell
 pub record Sized (parents names ends work : List ℕ) : Type 0 where
   pub parents_size : length parents ≡ state_limit
   pub names_size : length names ≡ state_limit
   pub ends_size : length ends ≡ state_limit
-  pub work_size : work_bytes ≤ length work
-
--- what finding a child needs of them
-pub record Roomy (count : ℕ) (parents names work : List ℕ) : Type 0 where
-  pub parents_size : count ≤ length parents
-  pub names_size : count ≤ length names
   pub work_size : work_bytes ≤ length work
 
 -- ---- the tree so far
@@ -78,9 +72,9 @@ pub record NoChild (count state name : ℕ) (parents names work : List ℕ) : Ty
   pub none :
       (v : ℕ) → v < count → cell_at work state name ≡ v → get_or parents v 0 ≡ state → get_or names v 0 ≡ name → ⊥
 
-abbrev pub ChildOf : ℕ → ℕ → ℕ → List ℕ → List ℕ → List ℕ → Found → Type 0
-ChildOf count state name parents names work (found.At c) = IsChild count state name parents names c
-ChildOf count state name parents names work found.Nothing = NoChild count state name parents names work
+abbrev pub ChildOf : ℕ → ℕ → ℕ → List ℕ → List ℕ → List ℕ → Option ℕ → Type 0
+ChildOf count state name parents names work (Some c) = IsChild count state name parents names c
+ChildOf count state name parents names work None = NoChild count state name parents names work
 
 -- ---- a state appended: the arrays with one state more, that goes on from `state` by `name`
 
@@ -112,9 +106,9 @@ pub record StepTooMany (count state name : ℕ) (s : Store) : Type 0 where
   pub over :
       (nodes rows : List Word) → Grown nodes rows count s → state_limit < length (with_state nodes (longer nodes state name))
 
-abbrev pub StepOf : ℕ → ℕ → ℕ → Store → Store → Went → Type 0
-StepOf count state name s s' (went.To v n) = Stepped count state name s s' v n
-StepOf count state name s s' went.Full = StepTooMany count state name s
+abbrev pub StepOf : ℕ → ℕ → ℕ → Store → Store → ℕ → Result ℕ Refusal → Type 0
+StepOf count state name s s' n (Ok v) = Stepped count state name s s' v n
+StepOf count state name s s' n (Err k) = (k ≡ refusal.TreeTooLarge) × StepTooMany count state name s
 
 -- ---- an end counted: one more row ends in a state, and it is told whether one did before
 
@@ -132,10 +126,9 @@ pub record FewRows (count : ℕ) (s : Store) : Type 0 where
   pub grown : Grown nodes rows count s
 
 -- whether an answer says that the row was there already; what needs a state more was not
-abbrev pub was_there : Added → Bool
-was_there (added.New n) = false
-was_there added.Again = true
-was_there added.Full = false
+abbrev pub was_there : Result Bool Refusal → Bool
+was_there (Ok again) = again
+was_there (Err k) = false
 
 -- the arrays hold the tree with the row's beginnings, and the row is counted
 pub record RowAdded (row : Word) (count : ℕ) (s s' : Store) (n : ℕ) : Type 0 where
@@ -150,16 +143,15 @@ pub record RowTooMany (row : Word) (count : ℕ) (s : Store) : Type 0 where
   pub over :
       (nodes rows : List Word) → Grown nodes rows count s → state_limit < length (with_states nodes (beginnings row))
 
--- the tree with the row: of n states where the row is new, of as many as before where it was there; or it would have too many
-abbrev pub TreeWith : Word → ℕ → Store → Store → Added → Type 0
-TreeWith row count s s' (added.New n) = RowAdded row count s s' n
-TreeWith row count s s' added.Again = RowAdded row count s s' count
-TreeWith row count s s' added.Full = RowTooMany row count s
+-- the tree with the row: of n states, which are as many as before where the row was there; or it would have too many
+abbrev pub TreeWith : Word → ℕ → Store → Store → ℕ → Result Bool Refusal → Type 0
+TreeWith row count s s' n (Ok again) = RowAdded row count s s' n × (again ≡ true → n ≡ count)
+TreeWith row count s s' n (Err k) = (k ≡ refusal.TreeTooLarge) × RowTooMany row count s
 
 -- the whole: the answer tells whether the row is among those before, and what becomes of the tree
-pub record RowOf (row : Word) (count : ℕ) (s s' : Store) (answer : Added) : Type 0 where
+pub record RowOf (row : Word) (count : ℕ) (s s' : Store) (n : ℕ) (answer : Result Bool Refusal) : Type 0 where
   pub told : (nodes rows : List Word) → Grown nodes rows count s → has_row row rows ≡ was_there answer
-  pub tree : TreeWith row count s s' answer
+  pub tree : TreeWith row count s s' n answer
 
 -- every entry is the number of a name
 pub record RowBelow (row : Word) : Type 0 where
@@ -170,21 +162,6 @@ pub record RowBelow (row : Word) : Type 0 where
 abbrev pub RowsBelow : List Word → Type 0
 RowsBelow rows = (row : Word) → In row rows → RowBelow row
 
--- the refusal's number for an answer, 0 for none
-abbrev pub number_of : Tree → ℕ
-number_of (tree.Built n distinct) = 0
-number_of tree.TooLarge = tree_too_large
-
--- how many states an answer says that the tree has, 0 with a refusal
-abbrev pub count_of : Tree → ℕ
-count_of (tree.Built n distinct) = n
-count_of tree.TooLarge = 0
-
--- how many different rows an answer says that there are, 0 with a refusal
-abbrev pub different_in : Tree → ℕ
-different_in (tree.Built n distinct) = distinct
-different_in tree.TooLarge = 0
-
 -- the first n places of the arrays are the prefix tree of the rows, of which so many are different
 pub record TreeBuilt (rows : List Word) (s : Store) (n distinct : ℕ) : Type 0 where
   pub size : n ≡ length (tree_of rows)
@@ -193,11 +170,11 @@ pub record TreeBuilt (rows : List Word) (s : Store) (n distinct : ℕ) : Type 0 
   pub arrays : TreeArrays rows (take n s.parents) (take n s.names)
   pub ends : EndsArray rows (take n s.ends)
 
--- the whole: the answer's number is the refusal of the rows' tree; where that is none, the arrays hold the tree, of as many states and
+-- the whole: the answer's number is the refusal of the rows' tree; where that is none, the arrays hold the tree, of n states and as many
 -- different rows as the answer says; and every array is as long as it was
-pub record TreeOf (rows : List Word) (s s' : Store) (answer : Tree) : Type 0 where
-  pub number : number_of answer ≡ tree_fault rows
-  pub built : number_of answer ≡ 0 → TreeBuilt rows s' (count_of answer) (different_in answer)
+pub record TreeOf (rows : List Word) (s s' : Store) (n : ℕ) (answer : Result ℕ Refusal) : Type 0 where
+  pub number : fault_of answer ≡ tree_fault rows
+  pub built : (distinct : ℕ) → answer ≡ Ok distinct → TreeBuilt rows s' n distinct
   pub parents_kept : length s'.parents ≡ length s.parents
   pub names_kept : length s'.names ≡ length s.names
   pub ends_kept : length s'.ends ≡ length s.ends

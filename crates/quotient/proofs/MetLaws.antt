@@ -5,10 +5,9 @@ use mathlib.Core.Bool.{Bool, true, false, cond}
 use mathlib.Core.List.Memᴰ.{head as here}
 use mathlib.Core.List.{List, [], ◌∷◌, ◌++◌, Memᴰ as In}
 use mathlib.Core.List.Memᴰ
-use Prim.Native.Nat.{ℕ, zero, suc, ◌+◌, ◌-◌, ◌^◌, ◌<◌, ◌≤◌}
+use Prim.Native.Nat.{ℕ, zero, suc, ◌+◌, ◌<◌, ◌≤◌}
 use native.Mathlib.Numerals.{add-one}
 use native.Mathlib.Omega.{arith}
-use lib.Count.{count_trailing_zeros}
 use lib.ListN.{length, get_or, set, take, replicate, length-append, length-set, length-replicate, get_or-replicate, get_or-append}
 use lib.Seq.{take-suc-set, get_or-set_same, get_or-set_other, get_or-take}
 use Rattle.base.specs.Limits.{name_limit, state_limit}
@@ -24,6 +23,7 @@ use Rattle.model.proofs.Meeting.{met_with-grown}
 use Rattle.model.proofs.FirstMet.{met-few}
 use Rattle.model.proofs.MetOrder.{met_from-appends, met_from-ends, met_from-step}
 use Rattle.base.specs.Cells.{cell_at}
+use Rattle.base.specs.Sets.{TakenLowest}
 use Rattle.indexed.specs.ArcCells.{ArcsAt}
 use Rattle.quotient.specs.Gathered.{Gathered}
 use Rattle.quotient.specs.Numbered.{MetAs, MeetingOne, Meeting}
@@ -141,15 +141,12 @@ module _ {n : ℕ} {met numbers : List ℕ} {count target : ℕ} {after : List �
 
 -- there is a next target, and what is left after it
 pub record MeetingMore
-    (n : ℕ) (work : List ℕ) (row set : ℕ) (met numbers : List ℕ) (count : ℕ) (after : List ℕ) (name target : ℕ) : Type 0 where
+    (n : ℕ) (work : List ℕ) (row rest : ℕ) (met numbers : List ℕ) (count : ℕ) (after : List ℕ) (name target : ℕ) : Type 0 where
   pub one : List ℕ
   pub single : MeetingOne n met numbers count target one
-  pub low : name < name_limit
-  pub in_set : 2 ^ name ≤ set
-  pub some : 0 < 2 ^ name
   pub then :
-      (met' numbers' : List ℕ) (reached bits : ℕ) → MetAs n met' numbers' reached one → bits ≡ 2 ^ name →
-      Meeting n work row (set - bits) met' numbers' reached after
+      (met' numbers' : List ℕ) (reached : ℕ) → MetAs n met' numbers' reached one →
+      Meeting n work row rest met' numbers' reached after
 
 met_with-cons : (met : List ℕ) (a : Arc) (arcs : List Arc) →
     met_with met (a ∷ arcs) ≡ met_with (cond (is_in a.to met) met (met ++ (a.to ∷ []))) arcs
@@ -168,14 +165,14 @@ met_with-length met arcs =
 
 module _ {n : ℕ} {work : List ℕ} {row set : ℕ} {met numbers : List ℕ} {count : ℕ} {after : List ℕ} where
   pub meeting_name :
-      (name : ℕ) → Meeting n work row set met numbers count after → 0 < set → name ≡ count_trailing_zeros 64 set → name < name_limit
-  meeting_name name r some e = (arcs_more name r.arcs r.at_row some e).low
+      (name rest : ℕ) → Meeting n work row set met numbers count after → TakenLowest set name rest → name < name_limit
+  meeting_name name rest r taken = (arcs_more name r.arcs r.at_row taken.some taken.lowest).low
 
   pub meeting_more :
-      (name target : ℕ) → Meeting n work row set met numbers count after → 0 < set → name ≡ count_trailing_zeros 64 set →
-      target ≡ cell_at work row name → MeetingMore n work row set met numbers count after name target
-  meeting_more name target r some e f =
-      let next = arcs_more name r.arcs r.at_row some e in
+      (name target rest : ℕ) → Meeting n work row set met numbers count after → TakenLowest set name rest →
+      target ≡ cell_at work row name → MeetingMore n work row rest met numbers count after name target
+  meeting_more name target rest r taken f =
+      let next = arcs_more name r.arcs r.at_row taken.some taken.lowest in
       let a = next.first in
       let seen = r.seen in
       let to_is : target ≡ a.to = f ∙ next.in_cell in
@@ -193,24 +190,21 @@ module _ {n : ℕ} {work : List ℕ} {row set : ℕ} {met numbers : List ℕ} {c
               comes_to = refl;
               fits = omega (arith, r.fits, ap length goes_on, met_with-length one next.rest);
             };
-        low = next.low;
-        in_set = next.in_set;
-        some = next.some;
-        then = λ met' numbers' reached bits m b.
+        then = λ met' numbers' reached m.
             record {
               seen = one;
               arcs = next.rest;
               so_far = m;
-              at_row = subst (λ (k : ℕ). ArcsAt n work row (set - k) next.rest) (sym b) next.after;
+              at_row = subst (λ (k : ℕ). ArcsAt n work row k next.rest) (sym taken.rest_is) next.after;
               comes_to = goes_on;
               fits = r.fits;
             };
       }
 
-  pub meeting_done : Meeting n work row set met numbers count after → set ≤ 0 → MetAs n met numbers count after
+  pub meeting_done : Meeting n work row set met numbers count after → set ≡ 0 → MetAs n met numbers count after
   meeting_done r h =
       subst (λ (l : List ℕ). MetAs n met numbers count l)
-      (sym (r.comes_to ∙ ap (met_with r.seen) (arcs_done r.arcs r.at_row h) ∙ met_with-none r.seen))
+      (sym (r.comes_to ∙ ap (met_with r.seen) (arcs_done r.arcs r.at_row (omega arith)) ∙ met_with-none r.seen))
       r.so_far
 
 -- ---- all groups
@@ -236,10 +230,9 @@ root_new g = refl
 module _ (rows : List Word) (groups work next : List ℕ) (gathered : Gathered rows groups work next) where
   -- nothing met yet, and the root's group to be met
   pub root_meeting :
-      (met numbers₀ numbers : List ℕ) (root : ℕ) → length groups ≤ length met → length groups ≤ length numbers₀ →
-      numbers ≡ replicate (length numbers₀) state_limit → root ≡ get_or groups 0 0 →
-      MeetingOne (length (tree_of rows)) met numbers 0 root (root ∷ [])
-  root_meeting met numbers₀ numbers root met-fits numbers-fits e root_is =
+      (met numbers : List ℕ) (root : ℕ) → state_limit ≤ length met → numbers ≡ replicate state_limit state_limit →
+      root ≡ get_or groups 0 0 → MeetingOne (length (tree_of rows)) met numbers 0 root (root ∷ [])
+  root_meeting met numbers root met-fits e root_is =
       let size : length groups ≡ length (tree_of rows) = gathered.labels.size in
       let some : 0 < length (tree_of rows) = tree_some rows in
       record {
@@ -247,15 +240,15 @@ module _ (rows : List Word) (groups work next : List ℕ) (gathered : Gathered r
         so_far =
             record {
               few = gathered.few;
-              met_size = omega arith;
-              numbers_size = omega (arith, ap length e, length-replicate {A = ℕ} (length numbers₀) state_limit);
+              met_size = omega (arith, gathered.few);
+              numbers_size = omega (arith, gathered.few, ap length e, length-replicate {A = ℕ} state_limit state_limit);
               counted = refl;
               listed = refl;
               low = λ g m. absurd (Memᴰ.not-nil m);
               numbered = λ g m. absurd (Memᴰ.not-nil m);
               unmet = λ g low out.
                   ap (λ (l : List ℕ). get_or l g 0) e
-                  ∙ get_or-replicate (length numbers₀) g state_limit 0 (omega arith);
+                  ∙ get_or-replicate state_limit g state_limit 0 (omega (arith, gathered.few));
             };
         target_low = omega (arith, label_low gathered.labels 0 some);
         comes_to = root_new root;

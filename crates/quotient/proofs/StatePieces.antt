@@ -5,17 +5,17 @@ use mathlib.Core.Bool.{Bool}
 use mathlib.Core.List.Memᴰ.{head as here}
 use mathlib.Core.List.Memᴰ.{tail as there}
 use mathlib.Core.List.{List, [], ◌∷◌, ◌++◌, map, flat_map, Memᴰ as In}
-use Prim.Native.Nat.{ℕ, ◌+◌, ◌*◌, ◌-◌, ◌^◌, ◌<◌, ◌≤◌}
+use Prim.Native.Nat.{ℕ, suc, ◌+◌, ◌*◌, ◌-◌, ◌<◌, ◌≤◌}
 use native.Mathlib.Numerals.{add-one}
 use native.Mathlib.Omega.{arith}
-use lib.Count.{ones, count_trailing_zeros}
+use lib.Count.{ones}
 use lib.Dec.{ltb}
 use lib.ListN.{length, get_or, drop, length-append, length-map, drop_of_length-le}
 use lib.Seq.{drop-cons}
 use Rattle.base.specs.Limits.{name_limit}
 use Rattle.base.specs.Lists.{index_in, total}
 use Rattle.model.specs.Classes.{Word}
-use Rattle.model.specs.Tables.{Arc, arc, State, state, arc_count, field_bytes, arc_bytes, state_body, state_fields}
+use Rattle.model.specs.Tables.{Arc, arc, Ascending, State, state, arc_count, field_bytes, arc_bytes, state_body, state_fields}
 use Rattle.model.specs.Joinings.{tree_of, transitions_of, group_accepts}
 use Rattle.model.specs.Quotients.{arcs_out_of, met_groups, renumbered, state_of, states_of}
 use Rattle.model.proofs.Arcs.{arcs_out_of-in}
@@ -24,6 +24,7 @@ use Rattle.base.proofs.Places.{nth_in}
 use Rattle.model.proofs.StateBodies.{arc-bytes_length}
 use Rattle.model.proofs.Trees.{tree_of-tree}
 use Rattle.base.specs.Cells.{cell_at}
+use Rattle.base.specs.Sets.{TakenLowest}
 use Rattle.writing.specs.Writing.{state_head, arc_part}
 use Rattle.writing.proofs.Pieces.{state-bytes, arc-bytes_cons}
 use Rattle.counts.proofs.GroupSums.{group_accepts_lem}
@@ -52,25 +53,22 @@ no_arc_bytes every = refl
 
 -- there is a next arc, and what is left after it
 pub record ArcsToWriteMore
-    (work : List ℕ) (row set : ℕ) (numbers bytes : List ℕ) (name target : ℕ) : Type 0 where
-  pub low : name < name_limit
-  pub in_set : 2 ^ name ≤ set
-  pub some : 0 < 2 ^ name
+    (work : List ℕ) (row left : ℕ) (numbers bytes : List ℕ) (name target : ℕ) : Type 0 where
   pub target_low : target < length numbers
   pub rest : List ℕ
   pub bytes_are : bytes ≡ arc_part name (get_or numbers target 0) ++ rest
-  pub after : (bits : ℕ) → bits ≡ 2 ^ name → ArcsToWrite work row (set - bits) numbers rest
+  pub after : ArcsToWrite work row left numbers rest
 
 module _ {work : List ℕ} {row set : ℕ} {numbers bytes : List ℕ} where
   pub arcs_write_name :
-      (name : ℕ) → ArcsToWrite work row set numbers bytes → 0 < set → name ≡ count_trailing_zeros 64 set → name < name_limit
-  arcs_write_name name r some e = (arcs_more name r.arcs r.at_row some e).low
+      (name left : ℕ) → ArcsToWrite work row set numbers bytes → TakenLowest set name left → name < name_limit
+  arcs_write_name name left r taken = (arcs_more name r.arcs r.at_row taken.some taken.lowest).low
 
   pub arcs_write_more :
-      (name target : ℕ) → ArcsToWrite work row set numbers bytes → 0 < set → name ≡ count_trailing_zeros 64 set →
-      target ≡ cell_at work row name → ArcsToWriteMore work row set numbers bytes name target
-  arcs_write_more name target r some e f =
-      let next = arcs_more name r.arcs r.at_row some e in
+      (name target left : ℕ) → ArcsToWrite work row set numbers bytes → TakenLowest set name left →
+      target ≡ cell_at work row name → ArcsToWriteMore work row left numbers bytes name target
+  arcs_write_more name target left r taken f =
+      let next = arcs_more name r.arcs r.at_row taken.some taken.lowest in
       let a = next.first in
       let to_is : target ≡ a.to = f ∙ next.in_cell in
       let there' : In a r.arcs = subst (λ (l : List Arc). In a l) (sym next.is) (here refl) in
@@ -78,9 +76,6 @@ module _ {work : List ℕ} {row set : ℕ} {numbers bytes : List ℕ} where
       ap (λ (k : ℕ). get_or numbers k 0) to_is ∙ r.placed a there' in
       let rest = arc_bytes (renumbered r.every next.rest) in
       record {
-        low = next.low;
-        in_set = next.in_set;
-        some = next.some;
         target_low = omega (arith, next.target_low, r.numbers_size);
         rest = rest;
         bytes_are =
@@ -89,22 +84,31 @@ module _ {work : List ℕ} {row set : ℕ} {numbers bytes : List ℕ} where
             ∙ ap arc_bytes (renumbered-cons r.every a next.rest)
             ∙ arc-bytes_cons (arc a.name (index_in a.to r.every)) (renumbered r.every next.rest)
             ∙ ap₂ (λ (n k : ℕ). arc_part n k ++ rest) next.named (sym number_is);
-        after = λ bits b.
+        after =
             record {
               size = r.size;
               every = r.every;
               arcs = next.rest;
-              at_row = subst (λ (k : ℕ). ArcsAt r.size work row (set - k) next.rest) (sym b) next.after;
+              at_row = subst (λ (k : ℕ). ArcsAt r.size work row k next.rest) (sym taken.rest_is) next.after;
               numbers_size = r.numbers_size;
               placed = λ z m. r.placed z (subst (λ (l : List Arc). In z l) (sym next.is) (there m));
               bytes_are = refl;
             };
       }
 
-  pub arcs_write_done : ArcsToWrite work row set numbers bytes → set ≤ 0 → bytes ≡ []
+  pub arcs_write_done : ArcsToWrite work row set numbers bytes → set ≡ 0 → bytes ≡ []
   arcs_write_done r h =
-      r.bytes_are ∙ ap (λ (l : List Arc). arc_bytes (renumbered r.every l)) (arcs_done r.arcs r.at_row h)
+      r.bytes_are ∙ ap (λ (l : List Arc). arc_bytes (renumbered r.every l)) (arcs_done r.arcs r.at_row (omega arith))
       ∙ no_arc_bytes r.every
+
+-- as many arcs as there may be names, and no more
+arcs-few : (next : ℕ) (arcs : List Arc) → Ascending next arcs → ((a : Arc) → In a arcs → a.name < name_limit) →
+    length arcs ≤ name_limit - next
+arcs-few next [] up low = omega arith
+arcs-few next (a ∷ arcs) up low =
+    let first : a.name < name_limit = low a (here refl) in
+    let from : next ≤ a.name = up.0 in
+    omega (arith, arcs-few (suc a.name) arcs up.1 (λ b m. low b (there m)))
 
 -- ---- one state
 
@@ -113,7 +117,7 @@ pub record StateParts (work : List ℕ) (row set : ℕ) (accepts : Bool) (number
   pub rest : List ℕ
   pub bytes_are : bytes ≡ state_head accepts (length rest) ++ rest
   pub sized : length bytes ≡ 4 + length rest
-  pub counted : length rest ≡ 3 * ones set
+  pub few : length rest ≤ 3 * name_limit
   pub arcs_left : ArcsToWrite work row set numbers rest
 
 pub state-parts :
@@ -127,12 +131,12 @@ state-parts {work} {row} {set} {accepts} {numbers} {bytes} r =
       rest = rest;
       bytes_are = whole;
       sized = ap length whole ∙ length-append (state_head accepts (length rest)) rest;
-      counted =
+      few =
           omega (
             arith,
             arc-bytes_length arcs,
             renumbered-length r.every r.arcs,
-            arcs_counted r.arcs r.at_row,
+            arcs-few r.at_row.from r.arcs r.at_row.ascending r.at_row.names_low,
           );
       arcs_left =
           record {

@@ -8,27 +8,24 @@ ghost use Rattle.indexed.specs.Partitions.{Labelled, Joined};
 ghost use Rattle.counts.specs.TreeCounts.{EndsSummed};
 ghost use Rattle.quotient.specs.Gathered.{Gathered};
 
-use crate::filling::fill;
-use crate::sets;
 use base::cells::set_cell;
-use base::numbers::{wide8, wide16};
+use base::sets::with_name;
+use indexed::Tree;
 
 // Each tree arc becomes an arc between groups: its name in the set of the group that it leaves, its target in that group's cell.
-pub fn gather(parents: &[u16], names: &[u8], groups: &[u16], work: &mut [u8], next: &mut [u64])
-    requires joined { (rows : List Word) × Joined rows parents.now names.now groups.now }
+pub fn gather(tree: Tree, groups: &[u16], work: &mut [u8], next: &mut [u64])
+    requires joined { (rows : List Word) × Joined rows tree.parents.now tree.names.now groups.now }
     requires work_bytes_in_bounds { work_bytes ≤ length work.old }
     requires groups_in_bounds { length groups.now ≤ length next.old }
-    ensures { (rows : List Word) → Joined rows parents.now names.now groups.now →
+    ensures { (rows : List Word) → Joined rows tree.entry.parents.now tree.entry.names.now groups.now →
         Gathered rows groups.now work.new next.new }
 {
-    sets::clear(next);
-    let mut v = 1;
-    while v < groups.len() {
-        let from = wide16(groups[wide16(parents[v])]);
-        let name = names[v];
-        set_cell(work, from, wide8(name), wide16(groups[v]));
-        sets::put(next, from, name);
-        v += 1;
+    next.fill(0);
+    for v in 1..groups.len() {
+        let from = groups[tree.parents[v] as usize] as usize;
+        let name = tree.names[v];
+        set_cell(work, from, name as usize, groups[v] as usize);
+        next[from] = with_name(next[from], name);
     }
 }
 
@@ -39,11 +36,8 @@ pub fn sum_ends(ends: &[u16], groups: &[u16], sums: &mut [u16])
     ensures { (rows : List Word) → EndsArray rows ends.now →
         Labelled (length (tree_of rows)) groups.now → EndsSummed rows groups.now sums.new }
 {
-    fill(sums, 0);
-    let mut v = 0;
-    while v < groups.len() {
-        let g = wide16(groups[v]);
-        sums[g] += ends[v];
-        v += 1;
+    sums.fill(0);
+    for v in 0..groups.len() {
+        sums[groups[v] as usize] += ends[v];
     }
 }

@@ -1,11 +1,17 @@
 // What the public entries give back, in Rattle and C alike.
+// Stays: (a) the C interface: a refusal and the end of a walk are numbers in these structs, and 0 stands for none.
+#![tactic(auto)]
+
 ghost use Rattle.std.specs.Prelude.{◌≡◌};
-ghost use Rattle.results.specs.Says.{not_counted, uncounted, not_rewritten, not_walked, not_written, plan_rows_of};
+ghost use Rattle.base.specs.Refusals.{number_of};
+ghost use Rattle.results.specs.Says.{not_built, not_counted, uncounted, not_rewritten, not_walked, not_written, plan_rows_of};
+
+use base::refusals::Refusal;
 
 // What a build gives back: its refusal or 0, then the table's length in bytes, its states, the joins, tree states less table states,
 // and how many different rows the book has.
 #[repr(C)]
-#[derive(Drop)]
+#[derive(Clone, Copy, Default)]
 pub struct Built {
     pub refusal: u8,
     pub length: u32,
@@ -16,7 +22,7 @@ pub struct Built {
 
 // What a build with counts gives back: the same, and the length of the counts in bytes.
 #[repr(C)]
-#[derive(Drop)]
+#[derive(Clone, Copy, Default)]
 pub struct Counted {
     pub refusal: u8,
     pub length: u32,
@@ -28,7 +34,7 @@ pub struct Counted {
 
 // What a rewriting gives back: its refusal or 0, then the table's length in bytes and its states.
 #[repr(C)]
-#[derive(Drop)]
+#[derive(Clone, Copy, Default)]
 pub struct Rewritten {
     pub refusal: u8,
     pub length: u32,
@@ -39,7 +45,7 @@ pub struct Rewritten {
 // next; how long the row's longest beginning is that begins an admitted row; the names that may come next, those with which that beginning
 // still does, bit n for name n.
 #[repr(C)]
-#[derive(Drop)]
+#[derive(Clone, Copy, Default)]
 pub struct Walked {
     pub refusal: u8,
     pub outcome: u8,
@@ -50,7 +56,7 @@ pub struct Walked {
 
 // What a call that writes bytes gives back: a refusal's number or 0, and how many bytes were written.
 #[repr(C)]
-#[derive(Drop)]
+#[derive(Clone, Copy, Default)]
 pub struct Written {
     pub refusal: u8,
     pub length: u32,
@@ -59,7 +65,7 @@ pub struct Written {
 // What a plan's rows give back: a refusal's number or 0, how many bytes were written, how many rows these are, and the offset in the plan
 // where 14, 15 or 16 is found.
 #[repr(C)]
-#[derive(Drop)]
+#[derive(Clone, Copy, Default)]
 pub struct PlanRows {
     pub refusal: u8,
     pub length: u32,
@@ -67,64 +73,78 @@ pub struct PlanRows {
     pub at: u32,
 }
 
-// A refused build: no table, no states, no joins, no rows, no counts.
-pub fn not_counted(refusal: u8) -> Counted
-    ensures { result ≡ not_counted refusal }
-{
-    Counted {
-        refusal: refusal,
-        length: 0,
-        states: 0,
-        joins: 0,
-        distinct: 0,
-        counts_length: 0,
+// A refused build: no table, no states, no joins, no rows.
+impl From<Refusal> for Built {
+    ghost from_gives = { λ refusal built. built ≡ not_built (number_of refusal) };
+
+    fn from(refusal: Refusal) -> Built {
+        Built {
+            refusal: refusal.into(),
+            ..Built::default()
+        }
+    }
+}
+
+// A refused build with counts: the same, and no counts.
+impl From<Refusal> for Counted {
+    ghost from_gives = { λ refusal counted. counted ≡ not_counted (number_of refusal) };
+
+    fn from(refusal: Refusal) -> Counted {
+        Counted {
+            refusal: refusal.into(),
+            ..Counted::default()
+        }
     }
 }
 
 // What a build gives back, from what one with counts does.
-pub fn as_built(counted: Counted) -> Built
-    ensures { result ≡ uncounted counted }
-{
-    Built {
-        refusal: counted.refusal,
-        length: counted.length,
-        states: counted.states,
-        joins: counted.joins,
-        distinct: counted.distinct,
+impl From<Counted> for Built {
+    ghost from_gives = { λ counted built. built ≡ uncounted counted };
+
+    fn from(counted: Counted) -> Built {
+        Built {
+            refusal: counted.refusal,
+            length: counted.length,
+            states: counted.states,
+            joins: counted.joins,
+            distinct: counted.distinct,
+        }
     }
 }
 
 // A refused rewriting: no table, no states.
-pub fn not_rewritten(refusal: u8) -> Rewritten
-    ensures { result ≡ not_rewritten refusal }
-{
-    Rewritten {
-        refusal: refusal,
-        length: 0,
-        states: 0,
+impl From<Refusal> for Rewritten {
+    ghost from_gives = { λ refusal rewritten. rewritten ≡ not_rewritten (number_of refusal) };
+
+    fn from(refusal: Refusal) -> Rewritten {
+        Rewritten {
+            refusal: refusal.into(),
+            ..Rewritten::default()
+        }
     }
 }
 
 // A refused walk: no outcome, no names.
-pub fn not_walked(refusal: u8) -> Walked
-    ensures { result ≡ not_walked refusal }
-{
-    Walked {
-        refusal: refusal,
-        outcome: 0,
-        next_count: 0,
-        walked: 0,
-        next_names: 0,
+impl From<Refusal> for Walked {
+    ghost from_gives = { λ refusal walked. walked ≡ not_walked (number_of refusal) };
+
+    fn from(refusal: Refusal) -> Walked {
+        Walked {
+            refusal: refusal.into(),
+            ..Walked::default()
+        }
     }
 }
 
 // A refused call that writes bytes: none.
-pub fn not_written(refusal: u8) -> Written
-    ensures { result ≡ not_written refusal }
-{
-    Written {
-        refusal: refusal,
-        length: 0,
+impl From<Refusal> for Written {
+    ghost from_gives = { λ refusal written. written ≡ not_written (number_of refusal) };
+
+    fn from(refusal: Refusal) -> Written {
+        Written {
+            refusal: refusal.into(),
+            ..Written::default()
+        }
     }
 }
 
@@ -133,9 +153,8 @@ pub fn not_read(refusal: u8, at: u32) -> PlanRows
     ensures { result ≡ plan_rows_of refusal 0 0 at }
 {
     PlanRows {
-        refusal: refusal,
-        length: 0,
-        rows: 0,
-        at: at,
+        refusal,
+        at,
+        ..PlanRows::default()
     }
 }

@@ -7,21 +7,16 @@ use Prim.Native.Nat.{ℕ, zero, suc, ◌+◌, ◌-◌, ◌*◌, ◌%◌, ◌^◌
 use native.Mathlib.Nat.{mod-eq_of_lt, mod-lt}
 use native.Mathlib.Omega.{arith}
 use lib.Bits.{bit_and, bit_or, or_shifted, and_mask}
-use lib.ListN.{length, get_or, set, length-set}
+use lib.ListN.{get_or}
 use lib.Pow.{pow_pos, pow-add, pow_mono, pow-lt, shl_exact, mod-pow-add, high, low}
 use Rattle.base.specs.Limits.{name_limit, setting_limit}
 use Rattle.indexed.specs.Trees.{Arrays, SameSuffix}
 use Rattle.indexed.proofs.Suffixes.{parent_below}
-use Rattle.suffixes.specs.Codes.{code, least, Coded}
-use Rattle.base.proofs.Fills.{fill_more}
+use Rattle.suffixes.specs.Codes.{code, least}
 
--- the first v of n states have their codes
-pub record CodedTo (n i : ℕ) (parents names : List ℕ) (v : ℕ) (values : List ℕ) : Type 0 where
-  pub arrays : Arrays n parents names
-  pub some : 0 < v
-  pub low : v ≤ n
-  pub size : length values ≡ n
-  pub done : (w : ℕ) → w < v → get_or values w 0 ≡ code parents names i w
+-- a value is the code of a state
+abbrev pub IsCode : ℕ → List ℕ → List ℕ → ℕ → ℕ → Type 0
+IsCode i parents names v value = value ≡ code parents names i v
 
 -- the bits of one name more
 more-bits : (i : ℕ) → 2 ^ (7 * suc i) ≡ 2 ^ (7 * i) * 128
@@ -43,12 +38,6 @@ shifted i h =
     let few : 7 * i < 64 = omega arith in
     let fits : 2 ^ (7 * i) < 2 ^ 64 = pow-lt few in
     ap (λ (x : ℕ). x % 2 ^ 64) single ∙ mod-eq_of_lt fits
-
-pub mask_some : (i : ℕ) → i ≤ setting_limit → 1 ≤ (1 * 2 ^ (7 * i)) % 2 ^ 64
-mask_some i h = rw (shifted i h) (pow_pos (7 * i))
-
-pub mask_is : (i : ℕ) → i ≤ setting_limit → (1 * 2 ^ (7 * i)) % 2 ^ 64 - 1 ≡ 2 ^ (7 * i) - 1
-mask_is i h = ap (λ (x : ℕ). x - 1) (shifted i h)
 
 pub least-none : (i : ℕ) → i ≡ 0 → 0 ≡ least i
 unfolding least
@@ -78,7 +67,7 @@ module _ (n : ℕ) (parents names : List ℕ) (arrays : Arrays n parents names) 
   pub name-small : (v : ℕ) → suc v < n → get_or names (suc v) 0 + 1 < 128
   name-small v h = omega (arith, arrays.name_below (suc v) (omega arith) h)
 
-  code-root : (i : ℕ) → code parents names i 0 ≡ 0
+  pub code-root : (i : ℕ) → code parents names i 0 ≡ 0
   unfolding code
   code-root zero = refl
   code-root (suc i) = refl
@@ -205,67 +194,24 @@ module _ (n : ℕ) (parents names : List ℕ) (arrays : Arrays n parents names) 
       (parent_below n parents names arrays (suc w) hw) (omega (arith, enough)) above in
       arrays.one_child (suc v) (suc w) (omega arith) (omega arith) hv hw parent last
 
--- the root
-pub coded_root :
-    (n i : ℕ) (parents names values : List ℕ) → Arrays n parents names → length values ≡ n →
-    CodedTo n i parents names 1 (set values 0 0)
-coded_root n i parents names values arrays size =
-    record {
-      arrays = arrays;
-      some = omega arith;
-      low = omega (arith, arrays.some_state);
-      size = length-set values 0 0 ∙ size;
-      done = λ w h. fill_more (λ (u x : ℕ). x ≡ code parents names i u) values 0 0 (omega (arith, arrays.some_state))
-          (λ u l. absurd (omega arith)) (sym (code-root n parents names arrays i)) w (omega arith);
-    }
+  -- one state more, where those before it are coded: the code of the one before it leaves room for one name, and gives its own
+  module _ (i v : ℕ) (values : List ℕ) (some : 0 < v) (inside : v < n)
+      (done : (w : ℕ) → w < v → IsCode i parents names w (get_or values w 0)) where
+    before : IsCode i parents names (get_or parents v 0) (get_or values (get_or parents v 0) 0)
+    before = done (get_or parents v 0) (arrays.parent_before v some inside)
 
--- one state more
-pub coded_more :
-    (n i : ℕ) (parents names : List ℕ) (v : ℕ) (values : List ℕ) (parent x : ℕ) → v < n → parent ≡ get_or parents v 0 →
-    x ≡ (get_or values parent 0 * 128 + (get_or names v 0 + 1)) % 2 ^ (7 * i) → CodedTo n i parents names v values →
-    CodedTo n i parents names (v + 1) (set values v x)
-coded_more n i parents names v values parent x inside is value so_far =
-    record {
-      arrays = so_far.arrays;
-      some = omega arith;
-      low = omega arith;
-      size = length-set values v x ∙ so_far.size;
-      done = fill_more (λ (u y : ℕ). y ≡ code parents names i u) values v x (omega (arith, so_far.size)) so_far.done
-          (here v so_far.some inside is value so_far.done);
-    }
-  where
-    here :
-        (v : ℕ) → 0 < v → v < n → parent ≡ get_or parents v 0 →
-        x ≡ (get_or values parent 0 * 128 + (get_or names v 0 + 1)) % 2 ^ (7 * i) →
-        ((w : ℕ) → w < v → get_or values w 0 ≡ code parents names i w) → x ≡ code parents names i v
-    here zero some inside is value done = absurd (omega arith)
-    here (suc v) some inside is value done =
-        let before : parent < suc v = omega (arith, so_far.arrays.parent_before (suc v) some inside) in
-        value
-        ∙ ap (λ (y : ℕ). (y * 128 + (get_or names (suc v) 0 + 1)) % 2 ^ (7 * i))
-        (done parent before ∙ ap (code parents names i) is)
-        ∙ code-more n parents names so_far.arrays i v inside
+    pub turn_room : i ≤ setting_limit → get_or values (get_or parents v 0) 0 < 2 ^ 56
+    turn_room few =
+        code_fits i (get_or parents v 0) (get_or values (get_or parents v 0) 0) few
+        (omega (arith, arrays.parent_before v some inside)) before
 
--- what one turn may rely on: the state before v is coded, its code leaves room for one name, and the name of v is a name
-pub record TurnReady (n : ℕ) (values names : List ℕ) (v parent : ℕ) : Type 0 where
-  pub inside : parent < n
-  pub room : get_or values parent 0 < 2 ^ 56
-  pub name : get_or names v 0 < name_limit
-
-pub turn_ready :
-    (n i : ℕ) (parents names : List ℕ) (v : ℕ) (values : List ℕ) (parent : ℕ) → i ≤ setting_limit → v < n →
-    parent ≡ get_or parents v 0 → CodedTo n i parents names v values → TurnReady n values names v parent
-turn_ready n i parents names v values parent few inside is so_far =
-    let before : parent < v = omega (arith, so_far.arrays.parent_before v so_far.some inside) in
-    record {
-      inside = omega arith;
-      room = code_fits n parents names so_far.arrays i parent (get_or values parent 0) few (omega arith)
-          (so_far.done parent before);
-      name = so_far.arrays.name_below v so_far.some inside;
-    }
-
-pub coded_all :
-    (n i : ℕ) (parents names : List ℕ) (v : ℕ) (values : List ℕ) → n ≤ v → CodedTo n i parents names v values →
-    Coded n i parents names values
-coded_all n i parents names v values all so_far =
-    record { size = so_far.size; each = λ w h. so_far.done w (omega arith) }
+    pub turn_cut :
+        (x : ℕ) → x ≡ (get_or values (get_or parents v 0) 0 * 128 + (get_or names v 0 + 1)) % 2 ^ (7 * i) →
+        IsCode i parents names v x
+    turn_cut x is = is ∙ ap (λ (y : ℕ). (y * 128 + (get_or names v 0 + 1)) % 2 ^ (7 * i)) before ∙ more v some inside
+      where
+        more :
+            (w : ℕ) → 0 < w → w < n →
+            (code parents names i (get_or parents w 0) * 128 + (get_or names w 0 + 1)) % 2 ^ (7 * i) ≡ code parents names i w
+        more zero some inside = absurd (omega arith)
+        more (suc w) some inside = code-more i w inside

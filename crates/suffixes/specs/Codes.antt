@@ -1,8 +1,6 @@
 -- The last i names of a state as one number: seven bits a name, the last name lowest, each name as its number plus one, so that
--- no name is 0. In order: the number, the least number of a state with i names or more, the numbers of all states, and the name
--- that a number begins with. Assumes nothing.
+-- no name is 0. In order: the number, the least number of a state with i names or more, and the numbers of all states. Assumes nothing.
 use Rattle.std.specs.Prelude.{◌≡◌, List, ℕ, zero, suc, ◌+◌, ◌*◌, ◌^◌, ◌<◌, length, get_or}
-use Rattle.base.specs.Limits.{name_limit}
 
 -- the last i names, all names where there are fewer
 unfoldable pub code : List ℕ → List ℕ → ℕ → ℕ → ℕ
@@ -19,8 +17,3 @@ least (suc i) = 2 ^ (7 * i)
 pub record Coded (n i : ℕ) (parents names values : List ℕ) : Type 0 where
   pub size : length values ≡ n
   pub each : (v : ℕ) → v < n → get_or values v 0 ≡ code parents names i v
-
--- the name of a code's first seven bits, none where they are 0
-pub record TopName (top name : ℕ) : Type 0 where
-  pub none : top ≡ 0 → name ≡ name_limit
-  pub some : (top ≡ 0 → ⊥) → name + 1 ≡ top

@@ -8,10 +8,13 @@ use lib.Dec.{eqb}
 use lib.ListN.{length, take, drop, length-take, take-append-drop}
 use lib.Seq.{take-append_seam}
 use Rattle.base.specs.Limits.{when, bad_row, output_too_short}
+use Rattle.base.specs.Refusals.{number_of}
+use Rattle.base.specs.declared.refusals.Refusal.{Refusal}
+use Rattle.std.specs.Prelude.{Err}
 use Rattle.model.specs.Fields.{File, row_ok}
 use Rattle.model.specs.Tables.{State, plain_walk, walk}
 use Rattle.model.specs.Claims.{AllBytes}
-use Rattle.model.specs.Calls.{Gives, Refuses, too_short, unless, table_of, table_states, table_fault, walk_fault}
+use Rattle.model.specs.Calls.{Gives, too_short, unless, table_of, table_states, table_fault, walk_fault}
 use Rattle.model.proofs.CallLaws.{refuses_first, refuses_then, refuses_none, refuses_when}
 use Rattle.model.proofs.CallLaws.{call-refused, call_answered, answer_by, fault_roomy, call-one_short, call-one_wrote}
 use Rattle.model.proofs.Reading.{rewrites_same}
@@ -20,17 +23,18 @@ use Rattle.fields.specs.declared.Place.{Place}
 use Rattle.fields.proofs.Parts.{length-names}
 use Rattle.writing.specs.Writing.{Written}
 use Rattle.writing.proofs.WritingLaws.{written-from_zero}
-use Rattle.tables.specs.Accepting.{TableRead}
+use Rattle.tables.specs.Accepting.{TableRead, OpenedAs}
+use Rattle.tables.proofs.TableLaws.{opened_refused}
 use Rattle.results.specs.declared.Walked.{Walked}
 use Rattle.results.specs.Says.{rewritten_as, not_rewritten, rewriting, not_walked, walked_over, walking}
 
 -- ---- a table rewritten
 
 pub rewrite_refused :
-    (table work out : List ℕ) (k : ℕ) → Refuses (table_fault table work) k →
-    Gives (rewriting table work) (out ∷ []) (out ∷ []) (not_rewritten k)
+    {after : List ℕ} (table work out : List ℕ) (k : Refusal) → OpenedAs table work after (Err k) →
+    Gives (rewriting table work) (out ∷ []) (out ∷ []) (not_rewritten (number_of k))
 unfolding rewriting
-rewrite_refused table work out k r = call-refused (rewriting table work) (out ∷ []) r
+rewrite_refused table work out k r = call-refused (rewriting table work) (out ∷ []) (opened_refused r)
 
 module _ (table work out : List ℕ) (bytes : AllBytes table) (none : table_fault table work ≡ 0) where
   pub rewrite_short :
@@ -85,9 +89,10 @@ beginning_short states row =
 
 module _ (table row work : List ℕ) where
   pub walk_refused :
-      (k : ℕ) → Refuses (table_fault table work) k → Gives (walking table row work) [] [] (not_walked k)
+      {after : List ℕ} (k : Refusal) → OpenedAs table work after (Err k) →
+      Gives (walking table row work) [] [] (not_walked (number_of k))
   unfolding walking walk_fault
-  walk_refused k r = call-refused (walking table row work) [] (refuses_first _ r)
+  walk_refused k r = call-refused (walking table row work) [] (refuses_first _ (opened_refused r))
 
   module _ (names : ℕ) (none : table_fault table work ≡ 0) (count : length (table_of table).names ≡ names) where
     pub walk-row-refused : row_ok names row ≡ false → Gives (walking table row work) [] [] (not_walked bad_row)

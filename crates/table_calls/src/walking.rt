@@ -1,30 +1,50 @@
 // A row walked over a table: the table is judged wholly, then the row. The walk heeds the states with no way to an end.
 ghost use Rattle.std.specs.Prelude.{◌≡◌, cond, [], ◌≤◌, length};
 ghost use Rattle.base.specs.Limits.{row_limit, admitted, on_the_way, stops};
+ghost use Rattle.base.specs.Refusals.{told};
 ghost use Rattle.model.specs.Tables.{plain_walk};
 ghost use Rattle.model.specs.Calls.{Gives, table_states};
 ghost use Rattle.endings.specs.Live.{trimmed, nowhere, Marked};
 ghost use Rattle.tables.specs.Accepting.{Ready};
 ghost use Rattle.levels.specs.Sorted.{FewArcs};
-ghost use Rattle.results.specs.Says.{walked_told, walked_over, walking};
+ghost use Rattle.results.specs.Says.{not_walked, walked_told, walked_over, walking};
+ghost use Rattle.table_calls.specs.Outcomes.{number_of};
 
-use base::limits::{ADMITTED, BAD_ROW, ON_THE_WAY, STATE_LIMIT, STOPS};
+use base::limits::STATE_LIMIT;
+use base::refusals::Refusal;
 use judging::rows::row_ok;
 use levels::mark_live;
-use results::{Walked, not_walked};
-use tables::{Accepted, accepts, field_at, next_names, open_table, walk_all};
+use results::Walked;
+use tables::open_table;
+use tables::opened::Opened;
+use tables::walks::{Walk, walk_all};
+
+// How a walk ends: the row is admitted, or begins an admitted one, or the walk stops before its end.
+#[derive(Clone, Copy, Debug, PartialEq, Eq)]
+enum Outcome {
+    Admitted = 1,
+    OnTheWay,
+    Stops,
+}
+
+// Its number, which is told.
+impl From<Outcome> for u8 {
+    ghost from_gives = { λ outcome number. number ≡ number_of outcome };
+
+    fn from(outcome: Outcome) -> u8 {
+        outcome as u8
+    }
+}
 
 // How a walk ends that stopped before the row's end or not, in a state that accepts or not.
-fn outcome_of(stopped: bool, accepting: bool) -> u8
-    ensures { result ≡ cond stopped stops (cond accepting admitted on_the_way) }
+fn outcome_of(stopped: bool, accepting: bool) -> Outcome
+    ensures { number_of result ≡ cond stopped stops (cond accepting admitted on_the_way) }
 {
-    if stopped {
-        return STOPS;
+    match (stopped, accepting) {
+        (true, _) => Outcome::Stops,
+        (false, true) => Outcome::Admitted,
+        (false, false) => Outcome::OnTheWay,
     }
-    if accepting {
-        return ADMITTED;
-    }
-    ON_THE_WAY
 }
 
 // A walk over a table that admits no row: it stops, with nothing walked and no names.
@@ -32,34 +52,26 @@ fn walked_nowhere() -> Walked
     ensures { result ≡ walked_told nowhere }
 {
     Walked {
-        refusal: 0,
-        outcome: STOPS,
-        next_count: 0,
-        walked: 0,
-        next_names: 0,
+        outcome: u8::from(Outcome::Stops),
+        ..Walked::default()
     }
 }
 
-// The walk of a row over an accepted table whose states with a way to an end are marked. The states' fields stand where the working area
-// says.
-fn walk_marked(table: &[u8], row: &[u8], work: &[u8], marks: &[u16; STATE_LIMIT]) -> Walked
-    requires ready { Ready table.now work.now }
-    requires marked { Marked (table_states table.now) marks.now }
+// The walk of a row over an accepted table whose states with a way to an end are marked.
+fn walk_marked(table: Opened, row: &[u8], marks: &[u16; STATE_LIMIT]) -> Walked
+    requires marked { Marked (table_states table.s.now) marks.now }
     requires row_len_bound { length row.now ≤ row_limit }
-    ensures { result ≡ walked_told (plain_walk (trimmed (table_states table.now)) row.now) }
+    ensures { result ≡ walked_told (plain_walk (trimmed (table_states table.entry.s.now)) row.now) }
 {
-    let walk = walk_all(table, row, work, marks);
-    let taken = walk.taken;
-    let state = walk.state;
-    let names = next_names(table, work, marks, state);
-    let at = field_at(work, state);
-    let outcome = outcome_of(taken < row.len(), accepts(table, at));
+    let Walk { state, taken } = walk_all(table, row, marks);
+    let next_names = table.next_names(marks, state);
+    let outcome = outcome_of(taken < row.len(), table.accepts(state));
     Walked {
         refusal: 0,
-        outcome: outcome,
-        next_count: u64::count_ones(names) as u8,
+        outcome: u8::from(outcome),
+        next_count: next_names.count_ones() as u8,
         walked: taken as u32,
-        next_names: names,
+        next_names,
     }
 }
 
@@ -72,26 +84,25 @@ fn walk_over(table: &[u8], row: &[u8], work: &mut [u8], count: usize) -> Walked
     requires row_len_bound { length row.now ≤ row_limit }
     ensures { result ≡ walked_over (table_states table.now) row.now }
 {
-    let mut marks = [0u16; STATE_LIMIT];
-    mark_live(table, count, work, &mut marks);
+    let marks = mark_live(table, count, work);
     if marks[0] == 0 {
         return walked_nowhere();
     }
-    walk_marked(table, row, work, &marks)
+    let opened = Opened {
+        s: table,
+        work,
+        count,
+    };
+    walk_marked(opened, row, &marks)
 }
 
 // Refusals 1, the table's, 9; otherwise the walk. The working area is not cleared yet.
-pub fn walk(table: &[u8], row: &[u8], work: &mut [u8]) -> Walked
-    ensures { Gives (walking table.now row.now work.old) [] [] result }
+pub fn walk(table: &[u8], row: &[u8], work: &mut [u8]) -> Result<Walked, Refusal>
+    ensures { Gives (walking table.now row.now work.old) [] [] (told not_walked result) }
 {
-    let opened = open_table(table, work);
-    match opened {
-        Accepted::Table(p) => {
-            if !row_ok(p.names, row) {
-                return not_walked(BAD_ROW);
-            }
-            walk_over(table, row, work, p.items)
-        }
-        Accepted::Refused(k) => not_walked(k),
+    let place = open_table(table, work)?;
+    if !row_ok(place.names, row) {
+        return Err(Refusal::BadRow);
     }
+    Ok(walk_over(table, row, work, place.items))
 }

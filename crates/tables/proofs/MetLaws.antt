@@ -1,53 +1,39 @@
 -- First-met numbering: one arc, one state and the end, as the code takes them; then that the numbers met only grow, and that every
 -- arc of a table so numbered leads to one of its states. Assumes nothing.
-use mathlib.Core.Path.{◌≡◌, refl, sym, ap, ◌∙◌}
-use mathlib.Core.Bool.{Bool, true, false, cond, false≢true}
+use mathlib.Core.Path.{◌≡◌, refl, ap}
+use mathlib.Core.Bool.{Bool, true, false, false≢true}
 use mathlib.Core.List.{List, [], ◌∷◌}
 use Prim.Native.Nat.{ℕ, zero, suc, ◌+◌, ◌≤◌, ◌<◌}
 use native.Mathlib.Numerals.{add-one}
 use native.Mathlib.Omega.{arith}
-use borrow.Author.Tests.{lt-ltb, le-ltb, ne_eqb, ltb-true, eqb-true, eqb-false}
+use borrow.Author.Tests.{lt-ltb, le-ltb, eq-eqb, ne_eqb, ltb-true, eqb-true}
 use lib.Dec.{eqb, ltb}
 use lib.ListN.{length, get_or, drop, drop_of_length-le}
 use lib.Seq.{drop-cons}
-use Rattle.model.specs.Tables.{Arc, arc, State, empty_state, met_by_arcs, met_by_states, is_first_met, target_in}
-use Rattle.tables.specs.Arcs.{met_with, target_at}
-use Rattle.tables.proofs.ArcLaws.{arcs_from, arcs_turn, arcs_end}
+use Rattle.model.specs.Tables.{Arc, State, empty_state, met_by_arcs, met_by_states, is_first_met, target_in}
 
-pub met-past : (m : ℕ) (a : Arc) (arcs : List Arc) → m < a.to → met_by_arcs m (a ∷ arcs) ≡ 0
+-- ---- over the arcs still to be read
+
+module _ {all more : List Arc} {a : Arc} (m : ℕ) (turn : all ≡ a ∷ more) where
+  pub met_past : m < a.to → met_by_arcs m all ≡ 0
+  unfolding met_by_arcs
+  met_past h =
+      let low : m ≤ a.to = omega arith in
+      rw (turn, le-ltb a.to m low, met_by_arcs) (rw (ne_eqb a.to m (λ (e : a.to ≡ m). omega arith)))
+
+  pub met_same : a.to < m → met_by_arcs m all ≡ met_by_arcs m more
+  unfolding met_by_arcs
+  met_same h = rw (turn, lt-ltb a.to m h, met_by_arcs)
+
+  pub met_next : a.to ≡ m → met_by_arcs m all ≡ met_by_arcs (m + 1) more
+  unfolding met_by_arcs
+  met_next e =
+      let low : m ≤ a.to = omega arith in
+      rw (turn, le-ltb a.to m low, met_by_arcs, eq-eqb a.to m e, add-one)
+
+pub met_end : {all : List Arc} (m : ℕ) → all ≡ [] → met_by_arcs m all ≡ m
 unfolding met_by_arcs
-met-past m a arcs h =
-    let low : m ≤ a.to = omega arith in
-    rw (le-ltb a.to m low, met_by_arcs) (rw (ne_eqb a.to m (λ (e : a.to ≡ m). omega arith)))
-
-pub met-goes : (m : ℕ) (a : Arc) (arcs : List Arc) → a.to ≤ m → met_by_arcs m (a ∷ arcs) ≡ met_by_arcs (met_with m a.to) arcs
-unfolding met_by_arcs
-met-goes m a arcs h = go (eqb a.to m) refl
-  where
-    go : (b : Bool) → eqb a.to m ≡ b → met_by_arcs m (a ∷ arcs) ≡ met_by_arcs (cond b (m + 1) m) arcs
-    go true e =
-        let same : a.to ≡ m = eqb-true a.to m e in
-        let low : m ≤ a.to = omega arith in
-        rw (le-ltb a.to m low, met_by_arcs, e, add-one)
-    go false e =
-        let less : a.to < m = omega (arith, eqb-false a.to m e) in
-        rw (lt-ltb a.to m less, met_by_arcs)
-
--- ---- over a state's arcs, from offset i on
-
-module _ (s : List ℕ) (i m to : ℕ) (h : i < length s) (e : to ≡ target_at s i) where
-  turned : arcs_from s i ≡ arc (get_or s i 0) to ∷ arcs_from s (i + 3)
-  turned = arcs_turn s i h ∙ ap (λ (t : ℕ). arc (get_or s i 0) t ∷ arcs_from s (i + 3)) (sym e)
-
-  pub from_past : m < to → met_by_arcs m (arcs_from s i) ≡ 0
-  from_past l = ap (met_by_arcs m) turned ∙ met-past m (arc (get_or s i 0) to) (arcs_from s (i + 3)) l
-
-  pub from_goes : to ≤ m → met_by_arcs m (arcs_from s i) ≡ met_by_arcs (met_with m to) (arcs_from s (i + 3))
-  from_goes l = ap (met_by_arcs m) turned ∙ met-goes m (arc (get_or s i 0) to) (arcs_from s (i + 3)) l
-
-pub from_end : (s : List ℕ) (i m : ℕ) → length s ≤ i → met_by_arcs m (arcs_from s i) ≡ m
-unfolding met_by_arcs
-from_end s i m h = ap (met_by_arcs m) (arcs_end s i h)
+met_end m e = ap (met_by_arcs m) e
 
 -- ---- over the states, from number i on
 

@@ -21,7 +21,7 @@ use Rattle.endings.specs.Live.{ArcsAscend}
 use Rattle.judging.specs.Offsets.{body_at}
 use Rattle.tables.specs.Arcs.{TargetsBelow}
 use Rattle.tables.specs.KeptFields.{field_at}
-use Rattle.tables.specs.Accepting.{StateField, Ready}
+use Rattle.tables.specs.Accepting.{StateField, StateAt, Ready}
 use Rattle.tables.proofs.MetLaws.{target_in-table}
 
 module _ (s work : List ℕ) (ready : Ready s work) where
@@ -37,6 +37,14 @@ module _ (s work : List ℕ) (ready : Ready s work) where
       go false e =
           let past : length (table_states s) ≤ q = ltb-false q (length (table_states s)) e in
           subst (λ (st : State). Ascending 0 st.arcs) (sym (get_or-eq_default (table_states s) empty_state past)) tt
+
+  -- what stands at a state's kept offset is its field
+  pub state_at :
+      (q : ℕ) {at : ℕ} {body : List ℕ} → q < length (table_states s) → at ≡ field_at work q → body ≡ body_at s at →
+      StateAt (table_states s) q body
+  state_at q {at} {body} h at_is body_is =
+      subst (StateAt (table_states s) q) (sym (body_is ∙ ap (body_at s) at_is))
+      (record { ok = (ready.field q h).ok; means = ready.means q h })
 
   -- every arc leads to a state
   pub targets_inside :

@@ -2,6 +2,7 @@
 -- over its turns to its answers. Assumes nothing.
 use mathlib.Core.Path.{◌≡◌, refl, sym, ap, ◌∙◌, subst}
 use mathlib.Core.Bool.{Bool, true, false}
+use Rattle.std.specs.Prelude.{Ok, Err}
 use mathlib.Core.List.{List, [], map, Memᴰ as In}
 use Prim.Native.Nat.{ℕ, ◌+◌, ◌≤◌, ◌<◌}
 use native.Mathlib.Numerals.{add-one}
@@ -9,23 +10,24 @@ use native.Mathlib.Omega.{arith}
 use borrow.Author.Tests.{ltb-true, ltb-false, eq-eqb, ne_eqb}
 use lib.Dec.{ltb}
 use lib.ListN.{length, get_or, drop, length-map, get_or-map}
-use Rattle.base.specs.Limits.{work_bytes, bad_sizes, bad_numbering}
+use Rattle.base.specs.Limits.{work_bytes, bad_numbering}
+use Rattle.base.specs.Refusals.{number_of}
+use Rattle.base.specs.declared.refusals.Refusal.{Refusal}
+use Rattle.base.specs.declared.refusals.Refusal.TheVariants.{BadNumbering}
 use Rattle.model.specs.Fields.{File, Read, read_table}
 use Rattle.model.specs.Tables.{State, empty_state, state_in, states_in, met_by_arcs, met_by_states, is_first_met}
 use Rattle.model.specs.Calls.{Refuses, sizes_fault, table_of, table_states, table_fault}
-use Rattle.model.proofs.CallLaws.{sizes_bad, refuses_first, refuses_then, sizes_refuse, sizes_fit}
+use Rattle.model.proofs.CallLaws.{refuses_first, refuses_then, sizes_fit}
 use Rattle.base.proofs.Places.{nth_in}
 use Rattle.model.proofs.TableBodies.{bodies_ok}
 use Rattle.judging.specs.Offsets.{body_at, next_at, offset_at, fields_at}
 use Rattle.fields.specs.Places.{TableReadAs}
 use Rattle.fields.specs.declared.Place.{Place}
-use Rattle.fields.specs.declared.Fields.TheVariants as read
+use Rattle.fields.proofs.PlaceLaws.{number_some}
 use Rattle.judging.proofs.OffsetLaws.{offset_suc, field_within, length_fields, field_at_lem}
 use Rattle.tables.specs.Arcs.{StateOk}
 use Rattle.tables.specs.KeptFields.{field_at, with_field}
 use Rattle.tables.specs.Accepting.{TableRead, StateField, TableAt, OpenedAs}
-use Rattle.tables.specs.declared.Accepted.{Accepted}
-use Rattle.tables.specs.declared.Accepted.TheVariants.{Table, Refused}
 use Rattle.tables.proofs.KeptLaws.{length-with_field, field_same, field_other}
 use Rattle.tables.proofs.MetLaws.{states-stop, states-go, states_end, first_met_some}
 
@@ -139,17 +141,17 @@ module _ (s : List ℕ) (p : Place) (t : TableRead s p) (lent work : List ℕ) (
           subst (λ (k : ℕ). field_at (with_field work i at) k ≡ offset_at s p.start k) (sym same)
           (field_same work i at few big ∙ now.at_is)
 
-  refuse : (met_by_states 0 1 (table_states s) ≡ length (table_states s) → ⊥) → OpenedAs s lent work (Refused 12)
+  refuse : (met_by_states 0 1 (table_states s) ≡ length (table_states s) → ⊥) → OpenedAs s lent work (Err BadNumbering)
   unfolding is_first_met
   refuse n =
       record {
         number = sym (fault-12 s lent now.sized t.no_refusal (ne_eqb (met_by_states 0 1 (table_states s)) (length (table_states s)) n));
-        kept = omega arith;
+        kept = tt;
         same_length = now.same_length;
       }
 
   -- a state never met when its turn comes
-  pub passing-stops : i < p.items → met ≤ i → OpenedAs s lent work (Refused 12)
+  pub passing-stops : i < p.items → met ≤ i → OpenedAs s lent work (Err BadNumbering)
   passing-stops h low =
       let there-is : i < length (table_states s) = omega (arith, states-count s p t) in
       let none = states-stop (table_states s) i met there-is low in
@@ -161,11 +163,11 @@ module _ (s : List ℕ) (p : Place) (t : TableRead s p) (lent work : List ℕ) (
       sym now.decides ∙ states_end (table_states s) i met past
 
   -- at the end more or fewer states are met than there are
-  pub passing-refused : p.items ≤ i → (met ≡ p.items → ⊥) → OpenedAs s lent work (Refused 12)
+  pub passing-refused : p.items ≤ i → (met ≡ p.items → ⊥) → OpenedAs s lent work (Err BadNumbering)
   passing-refused h n =
       refuse (λ (e : met_by_states 0 1 (table_states s) ≡ length (table_states s)). n (omega (arith, all-met h, states-count s p t)))
 
-  pub passing-accepted : p.items ≤ i → met ≡ p.items → OpenedAs s lent work (Table p)
+  pub passing-accepted : p.items ≤ i → met ≡ p.items → OpenedAs s lent work (Ok p)
   unfolding is_first_met
   passing-accepted h e =
       let room = (sizes_fit s lent now.sized).work_fits in
@@ -197,9 +199,27 @@ module _ (s : List ℕ) (p : Place) (t : TableRead s p) (lent work : List ℕ) (
         same_length = now.same_length;
       }
 
+-- an arc past the next new state
+pub passing-none :
+    (s : List ℕ) (p : Place) (t : TableRead s p) (lent work : List ℕ) (at met i : ℕ) → Passing s p lent work at met i →
+    i < p.items → i < met → met_by_arcs met (state_in (body_at s at)).arcs ≡ 0 → OpenedAs s lent (with_field work i at) (Err BadNumbering)
+passing-none s p t lent work at met i now h low e = go (ltb (i + 1) p.items) refl
+  where
+    after : List ℕ
+    after = with_field work i at
+
+    gone : Passing s p lent after (next_at s at) 0 (i + 1)
+    gone = passing-goes s p t lent work at met i now 0 h low (sym e)
+
+    go : (b : Bool) → ltb (i + 1) p.items ≡ b → OpenedAs s lent after (Err BadNumbering)
+    go true q =
+        passing-stops s p t lent after (next_at s at) 0 (i + 1) gone (ltb-true (i + 1) p.items q) (omega arith)
+    go false q =
+        passing-refused s p t lent after (next_at s at) 0 (i + 1) gone (ltb-false (i + 1) p.items q) (omega arith)
+
 -- ---- the reader's answer
 
-pub table_read : (s : List ℕ) (p : Place) → TableReadAs s (read.Accepted p) → TableRead s p
+pub table_read : (s : List ℕ) (p : Place) → TableReadAs s (Ok p) → TableRead s p
 unfolding table_of
 table_read s p r =
     record {
@@ -209,41 +229,35 @@ table_read s p r =
     }
 
 pub table_refused :
-    (s lent : List ℕ) (k : ℕ) → sizes_fault s lent ≡ 0 → TableReadAs s (read.Refused k) → OpenedAs s lent lent (Refused k)
+    (s lent : List ℕ) (k : Refusal) → sizes_fault s lent ≡ 0 → TableReadAs s (Err k) → OpenedAs s lent lent (Err k)
 table_refused s lent k sized r =
     record {
-      number = sym (fault-fields s lent sized k (record { is = sym (ap (λ (a : Read). a.number) r.is); some = r.kept }));
-      kept = r.kept;
+      number =
+          sym (fault-fields s lent sized (number_of k) (record { is = sym (ap (λ (a : Read). a.number) r.is); some = number_some k }));
+      kept = tt;
       same_length = refl;
     }
 
 -- ---- the sizes judged first
 
-pub opened_bad : (s lent : List ℕ) → sizes_bad s lent ≡ true → OpenedAs s lent lent (Refused bad_sizes)
+pub opened_bad : (s lent : List ℕ) (k : Refusal) → number_of k ≡ sizes_fault s lent → OpenedAs s lent lent (Err k)
 unfolding table_fault
-opened_bad s lent bad =
+opened_bad s lent k e =
     record {
-      number = sym (refuses_first _ (sizes_refuse s lent bad)).is;
-      kept = omega arith;
+      number = sym (refuses_first _ (record { is = sym e; some = number_some k })).is;
+      kept = tt;
       same_length = refl;
     }
 
--- ---- a table opened as this case
+-- ---- what an opened table is, and one that is refused
 
 pub record TableOpened (s before after : List ℕ) (p : Place) : Type 0 where
   pub not_refused : table_fault s before ≡ 0
   pub kept : TableAt s after p
 
-pub opened_table :
-    {s before after : List ℕ} {answer : Accepted} {p : Place} → OpenedAs s before after answer → answer ≡ Table p →
-    TableOpened s before after p
-opened_table {s} {before} {after} opened e =
-    let here = subst (OpenedAs s before after) e opened in
-    record { not_refused = sym here.number; kept = here.kept }
+pub opened_table : {s before after : List ℕ} {p : Place} → OpenedAs s before after (Ok p) → TableOpened s before after p
+opened_table opened = record { not_refused = sym opened.number; kept = opened.kept }
 
 pub opened_refused :
-    {s before after : List ℕ} {answer : Accepted} {k : ℕ} → OpenedAs s before after answer → answer ≡ Refused k →
-    Refuses (table_fault s before) k
-opened_refused {s} {before} {after} opened e =
-    let here = subst (OpenedAs s before after) e opened in
-    record { is = sym here.number; some = here.kept }
+    {s before after : List ℕ} {k : Refusal} → OpenedAs s before after (Err k) → Refuses (table_fault s before) (number_of k)
+opened_refused {k = k} opened = record { is = sym opened.number; some = number_some k }

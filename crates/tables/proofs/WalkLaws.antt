@@ -14,55 +14,50 @@ use Rattle.model.specs.Tables as model
 use Rattle.model.specs.Tables.{State, empty_state, state_in, target_in, walk_at, walk_from}
 use Rattle.model.specs.Calls.{table_states}
 use Rattle.endings.specs.Live.{trimmed, Marked}
-use Rattle.judging.specs.Offsets.{body_at}
 use Rattle.tables.specs.Arcs.{is_marked}
-use Rattle.tables.specs.KeptFields.{field_at}
-use Rattle.tables.specs.Accepting.{Ready}
+use Rattle.tables.specs.Accepting.{StateAt, Ready}
 use Rattle.tables.specs.Walking.{target_of, MovedTo, WalkedAs}
-use Rattle.tables.specs.declared.Walk.{Walk}
+use Rattle.tables.specs.declared.walks.Walk.{Walk}
 use Rattle.tables.proofs.MetLaws.{target_in-table}
 use Rattle.tables.proofs.ReadyLaws.{ready_ascends}
 use Rattle.tables.proofs.Marks.{length-trimmed, target_none, target-marked}
 
--- what is found in the field at the kept offset is the target in the table
-pub target_is : (s work : List ℕ) (q name : ℕ) → Ready s work → q < length (table_states s)
-    → target_in name (state_in (body_at s (field_at work q))).arcs ≡ target_of (table_states s) q name
+-- what is found in a state's field is the target in the table
+pub target_is :
+    {n : ℕ} (states : List State) (body : List ℕ) (q name : ℕ) → StateAt states q body → target_in name (state_in body).arcs ≡ n →
+    target_of states q name ≡ n
 unfolding target_of
-target_is s work q name ready h = ap (λ (st : State). target_in name st.arcs) (ready.means q h)
+target_is states body q name at e = ap (λ (st : State). target_in name st.arcs) (sym at.means) ∙ e
 
 -- one step over the table, heeding marks: what is found there, and the trimmed table's target
 module _
-    (s work marks : List ℕ) (w : Walk) (name next : ℕ) (ready : Ready s work) (marked : Marked (table_states s) marks)
-    (h : w.state < length (table_states s)) (found : target_of (table_states s) w.state name ≡ next) where
-  -- a target is a state
-  pub target-inside : (next ≡ 0 → ⊥) → next - 1 < length (table_states s)
-  unfolding target_of
-  target-inside n = omega (arith, target_in-table name (table_states s) ready.first_met w.state h)
-
+    (s work marks : List ℕ) (w : Walk) (name : ℕ) (ready : Ready s work) (marked : Marked (table_states s) marks)
+    (h : w.state < length (table_states s)) where
   -- no arc
-  pub stops-unfound : next ≡ 0 → target_of (trimmed (table_states s)) w.state name ≡ 0
-  stops-unfound e = target_none (table_states s) marks marked (ready_ascends s work ready) w.state name next found e
+  pub stops-unfound : target_of (table_states s) w.state name ≡ 0 → target_of (trimmed (table_states s)) w.state name ≡ 0
+  stops-unfound e = target_none (table_states s) marks marked (ready_ascends s work ready) w.state name e
 
-  module _ (n : next ≡ 0 → ⊥) where
-    trimmed-is : target_of (trimmed (table_states s)) w.state name ≡ cond (is_marked (get_or marks (next - 1) 0)) next 0
-    trimmed-is =
-        target-marked (table_states s) marks marked (ready_ascends s work ready) w.state name next found (target-inside n)
+  module _ (to : ℕ) (found : target_of (table_states s) w.state name ≡ suc to) where
+    -- a target is a state
+    pub target-inside : to < length (table_states s)
+    unfolding target_of
+    target-inside = omega (arith, target_in-table name (table_states s) ready.first_met w.state h)
+
+    trimmed-is : target_of (trimmed (table_states s)) w.state name ≡ cond (is_marked (get_or marks to 0)) (suc to) 0
+    trimmed-is = target-marked (table_states s) marks marked (ready_ascends s work ready) w.state name to found target-inside
 
     -- an arc to a state that is not marked
-    pub stops-unmarked : get_or marks (next - 1) 0 ≡ 0 → target_of (trimmed (table_states s)) w.state name ≡ 0
-    stops-unmarked e = trimmed-is ∙ ap (λ (b : Bool). cond (not b) next 0) (eq-eqb (get_or marks (next - 1) 0) 0 e)
+    pub stops-unmarked : get_or marks to 0 ≡ 0 → target_of (trimmed (table_states s)) w.state name ≡ 0
+    stops-unmarked e = trimmed-is ∙ ap (λ (b : Bool). cond (not b) (suc to) 0) (eq-eqb (get_or marks to 0) 0 e)
 
     -- an arc to a marked state
     pub moved_to :
-        (get_or marks (next - 1) 0 ≡ 0 → ⊥) →
-        MovedTo (trimmed (table_states s)) w name (record { state = next - 1; taken = w.taken + 1 })
+        (get_or marks to 0 ≡ 0 → ⊥) → MovedTo (trimmed (table_states s)) w name (record { state = to; taken = w.taken + 1 })
     moved_to m =
-        let target : target_of (trimmed (table_states s)) w.state name ≡ next =
-        trimmed-is ∙ ap (λ (b : Bool). cond (not b) next 0) (ne_eqb (get_or marks (next - 1) 0) 0 m) in
         record {
-          target = omega arith;
+          target = trimmed-is ∙ ap (λ (b : Bool). cond (not b) (suc to) 0) (ne_eqb (get_or marks to 0) 0 m);
           one_more = add-one w.taken;
-          in_table = omega (arith, target-inside n, length-trimmed (table_states s));
+          in_table = omega (arith, target-inside, length-trimmed (table_states s));
         }
 
 -- walking goes on from this walk with the names from i on

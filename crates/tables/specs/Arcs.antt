@@ -1,27 +1,32 @@
--- One state's field by its bytes: that it passed the reader's test, the target of the arc at an offset, how many states are met
--- after an arc, and the arcs to marked states. Assumes nothing.
-use Rattle.std.specs.Prelude.{◌≡◌, Bool, true, not, cond, ℕ, ◌+◌, ◌*◌, ◌<◌, eqb, get_or}
-use mathlib.Core.List.{List, Memᴰ as In}
-use Rattle.base.specs.Limits.{name_limit, number_limit}
+-- One state's field by its bytes: that it passed the reader's test, its arcs as they are read one after another, and the arcs
+-- to marked states. Assumes nothing.
+use Rattle.std.specs.Prelude.{◌≡◌, Bool, true, not, ℕ, ◌+◌, ◌*◌, ◌<◌, eqb, get_or}
+use mathlib.Core.List.{List, [], ◌∷◌, Memᴰ as In}
+use Rattle.base.specs.Limits.{name_limit}
 use Rattle.base.specs.Lists.{filter_by}
 use Rattle.model.specs.Fields.{state_ok}
-use Rattle.model.specs.Tables.{Arc}
+use Rattle.model.specs.Tables.{Arc, arc}
+use Rattle.tables.specs.declared.arcs.Arc as read
+use Rattle.tables.specs.declared.arcs.Arcs as reader
 
 -- the bytes are a state field over at most 64 names: its arcs are whole, and their names ascend
 abbrev pub StateOk : List ℕ → Type 0
 StateOk body = state_ok name_limit body ≡ true
 
--- the target of the arc at offset i
-abbrev pub target_at : List ℕ → ℕ → ℕ
-target_at body i = 256 * get_or body (i + 1) 0 + get_or body (i + 2) 0
+-- an arc as it is read
+abbrev pub arc_of : read.Arc → Arc
+arc_of a = arc a.name a.to
 
-pub record IsTarget (body : List ℕ) (i answer : ℕ) : Type 0 where
-  pub is : answer ≡ target_at body i
-  pub small : answer < number_limit
+-- the arcs that stand in bytes, three for each
+unfoldable pub arcs_of_bytes : List ℕ → List Arc
+arcs_of_bytes [] = []
+arcs_of_bytes (name ∷ []) = []
+arcs_of_bytes (name ∷ (high ∷ [])) = []
+arcs_of_bytes (name ∷ (high ∷ (low ∷ rest))) = arc name (256 * high + low) ∷ arcs_of_bytes rest
 
--- how many states are met after an arc to a state met already, or to the next new one
-abbrev pub met_with : ℕ → ℕ → ℕ
-met_with met to = cond (eqb to met) (met + 1) met
+-- the arcs that are still to be read
+abbrev pub arcs_left : reader.Arcs → List Arc
+arcs_left a = arcs_of_bytes a.bytes.now
 
 -- every arc leads to a state with a number below n
 pub record TargetsBelow (n : ℕ) (arcs : List Arc) : Type 0 where

@@ -1,10 +1,8 @@
 -- A walk's step and a whole walk, as model's targetIn and walk give them. Assumes nothing.
-use Rattle.std.specs.Prelude.{◌≡◌, List, ℕ, suc, ◌≤◌, ◌<◌, length, get_or}
+use Rattle.std.specs.Prelude.{◌≡◌, List, ℕ, suc, Option, MatchOption, ◌≤◌, ◌<◌, length, get_or}
 use Rattle.model.specs.Tables as model
 use Rattle.model.specs.Tables.{State, empty_state, target_in, walk_at}
-use Rattle.tables.specs.declared.Walk.{Walk}
-use Rattle.tables.specs.declared.Stepped.{Stepped}
-use Rattle.tables.specs.declared.Stepped.TheVariants as stepped
+use Rattle.tables.specs.declared.walks.Walk.{Walk}
 
 -- the target of the walk's arc by this name plus 1, or 0 where its state has none
 unfoldable pub target_of : List State → ℕ → ℕ → ℕ
@@ -21,9 +19,8 @@ pub record MovedTo (states : List State) (w : Walk) (name : ℕ) (next : Walk) :
   pub in_table : next.state < length states
 
 -- for each answer what model says: the arc's target, or that there is no arc by the name
-abbrev pub SteppedAs : List State → Walk → ℕ → Stepped → Type 0
-SteppedAs states w name (stepped.Moved next) = MovedTo states w name next
-SteppedAs states w name stepped.Stopped = target_of states w.state name ≡ 0
+abbrev pub SteppedAs : List State → Walk → ℕ → Option Walk → Type 0
+SteppedAs states w name answer = MatchOption answer (target_of states w.state name ≡ 0) (λ (next : Walk). MovedTo states w name next)
 
 -- a row walked from state 0 on
 pub record WalkedAs (states : List State) (row : List ℕ) (w : Walk) : Type 0 where

@@ -1,49 +1,19 @@
--- Laws of the lists of first accepting states by their value's bucket: a bucket; a search down a list, found and not found; one
--- state more, put into its list where it is the first with its value. Assumes nothing.
-use mathlib.Core.Path.{◌≡◌, refl, sym, ap, ◌∙◌, subst, subst₂}
-use mathlib.Core.Bool.{Bool, true, false}
+-- Laws of the lists of first accepting states by their value's bucket: a search down a list that found none; one state more, put
+-- into its list where it is the first with its value. Assumes nothing.
+use mathlib.Core.Path.{◌≡◌, refl, sym, ap, ◌∙◌}
 use mathlib.Core.List.{List}
-use Prim.Native.Nat.{ℕ, zero, suc, ◌+◌, ◌*◌, ◌/◌, ◌<◌, ◌≤◌}
+use Prim.Native.Nat.{ℕ, zero, suc, ◌+◌, ◌<◌, ◌≤◌}
 use native.Mathlib.Omega.{arith}
-use lib.Bits.{bit_and, bit_xor, and_le_r}
-use lib.Dec.{eqb}
 use lib.ListN.{get_or, set, replicate, length-set, length-replicate}
 use borrow.Author.Count.{below_more}
-use borrow.Author.Tests.{eqb-true, eqb-false}
 use Rattle.base.specs.Limits.{state_limit}
 use Rattle.indexed.specs.Chains.{Searched}
 use Rattle.indexed.proofs.Chains.{heads_none, chained_none, chained_push, chained_skip}
-use Rattle.values.specs.Buckets.{bucket_of, Listed, Buckets, Linked, FirstEnd}
-
--- the product of the lower half fits into 64 bits; a bucket is below 512
-pub low_fits : (value : ℕ) → bit_and value 4294967295 * 2654435769 < 18446744073709551616
-low_fits value =
-    let small : bit_and value 4294967295 ≤ 4294967295 = and_le_r value 4294967295 in
-    omega arith
-
-pub bucket_below : (value : ℕ) → bucket_of value < state_limit
-unfolding bucket_of
-bucket_below value =
-    let mixed = bit_xor (bit_and value 4294967295 * 2654435769) (value / 4294967296 * 2246822519) / 8388608 in
-    let small : bit_and mixed 511 ≤ 511 = and_le_r mixed 511 in
-    omega arith
+use Rattle.values.specs.Buckets.{bucket_of, Listed, Buckets, FirstEnd}
 
 -- a state has the value of v
 abbrev pub SameValue : List ℕ → ℕ → ℕ → Type 0
 SameValue values v u = get_or values u 0 ≡ get_or values v 0
-
--- the search comes to a state with the value
-pub first_found :
-    (ends values : List ℕ) (v b at u : ℕ) → at ≡ suc u → SameValue values v u →
-    Searched v (Listed ends values) (SameValue values v) b at → FirstEnd ends values v u
-first_found ends values v b at u is alike searched =
-    let listed : Listed ends values b u = searched.here u is in
-    record {
-      low = omega (arith, searched.low);
-      accepting = listed.0;
-      alike = alike;
-      first = λ k h accepting e. listed.2 k h accepting (e ∙ sym alike);
-    }
 
 -- the search comes to the list's end: an accepting state with the value would have a first one, and that would be in the list
 pub first_itself :
@@ -59,16 +29,6 @@ first_itself ends values v b at end bucket accepting searched =
         let here : 0 < get_or ends i 0 → SameValue values v i → ⊥ = λ c q. searched.past i (omega arith) (omega arith)
         (c, ap bucket_of q ∙ sym bucket, λ j lower d r. earlier j lower d (r ∙ q)) q in
         below_more (λ (j : ℕ). 0 < get_or ends j 0 → SameValue values v j → ⊥) i earlier here k (omega arith) a e
-
--- the end of a list, where the state is the first with its value and where it is not
-pub linked_pushed :
-    (b v first head : ℕ) (links heads : List ℕ) → first ≡ v → head ≡ v + 1 →
-    Linked b v first links heads (set links v (get_or heads b 0)) (set heads b head)
-linked_pushed b v first head links heads same head-is =
-    record { pushed = λ e. (refl, ap (set heads b) head-is); kept = λ d. absurd (d same) }
-
-pub linked_kept : (b v first : ℕ) (links heads : List ℕ) → (first ≡ v → ⊥) → Linked b v first links heads links heads
-linked_kept b v first links heads other = record { pushed = λ e. absurd (other e); kept = λ d. (refl, refl) }
 
 -- lists of no state, in arrays of zeros
 pub buckets_none : (ends values : List ℕ) → Buckets ends values 0 (replicate 512 0) (replicate 512 0)
@@ -89,37 +49,20 @@ module _ (ends values : List ℕ) (v : ℕ) (links heads : List ℕ) (so_far : B
         chained = chained_skip v (Listed ends values) links heads unlisted so_far.chained;
       }
 
-  -- it does not accept
-  pub buckets_other : get_or ends v 0 ≡ 0 → Buckets ends values (v + 1) links heads
-  buckets_other none = buckets_skip (λ b l. omega (arith, l.0))
+  -- it accepts, and an earlier state is the first with its value
+  pub buckets_kept : (first : ℕ) → first < v → FirstEnd ends values v first → Buckets ends values (v + 1) links heads
+  buckets_kept first lower found = buckets_skip (λ b l. l.2 first lower found.accepting found.alike)
 
-  -- it accepts: the first accepting state with its value is itself, or an earlier one
-  pub buckets_more :
-      (b first : ℕ) (links' heads' : List ℕ) → v < 512 → b < 512 → b ≡ bucket_of (get_or values v 0) →
-      FirstEnd ends values v first → Linked b v first links heads links' heads' → Buckets ends values (v + 1) links' heads'
-  buckets_more b first links' heads' v_below b_below bucket found linked = go (eqb first v) refl
-    where
-      pushed : (first ≡ v) → Buckets ends values (v + 1) (set links v (get_or heads b 0)) (set heads b (v + 1))
-      pushed same =
-          let itself : FirstEnd ends values v v = subst (FirstEnd ends values v) same found in
-          record {
-            links_size = length-set links v (get_or heads b 0) ∙ so_far.links_size;
-            heads_size = length-set heads b (v + 1) ∙ so_far.heads_size;
-            chained =
-                chained_push v (Listed ends values) links heads b (v + 1) (omega (arith, so_far.links_size))
-                (omega (arith, so_far.heads_size))
-                refl (itself.accepting, sym bucket, itself.first) (λ c l. sym l.1 ∙ sym bucket) so_far.chained;
-          }
-
-      kept : (first ≡ v → ⊥) → Buckets ends values (v + 1) links heads
-      kept other =
-          let lower : first < v = omega (arith, found.low) in
-          buckets_skip (λ c l. l.2 first lower found.accepting found.alike)
-
-      go : (t : Bool) → eqb first v ≡ t → Buckets ends values (v + 1) links' heads'
-      go true e =
-          let same : first ≡ v = eqb-true first v e in
-          subst₂ (Buckets ends values (v + 1)) (sym (linked.pushed same).0) (sym (linked.pushed same).1) (pushed same)
-      go false e =
-          let other : first ≡ v → ⊥ = eqb-false first v e in
-          subst₂ (Buckets ends values (v + 1)) (sym (linked.kept other).0) (sym (linked.kept other).1) (kept other)
+  -- it is the first itself, and put at the end of its list
+  pub buckets_pushed :
+      (b : ℕ) → v < state_limit → b < state_limit → b ≡ bucket_of (get_or values v 0) → FirstEnd ends values v v →
+      Buckets ends values (v + 1) (set links v (get_or heads b 0)) (set heads b (v + 1))
+  buckets_pushed b v_below b_below bucket itself =
+      record {
+        links_size = length-set links v (get_or heads b 0) ∙ so_far.links_size;
+        heads_size = length-set heads b (v + 1) ∙ so_far.heads_size;
+        chained =
+            chained_push v (Listed ends values) links heads b (v + 1) (omega (arith, so_far.links_size))
+            (omega (arith, so_far.heads_size))
+            refl (itself.accepting, sym bucket, itself.first) (λ c l. sym l.1 ∙ sym bucket) so_far.chained;
+      }

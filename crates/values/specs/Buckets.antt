@@ -1,7 +1,6 @@
 -- Lists of first accepting states, those in which rows end, by the buckets of their values: the bucket of a value, the states in a
--- list, all lists of the first states, a state put into its list, the first accepting state with a value, and the group that it
--- gives a state. Assumes nothing.
-use Rattle.std.specs.Prelude.{◌≡◌, List, ℕ, ◌+◌, ◌*◌, ◌/◌, ◌<◌, ◌≤◌, length, get_or, set}
+-- list, all lists of the first states, the first accepting state with a value, and the group that it gives a state. Assumes nothing.
+use Rattle.std.specs.Prelude.{◌≡◌, List, ℕ, ◌*◌, ◌/◌, ◌<◌, ◌≤◌, length, get_or}
 use Rattle.std.specs.Int.Bits.{bit_and, bit_xor}
 use Rattle.base.specs.Limits.{state_limit}
 use Rattle.indexed.specs.Chains.{Chained}
@@ -27,11 +26,6 @@ pub record Buckets (ends values : List ℕ) (i : ℕ) (links heads : List ℕ) :
 pub record SomeBuckets (values : List ℕ) (i : ℕ) (links heads : List ℕ) : Type 0 where
   pub ends : List ℕ
   pub buckets : Buckets ends values i links heads
-
--- state v put at the end of list b where it is the first with its value, else nothing
-pub record Linked (b v first : ℕ) (links heads links' heads' : List ℕ) : Type 0 where
-  pub pushed : first ≡ v → (links' ≡ set links v (get_or heads b 0)) × (heads' ≡ set heads b (v + 1))
-  pub kept : (first ≡ v → ⊥) → (links' ≡ links) × (heads' ≡ heads)
 
 -- the first accepting state with the value of v
 pub record FirstEnd (ends values : List ℕ) (v answer : ℕ) : Type 0 where

@@ -4,17 +4,17 @@
 // value in the list of its bucket, so that a state is compared with few others.
 #![tactic(auto)]
 
-ghost use Rattle.std.specs.Prelude.{◌≡◌, false, ◌+◌, ◌<◌, ◌≤◌, length, get_or};
+ghost use Rattle.std.specs.Prelude.{◌≡◌, false, ◌+◌, ◌<◌, ◌≤◌, length, get_or, set, MatchOption};
 ghost use Rattle.base.specs.Limits.{state_limit};
 ghost use Rattle.indexed.specs.Partitions.{Alone};
 ghost use Rattle.indexed.specs.Passes.{ByEnds, ByValue};
-ghost use Rattle.values.specs.Buckets.{bucket_of, Buckets, SomeBuckets, Linked, FirstAlike, EndLabel};
+ghost use Rattle.values.specs.Buckets.{bucket_of, Buckets, SomeBuckets, FirstAlike, EndLabel};
 
 use base::limits::STATE_LIMIT;
-use base::numbers;
 
 // The bucket of a value: nine bits from the middle of the two halves' products with large odd numbers, so that values which differ
 // in few bits fall apart. A product of two numbers of 32 bits fits; its highest bits would be 0 for small values.
+#[tactic(auto, unfolding(crate::specs::Buckets::bucket_of))]
 fn bucket(value: u64) -> usize
     ensures value { result ≡ bucket_of value }
     ensures below { result < state_limit }
@@ -24,75 +24,72 @@ fn bucket(value: u64) -> usize
     (((low ^ high) >> 23) & 511) as usize
 }
 
-// The first accepting state with the value of state v, which accepts, sought in the list of the value's bucket, where the first
-// of each value is. It asks of no state whether it accepts: whichever states are in the lists, those are the accepting ones.
-fn first_alike(
-    values: &[u64],
-    links: &[u16; STATE_LIMIT],
-    heads: &[u16; STATE_LIMIT],
-    b: usize,
-    v: usize,
-) -> usize
-    requires few { length values.now ≤ state_limit }
-    requires inside { v < length values.now }
-    requires list { b ≡ bucket_of (get_or values.now v 0) }
-    requires below { b < state_limit }
-    requires lists { SomeBuckets values.now v links.now heads.now }
-    ensures { FirstAlike values.now v links.now heads.now result }
-{
-    let value = values[v];
-    let mut at = numbers::wide16(heads[b]);
-    while 0 < at {
-        let u = at - 1;
-        if values[u] == value {
-            return u;
+// The first accepting states of the values met so far, in a list for each bucket: the last state of each list, and for each state in a
+// list the one before it there; each plus one, 0 for none.
+// Stays: (a) 0 for none, and a number plus one else (fixed memory: two bytes for each number, where an Option takes four; and the record
+// Chained speaks of it).
+#[derive(Drop)]
+struct Firsts {
+    links: [u16; STATE_LIMIT],
+    heads: [u16; STATE_LIMIT],
+}
+
+impl Firsts {
+    // The first accepting state with the value of state v, which accepts, sought among those before v in the list of the value's
+    // bucket, where the first of each value is; none where it is v itself. It asks of no state whether it accepts: whichever states
+    // are in the lists, those are the accepting ones.
+    fn find(&self, values: &[u64], b: usize, v: usize) -> Option<usize>
+        requires few { length values.now ≤ state_limit }
+        requires inside { v < length values.now }
+        requires list { b ≡ bucket_of (get_or values.now v 0) }
+        requires below { b < state_limit }
+        requires lists { SomeBuckets values.now v self.now.links self.now.heads }
+        ensures { MatchOption result
+            (FirstAlike values.now v self.now.links self.now.heads v)
+            (λ u. (u < v) × FirstAlike values.now v self.now.links self.now.heads u) }
+    {
+        let value = values[v];
+        let mut at = self.heads[b] as usize;
+        while 0 < at {
+            let u = at - 1;
+            if values[u] == value {
+                return Some(u);
+            }
+            at = self.links[u] as usize;
         }
-        at = numbers::wide16(links[u]);
+        None
     }
-    v
-}
 
-// Puts state v at the end of list b where it is the first with its value.
-fn link(
-    links: &mut [u16; STATE_LIMIT],
-    heads: &mut [u16; STATE_LIMIT],
-    b: usize,
-    v: usize,
-    first: usize,
-)
-    requires inside { v < state_limit }
-    requires below { b < state_limit }
-    ensures { Linked b v first links.old heads.old links.new heads.new }
-{
-    if first != v {
-        return;
+    // Puts state v at the end of list b.
+    fn push(&mut self, b: usize, v: usize)
+        requires inside { v < state_limit }
+        requires below { b < state_limit }
+        ensures links { self.new.links ≡ set self.old.links v (get_or self.old.heads b 0) }
+        ensures heads { self.new.heads ≡ set self.old.heads b (v + 1) }
+    {
+        self.links[v] = self.heads[b];
+        self.heads[b] = (v + 1) as u16;
     }
-    links[v] = heads[b];
-    heads[b] = numbers::narrow16(v + 1);
-}
 
-// The group of state v, by the lists of the states before it, into which it is put where it is the first with its value.
-fn end_label(
-    ends: &[u16],
-    values: &[u64],
-    links: &mut [u16; STATE_LIMIT],
-    heads: &mut [u16; STATE_LIMIT],
-    v: usize,
-) -> usize
-    requires few { length values.now ≤ state_limit }
-    requires ends_size { length ends.now ≡ length values.now }
-    requires inside { v < length values.now }
-    requires so_far { Buckets ends.now values.now v links.old heads.old }
-    ensures label { EndLabel ends.now values.now v result }
-    ensures with_it { Buckets ends.now values.now (v + 1) links.new heads.new }
-{
-    if ends[v] == 0 {
-        return v;
+    // The group of state v, by the lists of the states before it, into which it is put where it is the first with its value.
+    fn label(&mut self, ends: &[u16], values: &[u64], v: usize) -> usize
+        requires few { length values.now ≤ state_limit }
+        requires ends_size { length ends.now ≡ length values.now }
+        requires inside { v < length values.now }
+        requires so_far { Buckets ends.now values.now v self.old.links self.old.heads }
+        ensures label { EndLabel ends.now values.now v result }
+        ensures with_it { Buckets ends.now values.now (v + 1) self.new.links self.new.heads }
+    {
+        if ends[v] == 0 {
+            return v;
+        }
+        let b = bucket(values[v]);
+        if let Some(first) = self.find(values, b, v) {
+            return first;
+        }
+        self.push(b, v);
+        v
     }
-    let b = bucket(values[v]);
-    let first = first_alike(values, links, heads, b, v);
-    link(links, heads, b, v, first);
-    first
 }
 
 // Joins the accepting states of each value, and no others; true where any state was joined to an earlier one.
@@ -103,15 +100,15 @@ pub fn by_ends(ends: &[u16], values: &[u64], groups: &mut [u16]) -> bool
     ensures ends { ByEnds (length groups.old) ends.now values.now groups.new }
     ensures none { result ≡ false → Alone (length groups.old) groups.new }
 {
-    let mut links = [0u16; STATE_LIMIT];
-    let mut heads = [0u16; STATE_LIMIT];
+    let mut firsts = Firsts {
+        links: [0; STATE_LIMIT],
+        heads: [0; STATE_LIMIT],
+    };
     let mut joined = false;
-    let mut v = 0;
-    while v < groups.len() {
-        let label = end_label(ends, values, &mut links, &mut heads, v);
-        groups[v] = numbers::narrow16(label);
-        joined = joined | (label != v);
-        v += 1;
+    for (v, group) in groups.iter_mut().enumerate() {
+        let label = firsts.label(ends, values, v);
+        *group = label as u16;
+        joined |= label != v;
     }
     joined
 }

@@ -1,9 +1,10 @@
 // The edges of docs/SCOPE.md, section 10.1, for books, one line each: what was tried, and the first line of the listing that it comes to.
 ghost use Rattle.std.specs.Prelude.{◌≡◌, ◌≤◌, length, take};
 
-use crate::parts::{NAME, ROOM, buffer, count, large_buffer, put, put_names, say};
+use crate::parts::{NAME, buffer, count, large_buffer, named, say};
 use base::limits::LISTING_BYTES;
 use plans::printing::print_book;
+use std::alloc::{AllocError, Global};
 use std::io;
 
 // A row of one snack.
@@ -37,49 +38,18 @@ fn book(rt: &impl Print, tried: &str, bytes: &[u8]) -> io::Result<()> {
     say_line(rt, tried, &text[..length])
 }
 
-// The book that stands before `end`.
-fn book_before(rt: &impl Print, tried: &str, bytes: &[u8], end: usize) -> io::Result<()> {
-    if end <= bytes.len() {
-        return book(rt, tried, &bytes[..end]);
-    }
-    Ok(())
-}
-
-// The same in a buffer. (Of an array behind a reference the prover lends only the whole.)
-fn book_in(rt: &impl Print, tried: &str, buffer: &[u8; ROOM], end: usize) -> io::Result<()> {
-    book_before(rt, tried, buffer, end)
-}
-
-// Appends so many rows of one snack.
-fn put_rows(out: &mut [u8; ROOM], from: usize, count: usize) -> usize
-    requires { from ≤ 4096 }
-    ensures { result ≤ 4096 }
-{
-    let mut at = from;
-    for _ in 0..count {
-        at = put(out, at, &ROW);
-    }
-    at
-}
-
-// Appends a row of the name `first` and then 39 times name 0.
-fn put_long_row(out: &mut [u8; ROOM], from: usize, first: u8) -> usize
-    requires { from ≤ 4096 }
-    ensures { result ≤ 4096 }
-{
-    let at = put(out, from, &[3, 0, 40, first]);
-    put(out, at, &[0u8; 39])
+// A row of the name `first` and then 39 times name 0.
+fn long_row(alloc: Global, first: u8) -> Result<Vec<u8>, AllocError> {
+    [&[3, 0, 40, first], &[0u8; 39][..]].concat(alloc)
 }
 
 // Thirteen names, and a long row for each of the first twelve.
-fn put_twelve(out: &mut [u8; ROOM]) -> usize
-    ensures { result ≤ 4096 }
-{
-    let mut at = put_names(out, 13);
-    for first in 0..12u8 {
-        at = put_long_row(out, at, first);
+fn twelve_rows(alloc: Global) -> Result<Vec<u8>, AllocError> {
+    let mut file = named(alloc, 13)?;
+    for first in 0..12 {
+        file.extend_from_slice(&long_row(alloc, first)?)?;
     }
-    at
+    Ok(file)
 }
 
 // The example built with what is lent: the refusal's number.
@@ -185,49 +155,43 @@ pub fn fields(rt: &impl Print) -> io::Result<()> {
 }
 
 // Names: 7, and what just passes.
-pub fn names(rt: &impl Print) -> io::Result<()> {
-    let mut out = buffer();
-    let most = put_names(&mut out, 64);
-    let end = put(&mut out, most, &ROW);
-    book_in(rt, "64 names", &out, end)?;
-    let more = put_names(&mut out, 65);
-    book_in(rt, "65 names", &out, more)
+pub fn names(rt: &(impl Print + AllocGlobal)) -> io::Result<()> {
+    let mut most = named(rt.alloc(), 64)?;
+    most.extend_from_slice(&ROW)?;
+    book(rt, "64 names", &most)?;
+    book(rt, "65 names", &named(rt.alloc(), 65)?)
 }
 
 // A book of one snack with this class.
-fn class(rt: &impl Print, tried: &str, kind: u8, first: u8, second: u8) -> io::Result<()> {
-    let mut out = buffer();
-    let name = put(&mut out, 0, &NAME);
-    let settings = put(&mut out, name, &[2, 0, 3, kind, first, second]);
-    let end = put(&mut out, settings, &ROW);
-    book_in(rt, tried, &out, end)
+fn class(rt: &impl Print, tried: &str, class: [u8; 3]) -> io::Result<()> {
+    let mut file = *b"\x01\x00\x05snack\x02\x00\x03...\x03\x00\x01\x00";
+    file[11..14].copy_from_slice(&class);
+    book(rt, tried, &file)
 }
 
 // Classes: 8, and what just passes.
 pub fn classes(rt: &impl Print) -> io::Result<()> {
-    class(rt, "k = 8, h = 8", 0, 8, 8)?;
-    class(rt, "k = 9, h = 1", 0, 9, 1)?;
-    class(rt, "k = 2, h = 0", 0, 2, 0)?;
-    class(rt, "k = 2, h = 3", 0, 2, 3)?;
-    class(rt, "the last 8 names", 2, 8, 0)?;
-    class(rt, "the last 9 names", 2, 9, 0)?;
-    class(rt, "a seen set with a setting", 1, 1, 0)?;
-    class(rt, "a class of kind 3", 3, 0, 0)
+    class(rt, "k = 8, h = 8", [0, 8, 8])?;
+    class(rt, "k = 9, h = 1", [0, 9, 1])?;
+    class(rt, "k = 2, h = 0", [0, 2, 0])?;
+    class(rt, "k = 2, h = 3", [0, 2, 3])?;
+    class(rt, "the last 8 names", [2, 8, 0])?;
+    class(rt, "the last 9 names", [2, 9, 0])?;
+    class(rt, "a seen set with a setting", [1, 1, 0])?;
+    class(rt, "a class of kind 3", [3, 0, 0])
 }
 
 // Rows: 7 and 9, and what just passes.
-pub fn rows(rt: &impl Print) -> io::Result<()> {
-    let mut out = buffer();
-    let name = put(&mut out, 0, &NAME);
-    let most = put_rows(&mut out, name, 256);
-    book_in(rt, "256 rows", &out, most)?;
-    let more = put_rows(&mut out, name, 257);
-    book_in(rt, "257 rows", &out, more)?;
-    let long = put_long_row(&mut out, name, 0);
-    book_in(rt, "a row of 40", &out, long)?;
-    let head = put(&mut out, name, &[3, 0, 41]);
-    let longer = put(&mut out, head, &[0u8; 41]);
-    book_in(rt, "a row of 41", &out, longer)?;
+pub fn rows(rt: &(impl Print + AllocGlobal)) -> io::Result<()> {
+    let alloc = rt.alloc();
+    let mut many = ROW.repeat(alloc, 256)?;
+    book(rt, "256 rows", &[&NAME[..], &many].concat(alloc)?)?;
+    many.extend_from_slice(&ROW)?;
+    book(rt, "257 rows", &[&NAME[..], &many].concat(alloc)?)?;
+    let long = long_row(alloc, 0)?;
+    book(rt, "a row of 40", &[&NAME[..], &long].concat(alloc)?)?;
+    let longer = [&NAME[..], &[3, 0, 41], &[0; 41]].concat(alloc)?;
+    book(rt, "a row of 41", &longer)?;
     book(
         rt,
         "an entry that is no name's number",
@@ -236,13 +200,11 @@ pub fn rows(rt: &impl Print) -> io::Result<()> {
 }
 
 // Prefix trees: 10, and what just passes. Thirteen rows with different first names, twelve of 40 and the last of 31 or 32.
-pub fn trees(rt: &impl Print) -> io::Result<()> {
-    let mut out = buffer();
-    let twelve = put_twelve(&mut out);
-    let head = put(&mut out, twelve, &[3, 0, 31, 12]);
-    let fewer = put(&mut out, head, &[0u8; 30]);
-    book_in(rt, "a prefix tree of 512 states", &out, fewer)?;
-    let longer = put(&mut out, twelve, &[3, 0, 32, 12]);
-    let more = put(&mut out, longer, &[0u8; 31]);
-    book_in(rt, "a prefix tree of 513 states", &out, more)
+pub fn trees(rt: &(impl Print + AllocGlobal)) -> io::Result<()> {
+    let alloc = rt.alloc();
+    let twelve = twelve_rows(alloc)?;
+    let fewer = [&twelve[..], &[3, 0, 31, 12], &[0; 30]].concat(alloc)?;
+    book(rt, "a prefix tree of 512 states", &fewer)?;
+    let more = [&twelve[..], &[3, 0, 32, 12], &[0; 31]].concat(alloc)?;
+    book(rt, "a prefix tree of 513 states", &more)
 }

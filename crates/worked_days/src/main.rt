@@ -16,36 +16,33 @@ use std::io::Read;
 use std::rt::Files;
 use std::{fs, io};
 
-// The days and the example of docs/SCOPE.md, and three days more. One more is a file in data/ and a line here.
-fn days(rt: &(impl Files + Print + Eprint + AllocGlobal)) -> io::Result<()> {
-    day(rt, "P1.book")?;
-    day(rt, "P2.book")?;
-    day(rt, "P3.book")?;
-    day(rt, "P4.book")?;
-    day(rt, "P5.book")?;
-    day(rt, "P6.book")?;
-    day(rt, "P7.book")?;
-    day(rt, "P8.book")?;
-    day(rt, "P9.book")?;
-    day(rt, "P10.book")?;
-    day(rt, "P11.book")?;
-    day(rt, "P12.book")?;
-    day(rt, "Q1.book")?;
-    day(rt, "Q2.book")?;
-    day(rt, "Q3.book")?;
-    day(rt, "example.book")
-}
-
-// The sources' examples, from the surfaces of document 000 and the entries of document 002.
-fn sources(rt: &(impl Files + Print + Eprint + AllocGlobal)) -> io::Result<()> {
-    day(rt, "example_32.book")?;
-    day(rt, "surface_inventaris.book")?;
-    day(rt, "surface_boek.book")?;
-    day(rt, "surface_schrijver.book")?;
-    day(rt, "surface_text.book")?;
-    day(rt, "entry_2_2.book")?;
-    day(rt, "entry_2_1.book")
-}
+// The days and the example of docs/SCOPE.md, and three days more; then the sources' examples, from the surfaces of document 000 and the
+// entries of document 002. One more is a file in data/ and a name here.
+const FILES: [&str; 23] = [
+    "P1.book",
+    "P2.book",
+    "P3.book",
+    "P4.book",
+    "P5.book",
+    "P6.book",
+    "P7.book",
+    "P8.book",
+    "P9.book",
+    "P10.book",
+    "P11.book",
+    "P12.book",
+    "Q1.book",
+    "Q2.book",
+    "Q3.book",
+    "example.book",
+    "example_32.book",
+    "surface_inventaris.book",
+    "surface_boek.book",
+    "surface_schrijver.book",
+    "surface_text.book",
+    "entry_2_2.book",
+    "entry_2_1.book",
+];
 
 // The name of a file, and its book's listing; of a file that cannot be opened what is wrong with it, on standard error.
 fn day(rt: &(impl Files + Print + Eprint + AllocGlobal), name: &str) -> io::Result<()> {
@@ -59,7 +56,7 @@ fn day(rt: &(impl Files + Print + Eprint + AllocGlobal), name: &str) -> io::Resu
     }
 }
 
-// All of a file, or so much of it as shows that it is over the longest input.
+// All of a file, or so much of it as shows that it is over the longest input. (As in listing, which says why it stands twice.)
 fn read_book<R: Read + Drop>(alloc: Global, file: R) -> io::Result<Vec<u8>> {
     let mut book = Vec::new(alloc);
     file.take(INPUT_LIMIT as u64 + 1).read_to_end(&mut book)?;
@@ -75,8 +72,9 @@ fn list(rt: &impl Print, book: &[u8]) -> io::Result<()> {
 }
 
 fn main(rt: HostRuntime) -> io::Result<()> {
-    days(&rt)?;
-    sources(&rt)?;
+    for name in FILES {
+        day(&rt, name)?;
+    }
     books::lent(&rt)?;
     books::listings(&rt)?;
     books::fields(&rt)?;

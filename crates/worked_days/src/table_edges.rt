@@ -1,7 +1,6 @@
 // The edges of docs/SCOPE.md, section 10.1, for tables and walks, one line each: what was tried, and the refusal's number, or 0.
-ghost use Rattle.std.specs.Prelude.{◌≤◌};
-
-use crate::parts::{NAME, ROOM, buffer, count, large_buffer, put, put_names};
+use crate::parts::{NAME, buffer, count, large_buffer, named};
+use std::alloc::{AllocError, Global};
 use std::io;
 
 // A class field: context, k = 1, h = 1. Then the example table of docs/SCOPE.md, section 8.
@@ -17,18 +16,14 @@ const P2: [u8; 57] =
 // A state that accepts, without arcs: the last of a table.
 const END: [u8; 4] = *b"\x04\x00\x01\x01";
 
-// Appends so many states that do not accept, the first of them state 0, each with an arc by name 0 to the next.
-fn put_chain(out: &mut [u8; ROOM], from: usize, count: usize) -> usize
-    requires { from ≤ 4096 }
-    ensures { result ≤ 4096 }
-{
-    let mut at = from;
-    for i in 0..count {
-        let next = i + 1;
-        let state = [4, 0, 4, 0, 0, (next / 256 % 256) as u8, (next % 256) as u8];
-        at = put(out, at, &state);
+// So many states that do not accept, the first of them state 0, each with an arc by name 0 to the next.
+fn chain(alloc: Global, count: u16) -> Result<Vec<u8>, AllocError> {
+    let mut states = Vec::new(alloc);
+    for state in 0..count {
+        let [high, low] = (state + 1).to_be_bytes();
+        states.extend_from_slice(&[4, 0, 4, 0, 0, high, low])?;
     }
-    at
+    Ok(states)
 }
 
 // A table rewritten into an output that is long enough for it.
@@ -37,19 +32,6 @@ fn table(rt: &impl Print, tried: &str, bytes: &[u8]) -> io::Result<()> {
     let mut out = buffer();
     let built = plans::rewrite_table(bytes, &mut work, &mut out);
     count(rt, tried, "", built.refusal as u64)
-}
-
-// The table that stands before `end`.
-fn table_before(rt: &impl Print, tried: &str, bytes: &[u8], end: usize) -> io::Result<()> {
-    if end <= bytes.len() {
-        return table(rt, tried, &bytes[..end]);
-    }
-    Ok(())
-}
-
-// The same in a buffer. (Of an array behind a reference the prover lends only the whole.)
-fn table_in(rt: &impl Print, tried: &str, buffer: &[u8; ROOM], end: usize) -> io::Result<()> {
-    table_before(rt, tried, buffer, end)
 }
 
 // A row walked over the table of P2.
@@ -143,24 +125,25 @@ fn numbering(rt: &impl Print) -> io::Result<()> {
 }
 
 // A table of a chain of states and one more, which accepts.
-fn states(rt: &impl Print, tried: &str, chain: usize) -> io::Result<()> {
-    let mut out = buffer();
-    let name = put(&mut out, 0, &NAME);
-    let class = put(&mut out, name, &CLASS);
-    let last = put_chain(&mut out, class, chain);
-    let end = put(&mut out, last, &END);
-    table_in(rt, tried, &out, end)
+fn states(rt: &(impl Print + AllocGlobal), tried: &str, more: u16) -> io::Result<()> {
+    let alloc = rt.alloc();
+    let before = chain(alloc, more)?;
+    let file = [&NAME[..], &CLASS, &before, &END].concat(alloc)?;
+    table(rt, tried, &file)
+}
+
+// A table of one state with so many names.
+fn names(rt: &(impl Print + AllocGlobal), tried: &str, count: u8) -> io::Result<()> {
+    let alloc = rt.alloc();
+    let names = named(alloc, count)?;
+    let file = [&names[..], &CLASS, &END].concat(alloc)?;
+    table(rt, tried, &file)
 }
 
 // The limits on names and states: 7, and what just passes.
-fn limits(rt: &impl Print) -> io::Result<()> {
-    let mut out = buffer();
-    let names = put_names(&mut out, 64);
-    let class = put(&mut out, names, &CLASS);
-    let end = put(&mut out, class, &END);
-    table_in(rt, "64 names", &out, end)?;
-    let more = put_names(&mut out, 65);
-    table_in(rt, "65 names", &out, more)?;
+fn limits(rt: &(impl Print + AllocGlobal)) -> io::Result<()> {
+    names(rt, "64 names", 64)?;
+    names(rt, "65 names", 65)?;
     states(rt, "42 states, through which only a row of 41 leads", 41)?;
     states(rt, "512 states", 511)?;
     states(rt, "513 states", 512)
@@ -174,7 +157,7 @@ fn rows(rt: &impl Print) -> io::Result<()> {
 }
 
 // A good table, then the edges.
-pub fn all(rt: &impl Print) -> io::Result<()> {
+pub fn all(rt: &(impl Print + AllocGlobal)) -> io::Result<()> {
     table(rt, "the example", &GOOD)?;
     sizes(rt)?;
     fields(rt)?;

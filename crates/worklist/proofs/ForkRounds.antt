@@ -16,12 +16,6 @@ use Rattle.worklist.proofs.ForkLaws.{closing_kept, closing-next, kept-closed}
 
 -- ---- pair after pair of the queue
 
--- none joined yet
-pub settled_none :
-    {n : ℕ} {names numbers above links heads firsts seconds : List ℕ} {tail : ℕ} → Forest n above →
-    SettledForks n names numbers above above links heads links heads firsts seconds firsts seconds tail 0 tail
-settled_none forest = record { forest = forest; coarser = λ x y hx hy e. e; closing = λ parents start closing. closing }
-
 module _ {n : ℕ} {names numbers above₀ above links₀ heads₀ links heads firsts₀ seconds₀ firsts seconds : List ℕ}
     {tail₀ done tail : ℕ}
     (so_far : SettledForks n names numbers above₀ above links₀ heads₀ links heads firsts₀ seconds₀ firsts seconds tail₀ done

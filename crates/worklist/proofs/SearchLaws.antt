@@ -1,13 +1,13 @@
 -- Laws of the search on two lists of arcs: both are followed by ascending name, and every pair of arcs of one name after which
 -- enough names can be walked is still to come; at the end of a list there is none. Assumes nothing.
 use mathlib.Core.Path.{◌≡◌, refl, sym, ap, ◌∙◌, subst, subst₂}
-use mathlib.Core.Logic.{⊎_elim}
+use mathlib.Core.Logic.{◌⊎◌, ⊎_elim}
 use mathlib.Core.List.{List}
 use Prim.Native.Nat.{ℕ, zero, suc, ◌+◌, ◌<◌, ◌≤◌}
 use native.Mathlib.Omega.{arith}
 use lib.ListN.{get_or}
 use Rattle.base.specs.Limits.{state_limit}
-use Rattle.base.proofs.Tests.{eq_dec, le_or_lt}
+use Rattle.base.proofs.Tests.{le_or_lt}
 use Rattle.indexed.specs.Trees.{Arrays}
 use Rattle.indexed.specs.Partitions.{Share}
 use Rattle.base.proofs.Places.{number_at}
@@ -90,16 +90,6 @@ record StandsFor (n : ℕ) (names groups rows : List ℕ) (g v : ℕ) : Type 0 w
 module _
     {n : ℕ} {parents names groups links heads : List ℕ} (lists : ForkLists n parents names groups links heads) (i : ℕ)
     {x y : ℕ} (x-low : x < state_limit) (y-low : y < state_limit) where
-  pub walking_start :
-      (p q : ℕ) → p ≡ get_or heads x 0 → q ≡ get_or heads y 0 → Walking n parents names groups lists.rows i x y p q
-  walking_start p q p-is q-is =
-      record {
-        from = 0;
-        first = subst (Next n names lists.rows x 0) (sym p-is) (lists.kind.sorted.head x x-low);
-        second = subst (Next n names lists.rows y 0) (sym q-is) (lists.kind.sorted.head y y-low);
-        rest = λ c d hc hd in-x in-y after. omega arith;
-      }
-
   module _
       {p q : ℕ} (walking : Walking n parents names groups lists.rows i x y p q) {u w : ℕ} (p-is : p ≡ suc u) (q-is : q ≡ suc w)
       {p' q' : ℕ} (past-u : Past names links u (get_or names w 0) p') (past-w : Past names links w (get_or names u 0) q') where
@@ -211,7 +201,7 @@ module _
         }
 
     -- at the end of either list there is no pair left
-    pub walking-none : ((0 < p) × (0 < q) → ⊥) → Share n parents names groups (suc i) x y → ⊥
+    pub walking-none : (p ≡ 0) ⊎ (q ≡ 0) → Share n parents names groups (suc i) x y → ⊥
     walking-none end (v, z, v_above, z-above, hv, hz, alike, from_x, from_y, share) =
         let for-v : StandsFor n names groups lists.rows x v = stands x v x-root v_above hv from_x in
         let for-z : StandsFor n names groups lists.rows y z = stands y z y-root z-above hz from_y in
@@ -222,7 +212,4 @@ module _
         walking.rest c d for-v.inside for-z.inside for-v.listed for-z.listed
         (record { alike = same; share = share_groups n parents names groups i v z c d for-v.one for-z.one share }) in
         ⊎_elim (λ (none : p ≡ 0). walking.first.none none c for-v.inside for-v.listed due)
-        (λ (goes : p ≡ 0 → ⊥).
-        ⊎_elim
-        (λ (none : q ≡ 0). walking.second.none none d for-z.inside for-z.listed (omega (arith, due, same)))
-        (λ (too : q ≡ 0 → ⊥). end (omega arith, omega arith)) (eq_dec q 0)) (eq_dec p 0)
+        (λ (none : q ≡ 0). walking.second.none none d for-z.inside for-z.listed (omega (arith, due, same))) end

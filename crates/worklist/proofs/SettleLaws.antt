@@ -5,11 +5,10 @@ use mathlib.Core.Bool.{Bool}
 use mathlib.Core.List.{List}
 use Prim.Native.Nat.{ℕ, suc, ◌<◌, ◌≤◌}
 use native.Mathlib.Omega.{arith}
-use lib.ListN.{length, get_or}
+use lib.ListN.{get_or}
 use Rattle.indexed.specs.Partitions.{Refines}
 use Rattle.partition.specs.Joins.{JoinedTwo}
 use Rattle.partition.specs.Forests.{Forest, roots_of, JoinedRoots}
-use Rattle.partition.proofs.ForestLaws.{flat_roots}
 use Rattle.partition.proofs.RootLaws.{roots_two}
 use Rattle.worklist.specs.Settling.{RoundReady, RoundClosed, JoinedUntil, QueueRoom, FilledAll, ListedAll, MergedAll}
 use Rattle.worklist.specs.Settling.{Joins, Settling, SettledAt}
@@ -46,28 +45,6 @@ module _ {n : ℕ} {parents names numbers keys more : List ℕ} where
         others = kind-filled all.others 0 (omega arith) (grew_none firsts' seconds' tail);
         room = omega (arith, ready.few, all.forks.counted, all.backs.counted, all.others.counted);
       }
-
-  -- the same by the number of parents, with the partition as a forest
-  pub settling_opened :
-      {groups fl fh bl bh ml mh firsts seconds : List ℕ} {tail : ℕ} →
-      Settling n parents names numbers keys more groups groups fl fh bl bh ml mh firsts seconds 0 tail →
-      Settling (length parents) parents names numbers keys more (roots_of groups) (roots_of groups) fl fh bl bh ml mh firsts seconds
-      0 tail
-  settling_opened {groups} {fl} {fh} {bl} {bh} {ml} {mh} {firsts} {seconds} {tail} settling =
-      subst₂
-      (λ (m : ℕ) (labels : List ℕ).
-      Settling m parents names numbers keys more labels labels fl fh bl bh ml mh firsts seconds 0 tail)
-      (sym settling.ready.parents_size) (sym (flat_roots n groups settling.ready.labelled)) settling
-
-  -- and what it ends with, the other way round
-  pub settled_flat :
-      {groups labels groups' : List ℕ} → RoundReady n parents names numbers keys more groups → groups' ≡ labels →
-      JoinedUntil (RoundClosed (length parents) parents names numbers keys more) (length parents) (roots_of groups) labels →
-      JoinedUntil (RoundClosed n parents names numbers keys more) n groups groups'
-  settled_flat {groups} {labels} ready flat until =
-      subst (λ (l : List ℕ). JoinedUntil (RoundClosed n parents names numbers keys more) n groups l) (sym flat)
-      (subst₂ (λ (m : ℕ) (l : List ℕ). JoinedUntil (RoundClosed m parents names numbers keys more) m l labels)
-      ready.parents_size (flat_roots n groups ready.labelled) until)
 
   module _ {start groups fl fh bl bh ml mh firsts seconds : List ℕ} {done tail : ℕ}
       (settling : Settling n parents names numbers keys more start groups fl fh bl bh ml mh firsts seconds done tail) where

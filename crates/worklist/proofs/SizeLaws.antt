@@ -2,16 +2,12 @@
 -- Assumes nothing.
 use mathlib.Core.Path.{◌≡◌, sym, ap, ◌∙◌, subst}
 use mathlib.Core.List.{List}
-use Prim.Native.Nat.{ℕ, ◌+◌, ◌<◌, ◌≤◌}
-use native.Mathlib.Omega.{arith}
+use Prim.Native.Nat.{ℕ, ◌<◌}
 use lib.ListN.{length, get_or}
-use Rattle.base.specs.Limits.{state_limit}
 use Rattle.base.specs.Lists.{numbers_from}
-use Rattle.indexed.specs.Partitions.{Labelled}
 use Rattle.base.proofs.Places.{number_at, length-numbers_from}
 use Rattle.partition.specs.Forests.{Forest, JoinedRoots}
-use Rattle.worklist.specs.Lists.{pair_limit, Sorted, Merged}
-use Rattle.worklist.specs.Settling.{NoLists, QueueRoom}
+use Rattle.worklist.specs.Lists.{Sorted, Merged}
 
 -- the states' own numbers: how many they are, and that each is a state
 pub own-size : {n : ℕ} {numbers : List ℕ} → numbers ≡ numbers_from n 0 → length numbers ≡ n
@@ -20,29 +16,6 @@ own-size {n} own = ap length own ∙ length-numbers_from n 0
 pub own_below : {n : ℕ} {numbers : List ℕ} → numbers ≡ numbers_from n 0 → (v : ℕ) → v < n → get_or numbers v 0 < n
 own_below {n} own v h =
     subst (λ (x : ℕ). x < n) (sym (ap (λ (l : List ℕ). get_or l v 0) own ∙ number_at n v h)) h
-
--- what filling asks, in its order
-pub fill_asked :
-    (ins outs keys : List ℕ) (tail : ℕ) {groups links heads firsts seconds : List ℕ} → length groups ≤ state_limit →
-    length ins ≡ length groups → length outs ≡ length groups → length keys ≡ length groups →
-    ((v : ℕ) → v < length groups → get_or ins v 0 < length groups) → Labelled (length groups) groups →
-    tail + length groups ≤ pair_limit → NoLists links heads → QueueRoom firsts seconds →
-    (length groups ≤ state_limit)
-    × ((length ins ≡ length groups)
-    × ((length outs ≡ length groups)
-    × ((length keys ≡ length groups)
-    × (((v : ℕ) → v < length groups → get_or ins v 0 < length groups)
-    × (Labelled (length groups) groups
-    × (((g : ℕ) → get_or heads g 0 ≡ 0)
-    × ((tail + length groups ≤ pair_limit)
-    × ((length links ≡ state_limit)
-    × ((length heads ≡ state_limit) × ((length firsts ≡ pair_limit) × (length seconds ≡ pair_limit)))))))))))
-fill_asked ins outs keys tail {links = links} {heads} {firsts} {seconds} few sized-ins sized-outs sized-keys below labelled room
-    none queue =
-    let lists : (length links ≡ state_limit)
-    × ((length heads ≡ state_limit) × ((length firsts ≡ pair_limit) × (length seconds ≡ pair_limit))) =
-    (none.links_size, (none.heads_size, (queue.firsts_size, queue.seconds_size))) in
-    (few, (sized-ins, (sized-outs, (sized-keys, (below, (labelled, (none.empty, (room, lists))))))))
 
 -- lists by the number of their keys
 pub sorted_by_keys :
@@ -68,8 +41,3 @@ pub roots_by_states :
     JoinedRoots n above above' v w to from
 roots_by_states {above = above} {above'} {v} {w} {to} {from} forest roots =
     subst (λ (m : ℕ). JoinedRoots m above above' v w to from) forest.size roots
-
--- a partition as a forest
-pub flat_by_states : {n m : ℕ} {groups : List ℕ} → m ≡ n → Labelled n groups → Forest m groups
-flat_by_states same labelled =
-    record { size = labelled.size ∙ sym same; low = λ v h. labelled.low v (omega arith) }

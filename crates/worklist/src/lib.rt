@@ -1,277 +1,105 @@
 // Joins until closed, by a queue of pairs of states. For each group one arc of each key is kept, in lists by ascending key; where
 // two groups become one their lists are merged, and two arcs of one key put a pair into the queue. There are three kinds of arcs:
-// along the tree's arcs by their names, and two sets of keys against them, of which the second may have none; links1 and heads1
-// are the lists of the first kind, and so on.
+// along the tree's arcs by their names, and two sets of keys against them, of which the second may be missing.
 #![tactic(auto)]
 
+pub mod arcs;
 pub mod forks;
+mod kinds;
 pub mod lists;
 pub mod search;
 
-ghost use Rattle.std.specs.Prelude.{◌≡◌, false, List, ℕ, ◌<◌, length};
+ghost use Rattle.std.specs.Prelude.{◌≡◌, List, ℕ, ◌<◌, length, option_copied};
 ghost use Rattle.base.specs.Limits.{state_limit};
 ghost use Rattle.partition.specs.Forests.{Forest, roots_of};
-ghost use Rattle.worklist.specs.Settling.{RoundReady, RoundClosed, JoinedUntil, NoKeys, NoLists, QueueRoom, FilledAll};
-ghost use Rattle.worklist.specs.Settling.{ListedAll, MergedAll, Settling, SettledAt, SettledAll};
+ghost use Rattle.worklist.specs.Keys.{given_keys};
+ghost use Rattle.worklist.specs.Settling.{RoundReady, RoundClosed, JoinedUntil};
+ghost use Rattle.worklist.specs.Kinds.{ReadyBy, NoArcs, FilledBy, ListedBy, MergedBy, SettlingBy, SettledBy};
 
-use crate::lists::PAIR_LIMIT;
-use base::limits::STATE_LIMIT;
-use base::numbers::wide16;
+use crate::kinds::{Kinds, Rules};
 use partition::forest;
+use partition::forest::Roots;
 
-// Puts all arcs of three kinds into their lists, of two where the second set has no keys. Returns the queue's tail.
-fn fill_all(
-    both: bool,
-    parents: &[u16],
-    names: &[u8],
-    numbers: &[u16],
-    keys: &[u8],
-    more: &[u8],
-    groups: &[u16],
-    links1: &mut [u16; STATE_LIMIT],
-    heads1: &mut [u16; STATE_LIMIT],
-    links2: &mut [u16; STATE_LIMIT],
-    heads2: &mut [u16; STATE_LIMIT],
-    links3: &mut [u16; STATE_LIMIT],
-    heads3: &mut [u16; STATE_LIMIT],
-    firsts: &mut [u16; PAIR_LIMIT],
-    seconds: &mut [u16; PAIR_LIMIT],
-) -> usize
-    requires ready { RoundReady (length groups.now) parents.now names.now numbers.now keys.now more.now
-        groups.now }
-    requires no_forks { NoLists links1.old heads1.old }
-    requires no_backs { NoLists links2.old heads2.old }
-    requires no_others { NoLists links3.old heads3.old }
-    requires queue { QueueRoom firsts.old seconds.old }
-    requires one_set { both ≡ false → NoKeys (length groups.now) more.now }
-    ensures { FilledAll (length groups.now) parents.now names.now numbers.now
-        keys.now more.now groups.now links1.new heads1.new
-        links2.new heads2.new links3.new heads3.new firsts.old
-        seconds.old firsts.new seconds.new 0 result }
+// Puts all arcs of three kinds into their lists, of two where there is no second set of keys.
+fn fill_all(rules: Rules, groups: &[u16], kinds: &mut Kinds)
+    requires ready { ReadyBy (length groups.now) rules groups.now }
+    requires empty { NoArcs kinds.old }
+    ensures { FilledBy (length groups.now) rules.entry groups.now kinds.old kinds.new }
 {
-    let forks = lists::fill(
-        parents, numbers, names, groups, links1, heads1, firsts, seconds, 0,
-    );
-    let backs = lists::fill(
-        numbers, parents, keys, groups, links2, heads2, firsts, seconds, forks,
-    );
-    if !both {
-        return backs;
+    kinds
+        .forks
+        .fill(rules.parents, rules.forks(), groups, &mut kinds.queue);
+    kinds
+        .backs
+        .fill(rules.numbers, rules.backs(), groups, &mut kinds.queue);
+    if let Some(others) = rules.others() {
+        kinds
+            .others
+            .fill(rules.numbers, others, groups, &mut kinds.queue);
     }
-    lists::fill(
-        numbers, parents, more, groups, links3, heads3, firsts, seconds, backs,
-    )
 }
 
-// Merges the lists of two groups, of all three kinds. Returns the queue's tail.
-fn merge_all(
-    parents: &[u16],
-    names: &[u8],
-    numbers: &[u16],
-    keys: &[u8],
-    more: &[u8],
-    links1: &mut [u16; STATE_LIMIT],
-    heads1: &mut [u16; STATE_LIMIT],
-    links2: &mut [u16; STATE_LIMIT],
-    heads2: &mut [u16; STATE_LIMIT],
-    links3: &mut [u16; STATE_LIMIT],
-    heads3: &mut [u16; STATE_LIMIT],
-    firsts: &mut [u16; PAIR_LIMIT],
-    seconds: &mut [u16; PAIR_LIMIT],
-    tail: usize,
-    to: usize,
-    from: usize,
-) -> usize
+// Merges the lists of two groups, of all kinds.
+fn merge_all(rules: Rules, kinds: &mut Kinds, to: usize, from: usize)
     requires listed { (rows1 rows2 rows3 : List ℕ) ×
-        ListedAll (length parents.now) names.now keys.now more.now rows1 rows2 rows3 links1.old
-        heads1.old links2.old heads2.old links3.old heads3.old tail }
-    requires queue { QueueRoom firsts.old seconds.old }
-    requires numbers_size { length numbers.now ≡ length parents.now }
+        ListedBy (length rules.parents.now) rules rows1 rows2 rows3 kinds.old }
     requires lower { to < from }
     requires inside { from < state_limit }
     ensures { (rows1 rows2 rows3 : List ℕ) →
-        ListedAll (length parents.now) names.now keys.now more.now rows1 rows2
-        rows3 links1.old heads1.old links2.old heads2.old
-        links3.old heads3.old tail →
-        MergedAll (length parents.now) parents.now names.now numbers.now
-        keys.now more.now rows1 rows2 rows3 to from links1.new
-        heads1.new links2.new heads2.new links3.new heads3.new
-        firsts.old seconds.old firsts.new seconds.new tail result }
+        ListedBy (length rules.entry.parents.now) rules.entry rows1 rows2 rows3 kinds.old →
+        MergedBy (length rules.entry.parents.now) rules.entry rows1 rows2 rows3 to from kinds.old kinds.new }
 {
-    let forks = lists::merge(
-        numbers, names, links1, heads1, firsts, seconds, tail, to, from,
-    );
-    let backs = lists::merge(
-        parents, keys, links2, heads2, firsts, seconds, forks, to, from,
-    );
-    lists::merge(
-        parents, more, links3, heads3, firsts, seconds, backs, to, from,
-    )
-}
-
-// Joins the pair at `done`, where its states are of two groups, and merges the lists of both. Returns the queue's tail.
-fn settle_at(
-    parents: &[u16],
-    names: &[u8],
-    numbers: &[u16],
-    keys: &[u8],
-    more: &[u8],
-    groups: &mut [u16],
-    links1: &mut [u16; STATE_LIMIT],
-    heads1: &mut [u16; STATE_LIMIT],
-    links2: &mut [u16; STATE_LIMIT],
-    heads2: &mut [u16; STATE_LIMIT],
-    links3: &mut [u16; STATE_LIMIT],
-    heads3: &mut [u16; STATE_LIMIT],
-    firsts: &mut [u16; PAIR_LIMIT],
-    seconds: &mut [u16; PAIR_LIMIT],
-    done: usize,
-    tail: usize,
-) -> usize
-    requires forest { Forest (length parents.now) groups.old }
-    requires settling { (start : List ℕ) ×
-        Settling (length parents.now) parents.now names.now numbers.now keys.now more.now start (roots_of groups.old)
-        links1.old heads1.old links2.old heads2.old links3.old heads3.old firsts.old seconds.old done tail }
-    requires due { done < tail }
-    ensures { SettledAt (length parents.now) parents.now names.now numbers.now
-        keys.now more.now groups.old groups.new links1.old
-        heads1.old links2.old heads2.old links3.old heads3.old
-        links1.new heads1.new links2.new heads2.new links3.new
-        heads3.new firsts.old seconds.old firsts.new seconds.new done tail
-        result }
-{
-    let roots = forest::join(groups, wide16(firsts[done]), wide16(seconds[done]));
-    if roots.to == roots.from {
-        return tail;
+    kinds.forks.merge(rules.forks(), &mut kinds.queue, to, from);
+    kinds.backs.merge(rules.backs(), &mut kinds.queue, to, from);
+    if let Some(others) = rules.others() {
+        kinds.others.merge(others, &mut kinds.queue, to, from);
     }
-    merge_all(
-        parents, names, numbers, keys, more, links1, heads1, links2, heads2, links3, heads3,
-        firsts, seconds, tail, roots.to, roots.from,
-    )
 }
 
 // Joins pair after pair, until none is left in the queue.
-fn settle(
-    parents: &[u16],
-    names: &[u8],
-    numbers: &[u16],
-    keys: &[u8],
-    more: &[u8],
-    groups: &mut [u16],
-    links1: &mut [u16; STATE_LIMIT],
-    heads1: &mut [u16; STATE_LIMIT],
-    links2: &mut [u16; STATE_LIMIT],
-    heads2: &mut [u16; STATE_LIMIT],
-    links3: &mut [u16; STATE_LIMIT],
-    heads3: &mut [u16; STATE_LIMIT],
-    firsts: &mut [u16; PAIR_LIMIT],
-    seconds: &mut [u16; PAIR_LIMIT],
-    tail: usize,
-)
-    requires forest { Forest (length parents.now) groups.old }
-    requires settling { Settling (length parents.now) parents.now names.now numbers.now keys.now more.now
-        (roots_of groups.old) (roots_of groups.old) links1.old heads1.old links2.old heads2.old links3.old
-        heads3.old firsts.old seconds.old 0 tail }
-    ensures { SettledAll (length parents.now) parents.now names.now numbers.now
-        keys.now more.now groups.old groups.new }
+fn settle(rules: Rules, groups: &mut [u16], kinds: &mut Kinds)
+    requires forest { Forest (length rules.parents.now) groups.old }
+    requires settling { SettlingBy (length rules.parents.now) rules (roots_of groups.old) (roots_of groups.old) kinds.old 0 }
+    ensures { SettledBy (length rules.entry.parents.now) rules.entry groups.old groups.new }
 {
     let mut done = 0;
-    let mut end = tail;
-    while done < end {
-        end = settle_at(
-            parents, names, numbers, keys, more, groups, links1, heads1, links2, heads2, links3,
-            heads3, firsts, seconds, done, end,
-        );
+    while let Some((v, w)) = kinds.queue.pair(done) {
+        if let Some(Roots { to, from }) = forest::join(groups, v, w) {
+            merge_all(rules, kinds, to, from);
+        }
         done += 1;
     }
 }
 
-// What `close` does, with its arrays made. Where no pair is queued the partition is closed as it is, and is left.
-fn close_in(
-    both: bool,
-    parents: &[u16],
-    names: &[u8],
-    numbers: &[u16],
-    keys: &[u8],
-    more: &[u8],
-    groups: &mut [u16],
-    links1: &mut [u16; STATE_LIMIT],
-    heads1: &mut [u16; STATE_LIMIT],
-    links2: &mut [u16; STATE_LIMIT],
-    heads2: &mut [u16; STATE_LIMIT],
-    links3: &mut [u16; STATE_LIMIT],
-    heads3: &mut [u16; STATE_LIMIT],
-    firsts: &mut [u16; PAIR_LIMIT],
-    seconds: &mut [u16; PAIR_LIMIT],
-)
-    requires ready { RoundReady (length groups.old) parents.now names.now numbers.now keys.now more.now
-        groups.old }
-    requires no_forks { NoLists links1.old heads1.old }
-    requires no_backs { NoLists links2.old heads2.old }
-    requires no_others { NoLists links3.old heads3.old }
-    requires queue { QueueRoom firsts.old seconds.old }
-    requires one_set { both ≡ false → NoKeys (length groups.old) more.now }
-    ensures { JoinedUntil
-        (RoundClosed (length groups.old) parents.now names.now numbers.now
-        keys.now more.now)
-        (length groups.old) groups.old groups.new }
-{
-    let tail = fill_all(
-        both, parents, names, numbers, keys, more, groups, links1, heads1, links2, heads2, links3,
-        heads3, firsts, seconds,
-    );
-    if tail == 0 {
-        return;
-    }
-    settle(
-        parents, names, numbers, keys, more, groups, links1, heads1, links2, heads2, links3,
-        heads3, firsts, seconds, tail,
-    );
-    forest::flatten(groups);
-}
-
-// Joins groups until the partition is closed under forks and under both sets of keys against the arcs; `both` is false where the
-// second set has none.
+// Joins groups until the partition is closed under forks and under both sets of keys against the arcs, or under one where there is
+// no other. Where no pair is queued the partition is closed as it is, and is left.
 pub fn close(
-    both: bool,
     parents: &[u16],
     names: &[u8],
     numbers: &[u16],
     keys: &[u8],
-    more: &[u8],
+    more: Option<&[u8]>,
     groups: &mut [u16],
 )
-    requires ready { RoundReady (length groups.old) parents.now names.now numbers.now keys.now more.now
-        groups.old }
-    requires one_set { both ≡ false → NoKeys (length groups.old) more.now }
+    requires ready { RoundReady (length groups.old) parents.now names.now numbers.now keys.now
+        (given_keys (length groups.old) (option_copied more)) groups.old }
     ensures { JoinedUntil
         (RoundClosed (length groups.old) parents.now names.now numbers.now
-        keys.now more.now)
+        keys.now (given_keys (length groups.old) (option_copied more.entry)))
         (length groups.old) groups.old groups.new }
 {
-    let mut links1 = [0u16; STATE_LIMIT];
-    let mut heads1 = [0u16; STATE_LIMIT];
-    let mut links2 = [0u16; STATE_LIMIT];
-    let mut heads2 = [0u16; STATE_LIMIT];
-    let mut links3 = [0u16; STATE_LIMIT];
-    let mut heads3 = [0u16; STATE_LIMIT];
-    let mut firsts = [0u16; PAIR_LIMIT];
-    let mut seconds = [0u16; PAIR_LIMIT];
-    close_in(
-        both,
+    let rules = Rules {
         parents,
         names,
         numbers,
         keys,
         more,
-        groups,
-        &mut links1,
-        &mut heads1,
-        &mut links2,
-        &mut heads2,
-        &mut links3,
-        &mut heads3,
-        &mut firsts,
-        &mut seconds,
-    );
+    };
+    let mut kinds = Kinds::new();
+    fill_all(rules, groups, &mut kinds);
+    if kinds.queue.tail == 0 {
+        return;
+    }
+    settle(rules, groups, &mut kinds);
+    forest::flatten(groups);
 }

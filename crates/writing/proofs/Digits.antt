@@ -84,13 +84,38 @@ decimal-length_5 n l h =
 
 -- ---- the loop that writes a number's digits, the last first
 
--- the digits of `left` are still to be written from `at` up to i; those after them stand from i on
+-- the last so many digits of a number, which may begin with zeros
+unfoldable pub last_digits : ℕ → ℕ → List ℕ
+last_digits zero n = []
+last_digits (suc k) n = last_digits k (n / 10) ++ ((48 + n % 10) ∷ [])
+
+-- as many as it has are all
+one_is_all : (f n : ℕ) → n < 10 → digits f n ≡ last_digits (length (digits f n)) n
+unfolding last_digits
+one_is_all f n h = let one : 48 + n ≡ 48 + n % 10 = omega arith in rw (one_digit f n h, one) refl
+
+all_digits : (f n : ℕ) → n < 10 ^ suc f → digits f n ≡ last_digits (length (digits f n)) n
+unfolding last_digits
+all_digits zero n h = one_is_all zero n (omega arith)
+all_digits (suc f) n h = go (ltb n 10) refl (λ l. all_digits f (n / 10) l)
+  where
+    go :
+        (b : Bool) → ltb n 10 ≡ b →
+        (n / 10 < 10 ^ suc f → digits f (n / 10) ≡ last_digits (length (digits f (n / 10))) (n / 10)) →
+        digits (suc f) n ≡ last_digits (length (digits (suc f) n)) n
+    go true e again = one_is_all (suc f) n (ltb-true n 10 e)
+    go false e again =
+        let large = ltb-false n 10 e in
+        let size : length (digits (suc f) n) ≡ suc (length (digits f (n / 10))) = omega (arith, more-digits_length f n large) in
+        rw (size, more-digits f n large)
+        (ap (λ (l : List ℕ). l ++ ((48 + n % 10) ∷ [])) (again (omega (arith, pow-suc 10 (suc f)))))
+
+-- the last digits of `left` are still to be written from `at` up to i; those after them stand from i on
 pub record DigitsLeft (out₀ : List ℕ) (at value : ℕ) (out : List ℕ) (i left : ℕ) : Type 0 where
-  pub fuel : ℕ
-  pub below : left < 10 ^ suc fuel
+  pub ahead : ℕ
   pub later : List ℕ
-  pub whole : decimal value ≡ digits fuel left ++ later
-  pub reached : i ≡ at + length (digits fuel left)
+  pub whole : decimal value ≡ last_digits ahead left ++ later
+  pub reached : i ≡ at + ahead
   pub written : Written out₀ out i later
 
 -- at the start all are to be written
@@ -99,19 +124,12 @@ pub digits-start :
     DigitsLeft out at value out end value
 digits-start out at value end h e =
     record {
-      fuel = 4;
-      below = omega arith;
+      ahead = length (decimal value);
       later = [];
-      whole = sym (append-nil (decimal value));
+      whole = all_digits 4 value (omega arith) ∙ sym (append-nil _);
       reached = e;
       written = none_written out end;
     }
-
--- there is one more to write
-pub digits_more : {out₀ : List ℕ} {at value : ℕ} {out : List ℕ} {i left : ℕ} → DigitsLeft out₀ at value out i left → at < i
-digits_more {out₀} {at} {value} {out} {i} {left} d =
-    let e = d.reached in
-    omega (arith, digits-length d.fuel left)
 
 -- a byte in front of i
 byte_back :
@@ -121,36 +139,35 @@ byte_back {out₀} {out} {i} {later} b w h fits =
     let back : i ≡ suc (i - 1) = omega arith in
     byte_before b (subst (λ (n : ℕ). Written out₀ out n later) back w) (omega arith)
 
--- a turn: the last of several digits
+-- a turn
 pub digits-turn :
-    {out₀ : List ℕ} {at value : ℕ} {out : List ℕ} {i left : ℕ} → DigitsLeft out₀ at value out i left → 10 ≤ left →
+    {out₀ : List ℕ} {at value : ℕ} {out : List ℕ} {i left : ℕ} → DigitsLeft out₀ at value out i left → at < i →
     i ≤ length out₀ → DigitsLeft out₀ at value (set out (i - 1) (48 + left % 10)) (i - 1) (left / 10)
-digits-turn {out₀} {at} {value} {out} {i} {left} d more fits = go d.fuel d.below d.whole d.reached
+unfolding last_digits
+digits-turn {out₀} {at} {value} {out} {i} {left} d more fits = go d.ahead d.whole d.reached
   where
     go :
-        (f : ℕ) → left < 10 ^ suc f → decimal value ≡ digits f left ++ d.later → i ≡ at + length (digits f left) →
+        (k : ℕ) → decimal value ≡ last_digits k left ++ d.later → i ≡ at + k →
         DigitsLeft out₀ at value (set out (i - 1) (48 + left % 10)) (i - 1) (left / 10)
-    go zero below whole reached = let z : ⊥ = omega arith in absurd z
-    go (suc f) below whole reached =
+    go zero whole reached = absurd (omega arith)
+    go (suc k) whole reached =
         record {
-          fuel = f;
-          below = omega (arith, pow-suc 10 (suc f));
+          ahead = k;
           later = (48 + left % 10) ∷ d.later;
-          whole =
-              whole
-              ∙ ap (λ (l : List ℕ). l ++ d.later) (more-digits f left more)
-              ∙ append_assoc (digits f (left / 10)) ((48 + left % 10) ∷ []) d.later;
-          reached = omega (arith, more-digits_length f left more);
-          written = byte_back (48 + left % 10) d.written (omega (arith, digits_more d)) fits;
+          whole = whole ∙ append_assoc (last_digits k (left / 10)) ((48 + left % 10) ∷ []) d.later;
+          reached = omega arith;
+          written = byte_back (48 + left % 10) d.written (omega arith) fits;
         }
 
--- the first digit, the only one left
-pub digits_last :
-    {out₀ : List ℕ} {at value : ℕ} {out : List ℕ} {i left : ℕ} → DigitsLeft out₀ at value out i left → left < 10 →
-    i ≤ length out₀ → Written out₀ (set out (i - 1) (48 + left)) at (decimal value)
-digits_last {out₀} {at} {value} {out} {i} {left} d one fits =
-    let e : i ≡ at + 1 = omega (arith, d.reached, one_digit_length d.fuel left one) in
-    let back : i - 1 ≡ at = omega arith in
-    let bytes : decimal value ≡ (48 + left) ∷ d.later = rw (one_digit d.fuel left one) at d.whole in
-    let last = byte_back (48 + left) d.written (omega arith) fits in
-    rw (bytes, back) (rw back at last)
+-- none left
+pub digits-written :
+    {out₀ : List ℕ} {at value : ℕ} {out : List ℕ} {i left : ℕ} → DigitsLeft out₀ at value out i left → i ≤ at →
+    Written out₀ out at (decimal value)
+unfolding last_digits
+digits-written {out₀} {at} {value} {out} {i} {left} d done = go d.ahead d.whole d.reached
+  where
+    go : (k : ℕ) → decimal value ≡ last_digits k left ++ d.later → i ≡ at + k → Written out₀ out at (decimal value)
+    go zero whole reached =
+        let here : i ≡ at = omega arith in
+        rw whole (subst (λ (n : ℕ). Written out₀ out n d.later) here d.written)
+    go (suc k) whole reached = absurd (omega arith)

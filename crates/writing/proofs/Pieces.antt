@@ -1,13 +1,13 @@
 -- The pieces of which model's fields are written: a state field is its head and its arcs' parts, and arcs are written one after the
 -- other; and how many bytes a front takes (arcBytes: model's arc-bytes-length). Assumes nothing.
 use mathlib.Core.Path.{◌≡◌, refl, ap}
-use mathlib.Core.List.{List, ◌∷◌, ◌++◌, flat_map}
+use mathlib.Core.List.{List, [], ◌∷◌, ◌++◌, flat_map}
 use Prim.Native.Nat.{ℕ, ◌+◌, ◌/◌, ◌%◌, ◌≤◌}
 use native.Mathlib.Omega.{arith}
 use lib.ListN.{length, take, length-append}
 use lib.Seq.{length-take-le}
-use Rattle.base.specs.Limits.{class_bytes}
-use Rattle.model.specs.Fields.{Class}
+use Rattle.base.specs.Limits.{class_bytes, class_mark}
+use Rattle.model.specs.Fields.{Class, class_from}
 use Rattle.model.specs.Tables.{Arc, State, field_bytes, class_field, arc_bytes, state_body}
 use Rattle.writing.specs.Writing.{state_head, arc_part, front_of}
 
@@ -20,6 +20,15 @@ state-bytes s =
 class_field-length : (c : Class) → length (class_field c) ≡ class_bytes
 unfolding class_field field_bytes
 class_field-length c = refl
+
+-- a class field whose three bytes stand as they are
+pub class_field_bytes : (l : List ℕ) → length l ≡ 3 → class_field (class_from l) ≡ field_bytes class_mark l
+unfolding class_field field_bytes
+class_field_bytes [] h = absurd (omega arith)
+class_field_bytes (a ∷ []) h = absurd (omega arith)
+class_field_bytes (a ∷ (b ∷ [])) h = absurd (omega arith)
+class_field_bytes (a ∷ (b ∷ (c ∷ []))) h = refl
+class_field_bytes (a ∷ (b ∷ (c ∷ (d ∷ l)))) h = absurd (omega arith)
 
 pub front_length :
     (file : List ℕ) (names : ℕ) (c : Class) → names ≤ length file → length (front_of file names c) ≡ names + class_bytes

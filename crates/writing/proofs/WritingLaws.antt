@@ -1,13 +1,12 @@
 -- Laws of writings: nothing written, bytes stored one by one, what stands before and after, two writings one after the other, a writing
 -- from 0, the length kept, a writing or a byte in front, a copy's next byte; then of what the functions give back. Assumes nothing.
-use mathlib.Core.Path.{◌≡◌, refl, sym, ap, ◌∙◌}
+use mathlib.Core.Path.{◌≡◌, sym, ap, ◌∙◌}
 use mathlib.Core.List.{List, [], ◌∷◌, ◌++◌, append_assoc}
 use Prim.Native.Nat.{ℕ, suc, ◌+◌, ◌≤◌, ◌<◌}
 use native.Mathlib.Nat.{add-zero, zero-add}
-use native.Mathlib.Numerals.{add-one}
 use native.Mathlib.Omega.{arith}
-use lib.ListN.{length, get_or, set, take, drop, length-append, length-drop, take-append-drop}
-use lib.Seq.{sets, sets-eq, take_at, drop_at, take-append-le, take-take, drop-drop, length-take-le, take-suc}
+use lib.ListN.{length, set, take, drop, length-append, length-drop, take-append-drop}
+use lib.Seq.{sets, sets-eq, take_at, drop_at, take-append-le, take-take, drop-drop, length-take-le}
 use Rattle.writing.specs.Writing.{Written, Fits, Put}
 
 -- nothing written: the output as it was
@@ -125,29 +124,11 @@ byte_before {out} {mid} {at} {bytes} b w fits =
     omega (arith, ap length w.becomes, length-append (take (suc at) out) rest, length-take-le (suc at) out (omega arith)) in
     written-before w (byte_written mid at b low) (omega arith) (omega arith)
 
--- one byte more of a list that is copied in
-pub copy_more :
-    {out mid : List ℕ} {at : ℕ} (src : List ℕ) (i : ℕ) → Written out mid at (take i src) → length mid ≡ length out →
-    i < length src → at + length src ≤ length out → Written out (set mid (at + i) (get_or src i 0)) at (take (i + 1) src)
-copy_more {out} {mid} {at} src i w same more fits =
-    let size : length (take i src) ≡ i = length-take-le i src (omega arith) in
-    rw (add-one, take-suc src i 0 more)
-    (written-append w (byte_written mid (at + i) (get_or src i 0) (omega arith)) (omega arith) (omega arith))
-
 -- ---- of what the functions give back
 
 -- nothing put
 pub put_none : (out : List ℕ) (at : ℕ) → Put out out at [] at
 put_none out at = record { written = none_written out at; ends = sym (add-zero at) }
-
--- one byte, and two
-pub byte_put : (out : List ℕ) (at b : ℕ) → Fits out at (b ∷ []) → Put out (set out at b) at (b ∷ []) (at + 1)
-byte_put out at b fits = record { written = byte_written out at b (omega arith); ends = refl }
-
-pub two_put :
-    (out : List ℕ) (at a b : ℕ) → Fits out at (a ∷ (b ∷ [])) → Put out (set (set out at a) (at + 1) b) at (a ∷ (b ∷ [])) (at + 2)
-two_put out at a b fits =
-    record { written = rw add-one (stores_written (a ∷ (b ∷ [])) out at fits); ends = refl }
 
 -- two functions one after the other give what one would give for the appended bytes
 pub put_append :
@@ -176,10 +157,3 @@ pub put_length :
     {out out' : List ℕ} {at : ℕ} {bytes : List ℕ} {after : ℕ} → Put out out' at bytes after → Fits out at bytes →
     length out' ≡ length out
 put_length p fits = written-length p.written fits
-
--- the second of two pieces fits after the first
-pub fits_after :
-    {out mid : List ℕ} {at next : ℕ} {xs : List ℕ} (ys : List ℕ) → Put out mid at xs next → Fits out at (xs ++ ys) → Fits mid next ys
-fits_after {out} {mid} {at} {next} {xs} ys p fits =
-    let both = length-append xs ys in
-    omega (arith, p.ends, put_length p (omega arith))

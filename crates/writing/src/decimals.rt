@@ -9,19 +9,13 @@ pub fn decimal_len(value: usize) -> usize
     requires { value < number_limit }
     ensures { result ≡ length (decimal value) }
 {
-    if value < 10 {
-        return 1;
+    match value {
+        ..10 => 1,
+        ..100 => 2,
+        ..1000 => 3,
+        ..10000 => 4,
+        _ => 5,
     }
-    if value < 100 {
-        return 2;
-    }
-    if value < 1000 {
-        return 3;
-    }
-    if value < 10000 {
-        return 4;
-    }
-    5
 }
 
 // A number's digits.
@@ -32,14 +26,10 @@ pub fn put_decimal(out: &mut [u8], at: usize, value: usize) -> usize
 {
     let end = at + decimal_len(value);
     // The digits from i on are written; those of `left` are still to be written before them.
-    let mut i = end;
     let mut left = value;
-    while 10 <= left {
-        i -= 1;
-        out[i] = 48 + (left % 10) as u8;
+    for i in (at..end).rev() {
+        out[i] = b'0' + (left % 10) as u8;
         left /= 10;
     }
-    i -= 1;
-    out[i] = 48 + left as u8;
     end
 }

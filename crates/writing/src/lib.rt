@@ -1,12 +1,14 @@
 // The writer: bytes written once into a lent output, one writing after the other. Each function writes its bytes from offset `at`, or at
 // the front, leaves the rest of the output as it was, and returns the offset after them; the caller sees that they fit.
+// Stays: (d) the output and an offset go in, and the next offset comes back: a state's head and a row's are written after what follows
+// them, at an earlier offset, so that no cursor serves, and `Fits` and `Put` speak of the output before and after.
 #![tactic(auto)]
 
 pub mod decimals;
 
 ghost use Rattle.std.specs.Prelude.{◌≡◌, [], ◌∷◌, ◌+◌, ◌≤◌, ◌<◌, length};
 ghost use Rattle.base.specs.Limits.{when, number_limit};
-ghost use Rattle.model.specs.Fields.{class_of};
+ghost use Rattle.model.specs.Fields.{class_from};
 ghost use Rattle.model.specs.Tables.{two_bytes, field_bytes, class_field};
 ghost use Rattle.writing.specs.Writing.{Fits, Put, field_head, state_head, arc_part, front_of};
 
@@ -17,12 +19,11 @@ pub fn copy_in(out: &mut [u8], at: usize, src: &[u8]) -> usize
     requires { Fits out.old at src.now }
     ensures { Put out.old out.new at src.now result }
 {
-    let mut i = 0;
-    while i < src.len() {
-        out[at + i] = src[i];
-        i += 1;
+    // Stays: (a) the C interface: `copy_from_slice` takes memmove, and the library takes memcpy and memset alone (include/plans.h).
+    for (i, byte) in src.iter().enumerate() {
+        out[at + i] = *byte;
     }
-    at + i
+    at + src.len()
 }
 
 // One byte.
@@ -40,9 +41,7 @@ pub fn put_two(out: &mut [u8], at: usize, number: usize) -> usize
     requires number_lt_number_limit { number < number_limit }
     ensures { Put out.old out.new at (two_bytes number) result }
 {
-    out[at] = (number / 256) as u8;
-    out[at + 1] = (number % 256) as u8;
-    at + 2
+    copy_in(out, at, &(number as u16).to_be_bytes())
 }
 
 // A field's mark, and its length.
@@ -56,6 +55,7 @@ pub fn put_head(out: &mut [u8], at: usize, mark: u8, count: usize) -> usize
 }
 
 // A field with this mark and these bytes.
+#[tactic(auto, unfolding(model::specs::Tables::field_bytes))]
 pub fn put_field(out: &mut [u8], at: usize, mark: u8, body: &[u8]) -> usize
     requires fits { Fits out.old at (field_bytes mark body.now) }
     requires body_len_bound { length body.now < number_limit }
@@ -66,36 +66,21 @@ pub fn put_field(out: &mut [u8], at: usize, mark: u8, body: &[u8]) -> usize
 }
 
 // A class field.
-pub fn put_class(out: &mut [u8], at: usize, kind: u8, first: u8, second: u8) -> usize
-    requires { Fits out.old at (class_field (class_of kind first second)) }
-    ensures { Put out.old out.new at (class_field (class_of kind first second)) result }
+pub fn put_class(out: &mut [u8], at: usize, class: [u8; 3]) -> usize
+    requires { Fits out.old at (class_field (class_from class)) }
+    ensures { Put out.old out.new at (class_field (class_from class)) result }
 {
-    let class = [kind, first, second];
     put_field(out, at, CLASS_MARK, &class)
 }
 
 // A front with the names of another file, whose fields are its first bytes, so many: these, and then a class field.
-pub fn put_front(
-    out: &mut [u8],
-    file: &[u8],
-    names: usize,
-    kind: u8,
-    first: u8,
-    second: u8,
-) -> usize
+pub fn put_front(out: &mut [u8], file: &[u8], names: usize, class: [u8; 3]) -> usize
     requires names_in_bounds { names ≤ length file.now }
-    requires fits { Fits out.old 0 (front_of file.now names (class_of kind first second)) }
-    ensures { Put out.old out.new 0 (front_of file.now names (class_of kind first second)) result }
+    requires fits { Fits out.old 0 (front_of file.now names (class_from class)) }
+    ensures { Put out.old out.new 0 (front_of file.now names (class_from class)) result }
 {
     let next = copy_in(out, 0, &file[..names]);
-    put_class(out, next, kind, first, second)
-}
-
-// The byte that says whether a state accepts.
-fn accepts_byte(accepting: bool) -> u8
-    ensures { result ≡ when accepting 1 }
-{
-    if accepting { 1 } else { 0 }
+    put_class(out, next, class)
 }
 
 // The first four bytes of a state field whose arcs take so many bytes.
@@ -105,7 +90,7 @@ pub fn put_state(out: &mut [u8], at: usize, accepting: bool, bytes: usize) -> us
     ensures { Put out.old out.new at (state_head accepting bytes) result }
 {
     let next = put_head(out, at, STATE_MARK, 1 + bytes);
-    put_byte(out, next, accepts_byte(accepting))
+    put_byte(out, next, accepting as u8)
 }
 
 // An arc of a state field: its name and its target, as a field's mark and length.

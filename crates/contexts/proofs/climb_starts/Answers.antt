@@ -15,15 +15,15 @@ climb_all-requires-clause-starts_joined c =
     let groups = c.args.groups.now in
     let n = length groups in
     subst₂ (λ (starts labels : List ℕ). Refines n starts labels)
-    (sym (front_again n groups c.copy.new.to _ c.copy.ensures refl))
+    (sym (front_again n groups c.copy.new.to _ c.copy.ensures.after refl))
     (sym (flat_roots n groups c.requires.labelled)) (λ x y hx hy e. e)
 
 pub returns : goal.returns
 returns c =
     let groups = c.args.groups.now in
     let n = length groups in
-    subst (λ (l : List ℕ). ClimbedBelow n n c.args.m c.args.parents.now groups groups l) (sym c.flatten.ensures)
-    (subst₂ (λ (starts first : List ℕ). ClimbedBelow n n c.args.m c.args.parents.now starts first
+    subst (λ (l : List ℕ). ClimbedBelow n n c.args.m c.args.tree.parents.now groups groups l) (sym c.flatten.ensures)
+    (subst₂ (λ (starts first : List ℕ). ClimbedBelow n n c.args.m c.args.tree.parents.now starts first
     (roots_of c.climb_all.new.groups))
-    (front_again n groups c.copy.new.to _ c.copy.ensures refl) (flat_roots n groups c.requires.labelled)
+    (front_again n groups c.copy.new.to _ c.copy.ensures.after refl) (flat_roots n groups c.requires.labelled)
     c.climb_all.ensures.promised)

@@ -1,119 +1,111 @@
-use mathlib.Core.Path.{◌≡◌, refl, sym, ◌∙◌, subst}
+use mathlib.Core.Path.{refl, subst}
 use mathlib.Core.Bool.{Bool, true}
-use mathlib.Core.List.{List}
 use Prim.Native.Nat.{ℕ, ◌+◌, ◌<◌}
+use native.Mathlib.Omega.{arith}
 use lib.ListN.{length, replicate}
 use Rattle.base.proofs.Fills.{front_again}
+use Rattle.indexed.specs.Passes.{SuffixClasses}
 use Rattle.indexed.proofs.Rounds.{due}
-use Rattle.worklist.specs.Forks.{Kept, KeptClosed}
+use Rattle.worklist.specs.Forks.{Kept}
 use Rattle.contexts.specs.Joins.{SweptBy}
 use Rattle.contexts.proofs.ForkLaws.{forks-joined, kept-forks}
 use Rattle.contexts.proofs.RoundLaws.{RoundsTo, classes_front, sweep_told, rounds_none, rounds_more, rounds_less, rounds_all}
-use Rattle.base.specs.Lists.{numbers_from}
-use Rattle.contexts.specs.Rounds.{RoundReady}
 use Rattle.contexts.proofs.close_contexts.Goals as goal
+use Rattle.contexts.proofs.close_contexts.Goals.{After-sweep}
 
--- what holds before the first sweep
-none_here :
-    (n h m : ℕ) (parents names numbers before groups forked links heads firsts seconds : List ℕ) (tail : ℕ) →
-    RoundReady n h m parents names groups → numbers ≡ numbers_from n 0 → before ≡ numbers_from n 0 →
-    KeptClosed n parents names numbers groups forked links heads firsts seconds tail →
-    RoundsTo n h m parents names before forked true
-none_here n h m parents names numbers before groups forked links heads firsts seconds tail ready own own-before closed =
-    rounds_none n h m parents names before groups forked ready own-before
-    (forks-joined n parents names numbers ready.arrays own groups forked closed.until)
+-- the classes are those of as many states as there are
+by : (c : After-sweep) →
+    SuffixClasses (length c.args.groups.now) (c.args.h + 1) c.args.tree.parents.now c.args.tree.names.now c.suffix_classes.new.classes
+by c =
+    classes_front (length c.args.groups.now) (c.args.h + 1) (replicate 512 0) c.args.tree.parents.now c.args.tree.names.now
+    c.suffix_classes.new.classes c.requires.ready.arrays.few_states c.suffix_classes.ensures
 
-pub sweep-joined-requires-clause-before_size : goal.sweep-joined-requires-clause-before_size
-sweep-joined-requires-clause-before_size c =
-    let start = c.start.new in
-    let none =
-    none_here (length c.args.groups.now) c.args.h c.args.m c.args.parents.now c.args.names.now c.args.numbers.now
-    c.args.before.now c.args.groups.now start.groups start.links start.heads start.firsts start.seconds c.start.result
-    c.requires.ready c.requires.own_numbers c.requires.own_before c.start.ensures in
-    none.before_size ∙ sym none.labelled.size
-
-pub loop-joined-init : goal.loop-joined-init
-loop-joined-init c =
+-- what a sweep promises by them
+told : (c : After-sweep) →
+    SweptBy (length c.args.groups.now) c.args.m c.args.tree.parents.now c.args.tree.names.now c.suffix_classes.new.classes
+    c.loop-classes.before c.sweep.new.before c.loop-classes.groups c.sweep.new.groups c.sweep.result
+told c =
     let n = length c.args.groups.now in
-    let h = c.args.h in
-    let m = c.args.m in
-    let parents = c.args.parents.now in
-    let names = c.args.names.now in
-    let numbers = c.args.numbers.now in
-    let before = c.args.before.now in
-    let arrays = c.requires.ready.arrays in
-    let start = c.start.new in
-    let last = c.sweep-joined.new in
-    let joined = c.sweep-joined.result in
     let classes = c.suffix_classes.new.classes in
-    let by = classes_front n (h + 1) (replicate 512 0) parents names classes arrays.few_states c.suffix_classes.ensures in
-    let none =
-    none_here n h m parents names numbers before c.args.groups.now start.groups start.links start.heads start.firsts
-    start.seconds c.start.result c.requires.ready c.requires.own_numbers c.requires.own_before c.start.ensures in
-    let told : SweptBy n m parents names classes before last.before start.groups last.groups joined =
-    sweep_told n m parents names _ classes before last.before start.groups last.groups joined none.labelled.size
-    (front_again n classes classes _ refl by.size) c.sweep-joined.ensures.swept in
-    let kept : Kept n parents names numbers last.groups last.arclinks last.archeads last.firsts last.seconds 0 =
-    subst (λ (k : ℕ). Kept k parents names numbers last.groups last.arclinks last.archeads last.firsts last.seconds 0)
-    none.labelled.size c.sweep-joined.ensures.kept in (
-      refl,
-      rounds_more n h m parents names before start.groups true arrays c.requires.ready.some_names none classes
-          last.before last.groups joined by told
-          (kept-forks n parents names numbers arrays c.requires.own_numbers last.groups last.arclinks last.archeads last.firsts
-          last.seconds 0 kept),
-      kept,
-    )
+    let loop = c.loop-classes in
+    let last = c.sweep.new in
+    sweep_told n c.args.m c.args.tree.parents.now c.args.tree.names.now _ classes loop.before last.before loop.groups
+    last.groups c.sweep.result loop.invariant.rounds.labelled.size (front_again n classes classes _ refl (by c).size)
+    c.sweep.ensures.swept
 
-pub loop-joined-smaller : goal.loop-joined-smaller
-loop-joined-smaller c =
-    let n = length c.args.groups.now in
-    let h = c.args.h in
-    let m = c.args.m in
-    let parents = c.args.parents.now in
-    let names = c.args.names.now in
-    let arrays = c.requires.ready.arrays in
-    let loop = c.loop-joined in
-    let last = c.sweep-joined-in-loop-joined.new in
-    let joined = c.sweep-joined-in-loop-joined.result in
-    let classes = c.suffix_classes.new.classes in
-    let by = classes_front n (h + 1) (replicate 512 0) parents names classes arrays.few_states c.suffix_classes.ensures in
-    let told : SweptBy n m parents names classes loop.before last.before loop.groups last.groups joined =
-    sweep_told n m parents names _ classes loop.before last.before loop.groups last.groups joined
-    loop.invariant.1.labelled.size (front_again n classes classes _ refl by.size) c.sweep-joined-in-loop-joined.ensures.swept in
-    subst (λ (b : Bool). due last.groups joined < due loop.groups b) (sym c.loop-joined-test.true)
-    (rounds_less n h m parents names loop.before loop.groups loop.joined arrays c.requires.ready.some_names
-    loop.invariant.1 classes last.before last.groups joined by told)
+-- the lists of arcs after it
+kept : (c : After-sweep) →
+    Kept (length c.args.groups.now) c.args.tree.parents.now c.args.tree.names.now c.args.numbers.now c.sweep.new.groups
+    c.sweep.new.forks.lists.links c.sweep.new.forks.lists.heads c.sweep.new.forks.queue.firsts c.sweep.new.forks.queue.seconds 0
+kept c =
+    let last = c.sweep.new in
+    subst (λ (k : ℕ). Kept k c.args.tree.parents.now c.args.tree.names.now c.args.numbers.now last.groups last.forks.lists.links
+    last.forks.lists.heads last.forks.queue.firsts last.forks.queue.seconds 0)
+    c.loop-classes.invariant.rounds.labelled.size c.sweep.ensures.kept
 
-pub loop-joined-preserved : goal.loop-joined-preserved
-loop-joined-preserved c =
+-- the rounds after it
+rounds : (c : After-sweep) →
+    RoundsTo (length c.args.groups.now) c.args.h c.args.m c.args.tree.parents.now c.args.tree.names.now c.sweep.new.before
+    c.sweep.new.groups c.sweep.result
+rounds c =
     let n = length c.args.groups.now in
-    let h = c.args.h in
-    let m = c.args.m in
-    let parents = c.args.parents.now in
-    let names = c.args.names.now in
-    let numbers = c.args.numbers.now in
+    let parents = c.args.tree.parents.now in
+    let names = c.args.tree.names.now in
     let arrays = c.requires.ready.arrays in
-    let loop = c.loop-joined in
-    let last = c.sweep-joined-in-loop-joined.new in
-    let joined = c.sweep-joined-in-loop-joined.result in
-    let classes = c.suffix_classes.new.classes in
-    let by = classes_front n (h + 1) (replicate 512 0) parents names classes arrays.few_states c.suffix_classes.ensures in
-    let told : SweptBy n m parents names classes loop.before last.before loop.groups last.groups joined =
-    sweep_told n m parents names _ classes loop.before last.before loop.groups last.groups joined
-    loop.invariant.1.labelled.size (front_again n classes classes _ refl by.size) c.sweep-joined-in-loop-joined.ensures.swept in
-    let kept : Kept n parents names numbers last.groups last.arclinks last.archeads last.firsts last.seconds 0 =
-    subst (λ (k : ℕ). Kept k parents names numbers last.groups last.arclinks last.archeads last.firsts last.seconds 0)
-    loop.invariant.1.labelled.size c.sweep-joined-in-loop-joined.ensures.kept in (
-      c.sweep-joined-in-loop-joined.auto.before ∙ loop.invariant.0,
-      rounds_more n h m parents names loop.before loop.groups loop.joined arrays c.requires.ready.some_names
-          loop.invariant.1 classes last.before last.groups joined by told
-          (kept-forks n parents names numbers arrays c.requires.own_numbers last.groups last.arclinks last.archeads last.firsts
-          last.seconds 0 kept),
-      kept,
-    )
+    let loop = c.loop-classes in
+    let last = c.sweep.new in
+    let forks = last.forks in
+    rounds_more n c.args.h c.args.m parents names loop.before loop.groups true arrays c.requires.ready.some_names
+    loop.invariant.rounds c.suffix_classes.new.classes last.before last.groups c.sweep.result (by c) (told c)
+    (kept-forks n parents names c.args.numbers.now arrays c.requires.own_numbers last.groups forks.lists.links forks.lists.heads
+    forks.queue.firsts forks.queue.seconds 0 (kept c))
+
+pub loop-classes-init : goal.loop-classes-init
+loop-classes-init c =
+    let n = length c.args.groups.now in
+    let parents = c.args.tree.parents.now in
+    let names = c.args.tree.names.now in
+    let ready = c.requires.ready in
+    let groups = c.start.new.groups in
+    let last = c.start.ensures.kept in
+    record {
+      rounds =
+          rounds_none n c.args.h c.args.m parents names c.args.before.now c.args.groups.now groups ready c.requires.own_before
+          (forks-joined n parents names c.args.numbers.now ready.arrays c.requires.own_numbers c.args.groups.now groups
+          c.start.ensures.until);
+      kept =
+          record {
+            rows = last.rows;
+            labelled = last.labelled;
+            kind = last.kind;
+            room = omega (arith, last.room);
+            queue = last.queue;
+          };
+    }
+
+pub loop-classes-smaller : goal.loop-classes-smaller
+loop-classes-smaller c =
+    let s = (goal.at.loop-classes-smaller c).After-sweep in
+    let loop = c.loop-classes in
+    let last = c.sweep.new in
+    subst (λ (b : Bool). due last.groups b < due loop.groups true) c.loop-classes-test.true
+    (rounds_less (length c.args.groups.now) c.args.h c.args.m c.args.tree.parents.now c.args.tree.names.now loop.before
+    loop.groups true c.requires.ready.arrays c.requires.ready.some_names loop.invariant.rounds c.suffix_classes.new.classes
+    last.before last.groups c.sweep.result (by s) (told s))
+
+pub loop-classes-preserved : goal.loop-classes-preserved
+loop-classes-preserved c =
+    let s = (goal.at.loop-classes-preserved c).After-sweep in
+    let last = c.sweep.new in
+    record {
+      rounds =
+          subst (λ (b : Bool). RoundsTo (length c.args.groups.now) c.args.h c.args.m c.args.tree.parents.now
+          c.args.tree.names.now last.before last.groups b) c.loop-classes-test.true (rounds s);
+      kept = kept s;
+    }
 
 pub returns : goal.returns
 returns c =
-    let loop = c.loop-joined in
-    rounds_all (length c.args.groups.now) c.args.h c.args.m c.args.parents.now c.args.names.now loop.before loop.groups
-    loop.joined c.loop-joined-test.false loop.invariant.1
+    let last = c.sweep.new in
+    rounds_all (length c.args.groups.now) c.args.h c.args.m c.args.tree.parents.now c.args.tree.names.now last.before
+    last.groups c.sweep.result c.loop-classes-test.false (rounds (goal.at.returns c).After-sweep)

@@ -1,15 +1,17 @@
 -- What holds after some sweeps, and the lists of arcs.
-use mathlib.Core.Path.{◌≡◌}
-use lib.ListN.{length}
+use mathlib.Core.Bool.{true}
 use Rattle.indexed.proofs.Rounds.{due}
 use Rattle.worklist.specs.Forks.{Kept}
 use Rattle.contexts.proofs.RoundLaws.{RoundsTo}
 use Rattle.contexts.proofs.close_contexts.Given as goal
 
-abbrev pub invariant-loop-joined : goal.invariant-loop-joined
-invariant-loop-joined l =
-    (length l.before ≡ length l.initial.before) × RoundsTo l.n l.h l.m l.parents l.names l.before l.groups l.joined
-    × Kept l.n l.parents l.names l.numbers l.groups l.links l.heads l.firsts l.seconds 0
+abbrev pub invariant-loop-classes : goal.invariant-loop-classes
+invariant-loop-classes l =
+    record {
+      rounds : RoundsTo l.n l.h l.m l.tree.parents.now l.tree.names.now l.before l.groups true;
+      kept : Kept l.n l.tree.parents.now l.tree.names.now l.numbers l.groups l.forks.lists.links l.forks.lists.heads
+          l.forks.queue.firsts l.forks.queue.seconds 0;
+    }
 
-abbrev pub decreases-loop-joined : goal.decreases-loop-joined
-decreases-loop-joined l = due l.groups l.joined
+abbrev pub decreases-loop-classes : goal.decreases-loop-classes
+decreases-loop-classes l = due l.groups true

@@ -1,45 +1,17 @@
 -- The laws of PlaceLaws at what the code has at hand.
-use mathlib.Core.Path.{◌≡◌, sym, ◌∙◌}
-use native.Mathlib.Omega.{arith}
-use lib.ListN.{length}
-use Rattle.fields.proofs.PlaceLaws.{class_bytes, class_refused, class_goes}
+use mathlib.Core.Path.{refl}
+use Rattle.fields.proofs.PlaceLaws.{class-fault-is, class_goes, handed_on}
 use Rattle.fields.proofs.class_field.Goals as goal
 
-pub returns-then-fault-ne0 : goal.returns-then-fault-ne0
-returns-then-fault-ne0 c =
-    let start = c in
-    let bytes = c.body-class in
-    let fault = c.class_fault-fault in
-    class_refused start.args.s.now start.args.p start.requires.whole bytes.result.now fault.result bytes.ensures
-    fault.ensures c.if-fault-ne0.true
-
-pub bounds-class-0 : goal.bounds-class-0
-bounds-class-0 c =
-    let bytes = c.body-class.result.now in
-    let fault = c.class_fault-fault in
-    let three : length bytes ≡ 3 = class_bytes bytes (sym fault.ensures ∙ c.if-fault-ne0.false) in
-    omega arith
-
-pub bounds-class-1 : goal.bounds-class-1
-bounds-class-1 c =
-    let bytes = c.body-class.result.now in
-    let fault = c.class_fault-fault in
-    let three : length bytes ≡ 3 = class_bytes bytes (sym fault.ensures ∙ c.if-fault-ne0.false) in
-    omega arith
-
-pub bounds-class-2 : goal.bounds-class-2
-bounds-class-2 c =
-    let bytes = c.body-class.result.now in
-    let fault = c.class_fault-fault in
-    let three : length bytes ≡ 3 = class_bytes bytes (sym fault.ensures ∙ c.if-fault-ne0.false) in
-    omega arith
+pub returns-in_err-class_fault : goal.returns-in_err-class_fault
+returns-in_err-class_fault c =
+    let s = c.args.s.now in
+    let p = c.args.p in
+    let found = class-fault-is s p c.requires.whole c.body-bytes.result.now _ c.body-bytes.ensures c.in_err-class_fault.ensures in
+    handed_on s p _ _ c.from_residual.result c.in_err-class_fault.field-0.0 c.from_residual.ensures.1 found
 
 pub returns : goal.returns
 returns c =
-    let start = c in
-    let bytes = c.body-class in
-    let fault = c.class_fault-fault in
     let next = c.next_field-next in
-    class_goes start.args.s.now start.args.p start.requires.whole bytes.result.now fault.result bytes.ensures
-    fault.ensures
-    next.result next.ensures start.requires.stage_le_class_met c.if-fault-ne0.false
+    class_goes c.args.s.now c.args.p c.requires.whole c.body-bytes.result.now 0 c.body-bytes.ensures
+    c.in_ok-class_fault.ensures next.result next.ensures c.requires.stage_le_class_met refl

@@ -1,4 +1,5 @@
-use mathlib.Core.Path.{◌≡◌, sym, ◌∙◌, subst}
+use Rattle.std.proofs.lemmas.Result.{err_from_is_err_and}
+use mathlib.Core.Path.{◌≡◌, refl, sym, ◌∙◌, subst}
 use mathlib.Core.List.{List, ◌++◌}
 use Prim.Native.Nat.{ℕ, ◌+◌, ◌<◌, ◌≤◌}
 use native.Mathlib.Omega.{arith}
@@ -9,7 +10,7 @@ use Rattle.fields.specs.declared.Place.{Place}
 use Rattle.writing.proofs.Pieces.{front_length}
 use Rattle.inference.specs.Books.{BookAt, TreeIn, rows_at, class_at, names_end, JoinedBy, JoinedTree}
 use Rattle.inference.proofs.BookLaws.{class_allowed, names-fit, rows_short}
-use Rattle.inference.proofs.TableLaws.{prefix_again, tree_ready, joined_tree, back-room}
+use Rattle.inference.proofs.TableLaws.{prefix_again, joined_tree, back-room}
 use Rattle.inference.proofs.TableLaws.{written-fits, front-too_long, table-too-long, table-written}
 use Rattle.inference.proofs.join_and_write.Goals as goal
 
@@ -42,40 +43,56 @@ pub returns-then-out-front : goal.returns-then-out-front
 returns-then-out-front c =
     let args = c.args in
     let bytes : (i : ℕ) → i < length args.book.now → get_or args.book.now i 0 < 256 =
-    λ i h. omega (arith, c.type_inv.book i) in
-    front-too_long args.book.now args.place c.requires.book_at.0 bytes args.wanted args.out.now args.counts.now
-    c.if-out-front.true
+    λ i h. omega (arith, c.type_inv.book i) in (
+      refl,
+      front-too_long args.book.now args.place c.requires.book_at.0 bytes args.wanted args.out.now args.counts.now
+          c.if-out-front.true,
+    )
 
-pub join_by_class-requires-clause-second_value : goal.join_by_class-requires-clause-second_value
-join_by_class-requires-clause-second_value c =
+pub join_by_class-requires-clause-class_ok : goal.join_by_class-requires-clause-class_ok
+join_by_class-requires-clause-class_ok c =
     let args = c.args in
     let bytes : (i : ℕ) → i < length args.book.now → get_or args.book.now i 0 < 256 =
     λ i h. omega (arith, c.type_inv.book i) in
     class_allowed args.book.now args.place c.requires.book_at.0 bytes
 
-pub join_by_class-requires-clause-join_ready : goal.join_by_class-requires-clause-join_ready
-join_by_class-requires-clause-join_ready c =
+pub write_joined-requires-clause-joined_tree : goal.write_joined-requires-clause-joined_tree
+write_joined-requires-clause-joined_tree c =
     let args = c.args in
     let at = c.requires.book_at.0 in
     let tree = c.requires.tree_in in
     let parents_size = tree.tree.parents_size in
-    let count : length args.parents.now ≤ state_limit = omega (arith, tree.few) in
-    tree_ready (rows_at args.book.now args.place) args.parents.now args.names.now args.ends.now _ tree
-    (length-take-le _ _ count)
-
-pub write_joined-joined-requires-clause-joined_tree : goal.write_joined-joined-requires-clause-joined_tree
-write_joined-joined-requires-clause-joined_tree c =
-    let args = c.args in
-    let at = c.requires.book_at.0 in
-    let tree = c.requires.tree_in in
-    let parents_size = tree.tree.parents_size in
-    let count : length args.parents.now ≤ state_limit = omega (arith, tree.few) in
+    let count : length args.tree.parents.now ≤ state_limit = omega (arith, tree.few) in
     let joined = c.join_by_class.new.groups in
-    let size : length joined ≡ length args.parents.now = c.join_by_class.auto.groups ∙ length-take-le _ _ count in (
+    let size : length joined ≡ length args.tree.parents.now = c.join_by_class.auto.groups ∙ length-take-le _ _ count in (
       rows_at args.book.now args.place,
-      joined_in args.book.now args.place args.parents.now args.names.now args.ends.now joined at tree
-          (joined_by args.book.now args.place args.parents.now args.names.now joined size
+      joined_in args.book.now args.place args.tree.parents.now args.tree.names.now args.ends.now joined at tree
+          (joined_by args.book.now args.place args.tree.parents.now args.tree.names.now joined size
           (c.join_by_class.ensures (rows_at args.book.now args.place) tree)),
+    )
+
+pub returns-in_err-written : goal.returns-in_err-written
+returns-in_err-written c =
+    let args = c.args in
+    let at = c.requires.book_at.0 in
+    let tree = c.requires.tree_in in
+    let parents_size = tree.tree.parents_size in
+    let count : length args.tree.parents.now ≤ state_limit = omega (arith, tree.few) in
+    let bytes : (i : ℕ) → i < length args.book.now → get_or args.book.now i 0 < 256 =
+    λ i h. omega (arith, c.type_inv.book i) in
+    let joined = c.join_by_class.new.groups in
+    let size : length joined ≡ length args.tree.parents.now = c.join_by_class.auto.groups ∙ length-take-le _ _ count in
+    let by =
+    joined_by args.book.now args.place args.tree.parents.now args.tree.names.now joined size
+    (c.join_by_class.ensures (rows_at args.book.now args.place) tree) in
+    let in_tree = joined_in args.book.now args.place args.tree.parents.now args.tree.names.now args.ends.now joined at tree by in
+    let p = err_from_is_err_and c.from_residual.result c.from_residual.ensures.1 in
+    let long = c.in_err-written.ensures (rows_at args.book.now args.place) in_tree in
+    rw (p.1, p.2) (
+      long.0,
+      table-too-long args.book.now args.place at bytes args.wanted args.out.now args.counts.now args.tree.parents.now
+          args.tree.names.now (groups (length args.tree.parents.now) joined) by c.if-out-front.false c.write_joined.new.out
+          c.write_joined.new.counts long.1,
     )
 
 pub put_front-requires-clause-fits : goal.put_front-requires-clause-fits
@@ -83,70 +100,29 @@ put_front-requires-clause-fits c =
     let args = c.args in
     let named = names-fit args.book.now args.place c.requires.book_at.0 in
     let room =
-    back-room (names_end args.place + class_bytes) args.out.now c.write_joined-joined.new.out c.if-out-front.false in
+    back-room (names_end args.place + class_bytes) args.out.now c.write_joined.new.out c.if-out-front.false in
     omega (arith, front_length args.book.now (names_end args.place) (class_at args.place) named, room)
 
-pub overflow_add-result : goal.overflow_add-result
-overflow_add-result c =
+pub returns : goal.returns
+returns c =
     let args = c.args in
     let at = c.requires.book_at.0 in
     let tree = c.requires.tree_in in
     let parents_size = tree.tree.parents_size in
-    let count : length args.parents.now ≤ state_limit = omega (arith, tree.few) in
+    let count : length args.tree.parents.now ≤ state_limit = omega (arith, tree.few) in
     let bytes : (i : ℕ) → i < length args.book.now → get_or args.book.now i 0 < 256 =
     λ i h. omega (arith, c.type_inv.book i) in
     let joined = c.join_by_class.new.groups in
-    let size : length joined ≡ length args.parents.now = c.join_by_class.auto.groups ∙ length-take-le _ _ count in
+    let size : length joined ≡ length args.tree.parents.now = c.join_by_class.auto.groups ∙ length-take-le _ _ count in
     let front_size = front_length args.book.now (names_end args.place) (class_at args.place) (names-fit args.book.now args.place at) in
     let by =
-    joined_by args.book.now args.place args.parents.now args.names.now joined size
+    joined_by args.book.now args.place args.tree.parents.now args.tree.names.now joined size
     (c.join_by_class.ensures (rows_at args.book.now args.place) tree) in
-    let in_tree = joined_in args.book.now args.place args.parents.now args.names.now args.ends.now joined at tree by in
-    let whole =
-    table-written args.book.now args.place at bytes args.wanted args.out.now args.counts.now args.parents.now
-    args.names.now (groups (length args.parents.now) joined) by c.if-out-front.false c.write_joined-joined.new.out
-    c.write_joined-joined.new.counts _ _ _ _ _ (c.in-Written.ensures (rows_at args.book.now args.place) in_tree) front_size
-    c.put_front.ensures in
-    omega (arith, written-fits _ _ args.out.now _ _ _ _ _ _ whole)
+    let in_tree = joined_in args.book.now args.place args.tree.parents.now args.tree.names.now args.ends.now joined at tree by in
+    table-written args.book.now args.place at bytes args.wanted args.out.now args.counts.now args.tree.parents.now
+    args.tree.names.now (groups (length args.tree.parents.now) joined) by c.if-out-front.false c.write_joined.new.out
+    c.write_joined.new.counts _ _ _ _ _ (c.in_ok-written.ensures (rows_at args.book.now args.place) in_tree) front_size
+    c.put_front.ensures
 
-pub returns-in-Written : goal.returns-in-Written
-returns-in-Written c =
-    let args = c.args in
-    let at = c.requires.book_at.0 in
-    let tree = c.requires.tree_in in
-    let parents_size = tree.tree.parents_size in
-    let count : length args.parents.now ≤ state_limit = omega (arith, tree.few) in
-    let bytes : (i : ℕ) → i < length args.book.now → get_or args.book.now i 0 < 256 =
-    λ i h. omega (arith, c.type_inv.book i) in
-    let joined = c.join_by_class.new.groups in
-    let size : length joined ≡ length args.parents.now = c.join_by_class.auto.groups ∙ length-take-le _ _ count in
-    let front_size = front_length args.book.now (names_end args.place) (class_at args.place) (names-fit args.book.now args.place at) in
-    let by =
-    joined_by args.book.now args.place args.parents.now args.names.now joined size
-    (c.join_by_class.ensures (rows_at args.book.now args.place) tree) in
-    let in_tree = joined_in args.book.now args.place args.parents.now args.names.now args.ends.now joined at tree by in
-    let whole =
-    table-written args.book.now args.place at bytes args.wanted args.out.now args.counts.now args.parents.now
-    args.names.now (groups (length args.parents.now) joined) by c.if-out-front.false c.write_joined-joined.new.out
-    c.write_joined-joined.new.counts _ _ _ _ _ (c.in-Written.ensures (rows_at args.book.now args.place) in_tree) front_size
-    c.put_front.ensures in
-    whole
-
-pub returns-in-TooLong : goal.returns-in-TooLong
-returns-in-TooLong c =
-    let args = c.args in
-    let at = c.requires.book_at.0 in
-    let tree = c.requires.tree_in in
-    let parents_size = tree.tree.parents_size in
-    let count : length args.parents.now ≤ state_limit = omega (arith, tree.few) in
-    let bytes : (i : ℕ) → i < length args.book.now → get_or args.book.now i 0 < 256 =
-    λ i h. omega (arith, c.type_inv.book i) in
-    let joined = c.join_by_class.new.groups in
-    let size : length joined ≡ length args.parents.now = c.join_by_class.auto.groups ∙ length-take-le _ _ count in
-    let by =
-    joined_by args.book.now args.place args.parents.now args.names.now joined size
-    (c.join_by_class.ensures (rows_at args.book.now args.place) tree) in
-    let in_tree = joined_in args.book.now args.place args.parents.now args.names.now args.ends.now joined at tree by in
-    table-too-long args.book.now args.place at bytes args.wanted args.out.now args.counts.now args.parents.now
-    args.names.now (groups (length args.parents.now) joined) by c.if-out-front.false c.write_joined-joined.new.out
-    c.write_joined-joined.new.counts (c.in-TooLong.ensures (rows_at args.book.now args.place) in_tree)
+pub overflow_add-written : goal.overflow_add-written
+overflow_add-written c = omega (arith, written-fits _ _ c.args.out.now _ _ _ _ _ _ (returns c))

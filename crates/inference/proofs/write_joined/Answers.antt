@@ -12,44 +12,54 @@ pub counts_bytes-size-requires : goal.counts_bytes-size-requires
 counts_bytes-size-requires c =
     let rows = c.requires.joined_tree.0 in
     let tree = c.requires.joined_tree.1 in
-    let done = c.prepare-automaton.ensures rows tree.joined tree.ends_are in
-    let most = made_few rows c.args.parents.now c.args.names.now c.args.groups.now tree.joined in
+    let done = c.prepare.ensures rows tree.joined tree.ends_are in
+    let most = made_few rows c.args.tree.parents.now c.args.tree.names.now c.args.groups.now tree.joined in
     (omega (arith, done.counted, most.0), omega (arith, done.arcs_are, most.1))
+
+pub overflow_mul-states : goal.overflow_mul-states
+overflow_mul-states c =
+    let rows = c.requires.joined_tree.0 in
+    let tree = c.requires.joined_tree.1 in
+    let done = c.prepare.ensures rows tree.joined tree.ends_are in
+    let most = made_few rows c.args.tree.parents.now c.args.tree.names.now c.args.groups.now tree.joined in
+    omega (arith, done.counted, most.0)
 
 pub overflow_mul-arcs : goal.overflow_mul-arcs
 overflow_mul-arcs c =
     let rows = c.requires.joined_tree.0 in
     let tree = c.requires.joined_tree.1 in
-    let done = c.prepare-automaton.ensures rows tree.joined tree.ends_are in
-    let most = made_few rows c.args.parents.now c.args.names.now c.args.groups.now tree.joined in
+    let done = c.prepare.ensures rows tree.joined tree.ends_are in
+    let most = made_few rows c.args.tree.parents.now c.args.tree.names.now c.args.groups.now tree.joined in
     omega (arith, done.arcs_are, most.1)
 
 pub overflow_add-states : goal.overflow_add-states
 overflow_add-states c =
     let rows = c.requires.joined_tree.0 in
     let tree = c.requires.joined_tree.1 in
-    let done = c.prepare-automaton.ensures rows tree.joined tree.ends_are in
-    let most = made_few rows c.args.parents.now c.args.names.now c.args.groups.now tree.joined in
+    let done = c.prepare.ensures rows tree.joined tree.ends_are in
+    let most = made_few rows c.args.tree.parents.now c.args.tree.names.now c.args.groups.now tree.joined in
     omega (arith, done.counted, most.0, done.arcs_are, most.1)
 
 pub returns-then-out-states : goal.returns-then-out-states
 returns-then-out-states c rows tree =
     let args = c.args in
-    let done = c.prepare-automaton.ensures rows tree.joined tree.ends_are in
-    states-too_long rows args.groups.now args.wanted c.prepare-automaton.result.states
-    c.prepare-automaton.result.arcs c.counts_bytes-size.result args.out.now args.counts.now done.counted
-    done.arcs_are c.counts_bytes-size.ensures c.if-out-states.true
+    let done = c.prepare.ensures rows tree.joined tree.ends_are in (
+      refl,
+      states-too_long rows args.groups.now args.wanted c.prepare.new.self.met.count
+          c.prepare.new.self.arcs c.counts_bytes-size.result args.out.now args.counts.now done.counted
+          done.arcs_are c.counts_bytes-size.ensures c.if-out-states.true,
+    )
 
-pub write_states-end-requires : goal.write_states-end-requires
-write_states-end-requires c =
+pub write_states-length-requires : goal.write_states-length-requires
+write_states-length-requires c =
     let args = c.args in
     let rows = c.requires.joined_tree.0 in
     let tree = c.requires.joined_tree.1 in
-    let done = c.prepare-automaton.ensures rows tree.joined tree.ends_are in (
+    let done = c.prepare.ensures rows tree.joined tree.ends_are in (
       rows,
       args.groups.now,
       done.ready,
-      states-fit rows args.groups.now args.wanted c.prepare-automaton.result.states c.prepare-automaton.result.arcs
+      states-fit rows args.groups.now args.wanted c.prepare.new.self.met.count c.prepare.new.self.arcs
           c.counts_bytes-size.result args.out.now args.counts.now done.counted done.arcs_are
           c.counts_bytes-size.ensures c.if-out-states.false,
     )
@@ -59,14 +69,14 @@ write_counts-requires c =
     let args = c.args in
     let rows = c.requires.joined_tree.0 in
     let tree = c.requires.joined_tree.1 in
-    let done = c.prepare-automaton.ensures rows tree.joined tree.ends_are in (
+    let done = c.prepare.ensures rows tree.joined tree.ends_are in (
       rows,
-      args.parents.now,
-      args.names.now,
+      args.tree.parents.now,
+      args.tree.names.now,
       args.groups.now,
-      counts_ready rows args.parents.now args.names.now args.groups.now _ _ _ _ _ _ _ tree.joined done.ready
+      counts_ready rows args.tree.parents.now args.tree.names.now args.groups.now _ _ _ _ _ _ _ tree.joined done.ready
           (c.add_passes.ensures rows tree.joined tree.ends_are tree.short),
-      counts-fit rows args.groups.now args.wanted c.prepare-automaton.result.states c.prepare-automaton.result.arcs
+      counts-fit rows args.groups.now args.wanted c.prepare.new.self.met.count c.prepare.new.self.arcs
           c.counts_bytes-size.result args.out.now args.counts.now done.counted done.arcs_are
           c.counts_bytes-size.ensures c.if-out-states.false c.if-wanted.true,
     )
@@ -75,15 +85,15 @@ pub returns-then-wanted : goal.returns-then-wanted
 returns-then-wanted c rows tree =
     let args = c.args in
     let made = made_of rows args.groups.now in
-    let done = c.prepare-automaton.ensures rows tree.joined tree.ends_are in
+    let done = c.prepare.ensures rows tree.joined tree.ends_are in
     let summed = c.add_passes.ensures rows tree.joined tree.ends_are tree.short in
     let put =
-    c.write_counts.ensures rows args.parents.now args.names.now args.groups.now
-    (counts_ready rows args.parents.now args.names.now args.groups.now _ _ _ _ _ _ _ tree.joined done.ready summed) in
-    states-written rows args.groups.now args.wanted c.prepare-automaton.result.states c.prepare-automaton.result.arcs
+    c.write_counts.ensures rows args.tree.parents.now args.tree.names.now args.groups.now
+    (counts_ready rows args.tree.parents.now args.tree.names.now args.groups.now _ _ _ _ _ _ _ tree.joined done.ready summed) in
+    states-written rows args.groups.now args.wanted c.prepare.new.self.met.count c.prepare.new.self.arcs
     c.counts_bytes-size.result args.out.now args.counts.now done.counted done.arcs_are
     c.counts_bytes-size.ensures c.if-out-states.false _ _ _
-    (c.write_states-end.ensures rows args.groups.now done.ready)
+    (c.write_states-length.ensures rows args.groups.now done.ready)
     (subst (λ (b : Bool). c.write_counts.new.out ≡ over (counts_if b made rows) args.counts.now)
     (sym c.if-wanted.true) (written-from_zero put.written))
 
@@ -91,9 +101,9 @@ pub returns-else-wanted : goal.returns-else-wanted
 returns-else-wanted c rows tree =
     let args = c.args in
     let made = made_of rows args.groups.now in
-    let done = c.prepare-automaton.ensures rows tree.joined tree.ends_are in
-    states-written rows args.groups.now args.wanted c.prepare-automaton.result.states c.prepare-automaton.result.arcs
+    let done = c.prepare.ensures rows tree.joined tree.ends_are in
+    states-written rows args.groups.now args.wanted c.prepare.new.self.met.count c.prepare.new.self.arcs
     c.counts_bytes-size.result args.out.now args.counts.now done.counted done.arcs_are
     c.counts_bytes-size.ensures c.if-out-states.false _ args.counts.now _
-    (c.write_states-end.ensures rows args.groups.now done.ready)
+    (c.write_states-length.ensures rows args.groups.now done.ready)
     (subst (λ (b : Bool). args.counts.now ≡ over (counts_if b made rows) args.counts.now) (sym c.if-wanted.false) refl)

@@ -37,48 +37,47 @@ pub loop-i-init : goal.loop-i-init
 unfolding offset_at
 loop-i-init c =
     let a = c.args in
-    let s = a.table.now in
-    (omega arith, refl, begins a.text.now a.at (state_lines (names_at s a.place) 0 (table_states s)) c.requires.fits)
+    let s = a.table.bytes.now in
+    (refl, begins a.text.now a.at (state_lines (names_at s a.table.place) 0 (table_states s)) c.requires)
 
 pub put_state_line-next-requires-clause-state_field : goal.put_state_line-next-requires-clause-state_field
 put_state_line-next-requires-clause-state_field c =
     let l = c.loop-i in
-    field c.args.table.now c.args.place c.requires.table_read l.i l.from (omega arith) l.invariant.1
+    field c.args.table.bytes.now c.args.table.place c.args.table.read l.i l.from (omega arith) l.invariant.0
 
 pub put_state_line-next-requires-clause-fits : goal.put_state_line-next-requires-clause-fits
 put_state_line-next-requires-clause-fits c =
     let l = c.loop-i in
-    let s = c.args.table.now in
-    let p = c.args.place in
+    let s = c.args.table.bytes.now in
+    let p = c.args.table.place in
     let names = names_at s p in
     room (state_line names l.i (state_at s l.from)) (state_lines names (l.i + 1) (drop (l.i + 1) (table_states s)))
-    (turn s p c.requires.table_read l.i l.from (omega arith) l.invariant.1 l.invariant.2)
+    (turn s p c.args.table.read l.i l.from (omega arith) l.invariant.0 l.invariant.1)
 
 pub next_field-from-requires : goal.next_field-from-requires
 next_field-from-requires c =
     let l = c.loop-i in
-    (field c.args.table.now c.args.place c.requires.table_read l.i l.from (omega arith) l.invariant.1).fits
+    (field c.args.table.bytes.now c.args.table.place c.args.table.read l.i l.from (omega arith) l.invariant.0).fits
 
 pub loop-i-preserved : goal.loop-i-preserved
 loop-i-preserved c =
     let l = c.loop-i in
-    let s = c.args.table.now in
-    let p = c.args.place in
+    let s = c.args.table.bytes.now in
+    let p = c.args.table.place in
     let names = names_at s p in (
-      omega arith,
       c.next_field-from.ensures
-          ∙ ap (next_at s) l.invariant.1
+          ∙ ap (next_at s) l.invariant.0
           ∙ sym (offset_suc s p.start l.i)
           ∙ ap (offset_at s p.start) (sym (add-one l.i)),
       goes (state_line names l.i (state_at s l.from)) (state_lines names (l.i + 1) (drop (l.i + 1) (table_states s)))
-          (turn s p c.requires.table_read l.i l.from (omega arith) l.invariant.1 l.invariant.2)
+          (turn s p c.args.table.read l.i l.from (omega arith) l.invariant.0 l.invariant.1)
           c.put_state_line-next.ensures,
     )
 
 pub returns : goal.returns
 returns c =
     let l = c.loop-i in
-    let s = c.args.table.now in
-    let p = c.args.place in
-    let all : length (table_states s) ≤ l.i = omega (arith, states-count s p c.requires.table_read) in
-    states-finish (names_at s p) (table_states s) l.i all l.invariant.2
+    let s = c.args.table.bytes.now in
+    let p = c.args.table.place in
+    let all : length (table_states s) ≤ l.i = omega (arith, states-count s p c.args.table.read) in
+    states-finish (names_at s p) (table_states s) l.i all l.invariant.1

@@ -1,42 +1,10 @@
 -- The word, the number and the newline are written one after the other.
-use mathlib.Core.Path.{◌≡◌, sym, subst}
-use mathlib.Core.List.{List, ◌++◌}
-use Prim.Native.Nat.{ℕ}
-use Rattle.model.specs.Listing.{refusal_text, refused_word, decimal, newline}
-use Rattle.writing.specs.Writing.{Fits, Put}
-use Rattle.writing.proofs.TextLaws.{Writing, begins, room, room_left, goes, ends_with}
+use native.Mathlib.Omega.{arith}
+use Rattle.model.specs.Listing.{refusal_text}
+use Rattle.writing.proofs.WritingLaws.{put_append}
 use Rattle.listings.proofs.refusal_text.Goals as goal
 
--- what is left of the text, from each of its pieces on
-module _ (number : ℕ) {t₀ : List ℕ} (fits : Fits t₀ 0 (refusal_text number)) where
-  first : Writing t₀ 0 (refusal_text number) t₀ 0 (refused_word ++ (decimal number ++ newline))
-  unfolding refusal_text
-  first = begins t₀ 0 (refusal_text number) fits
-
-  module _ {t₁ : List ℕ} {n₁ : ℕ} (word : Put t₀ t₁ 0 refused_word n₁) where
-    after-1 : Writing t₀ 0 (refusal_text number) t₁ n₁ (decimal number ++ newline)
-    after-1 = goes refused_word (decimal number ++ newline) first word
-
-    -- the number is written at its own value
-    after-2 :
-        {t₂ : List ℕ} {n₂ : ℕ} (wide : ℕ) → wide ≡ number → Put t₁ t₂ n₁ (decimal wide) n₂ →
-        Writing t₀ 0 (refusal_text number) t₂ n₂ newline
-    after-2 {t₂} {n₂} wide same put =
-        goes (decimal number) newline after-1 (subst (λ (n : ℕ). Put t₁ t₂ n₁ (decimal n) n₂) same put)
-
-pub copy_in-next-requires : goal.copy_in-next-requires
-copy_in-next-requires c = room refused_word _ (first _ c.requires)
-
-pub put_decimal-next-requires-clause-fits : goal.put_decimal-next-requires-clause-fits
-put_decimal-next-requires-clause-fits c =
-    subst (λ (n : ℕ). Fits c.copy_in-next.new.out c.copy_in-next.result (decimal n)) (sym c.wide8.ensures)
-    (room (decimal c.args.number) newline (after-1 _ c.requires c.copy_in-next.ensures))
-
-pub put_byte-requires : goal.put_byte-requires
-put_byte-requires c =
-    room_left (after-2 _ c.requires c.copy_in-next.ensures _ c.wide8.ensures c.put_decimal-next.ensures)
-
 pub returns : goal.returns
+unfolding refusal_text
 returns c =
-    ends_with newline (after-2 _ c.requires c.copy_in-next.ensures _ c.wide8.ensures c.put_decimal-next.ensures)
-    c.put_byte.ensures
+    put_append c.copy_in-next.ensures (put_append c.put_decimal-next.ensures c.put_byte.ensures (omega arith)) (omega arith)

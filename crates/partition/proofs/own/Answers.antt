@@ -3,6 +3,4 @@ use Rattle.partition.proofs.FillLaws.{own-all}
 use Rattle.partition.proofs.own.Goals as goal
 
 pub returns : goal.returns
-returns c =
-    own-all c.loop-v.v c.args.numbers.now c.loop-v.numbers (omega (arith, c.loop-v.invariant.1.size))
-    c.loop-v.invariant.1
+returns c = own-all c.loop-v.v _ _ (omega arith) c.loop-v.invariant

@@ -6,7 +6,7 @@ use Rattle.plan_reading.proofs.read_plan.Given as goal
 
 abbrev pub invariant-loop-r : goal.invariant-loop-r
 invariant-loop-r l =
-    ReadSoFar (sought_names l.list l.sought) (sought_name l.list l.sought) l.plan l.stack l.log l.r
+    ReadSoFar (sought_names l.sought) (sought_name l.sought) l.plan l.stack l.log l.r
     × (length l.log ≡ length l.initial.log)
 
 abbrev pub decreases-loop-r : goal.decreases-loop-r

@@ -1,10 +1,7 @@
--- The first v states have their codes. The measure is what is left of the length.
-use Rattle.std.proofs.Common.{length, ◌-◌}
-use Rattle.suffixes.proofs.CodeLaws.{CodedTo}
+-- The first v states have their codes.
+use Rattle.base.proofs.Fills.{Filled}
+use Rattle.suffixes.proofs.CodeLaws.{IsCode}
 use Rattle.suffixes.proofs.codes.Given as goal
 
 abbrev pub invariant-loop-v : goal.invariant-loop-v
-invariant-loop-v l = CodedTo (length l.initial.values) l.i l.parents l.names l.v l.values
-
-abbrev pub decreases-loop-v : goal.decreases-loop-v
-decreases-loop-v l = length l.initial.values - l.v
+invariant-loop-v l = Filled (IsCode l.i l.tree.parents.now l.tree.names.now) l.v l.fn.values l.values

@@ -6,7 +6,7 @@ use native.Mathlib.Omega.{arith}
 use lib.Dec.{eqb}
 use lib.ListN.{length, get_or}
 use Rattle.judging.specs.Offsets.{body_at}
-use Rattle.tables.proofs.ArcLaws.{state-some, state-accepts}
+use Rattle.tables.proofs.ArcReads.{state-some, state-accepts}
 use Rattle.tables.proofs.accepts.Goals as goal
 
 pub bounds-state-0 : goal.bounds-state-0

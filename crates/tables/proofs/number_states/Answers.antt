@@ -1,14 +1,14 @@
 -- One law of TableLaws for each way.
-use mathlib.Core.Path.{sym, ap, ◌∙◌, subst}
-use mathlib.Core.List.{List}
-use Prim.Native.Nat.{ℕ, ◌+◌}
+use Rattle.base.specs.declared.refusals.Refusal.TheVariants.{BadNumbering}
+use Rattle.judging.specs.Offsets.{body_at}
+use Rattle.std.proofs.lemmas.Result.{err_from_is_err_and}
+use mathlib.Core.Path.{◌≡◌, sym, subst}
 use native.Mathlib.Omega.{arith}
 use Rattle.model.specs.Tables.{state_in, met_by_arcs}
 use Rattle.model.proofs.CallLaws.{sizes_fit}
 use Rattle.tables.specs.Arcs.{StateOk}
-use Rattle.tables.specs.KeptFields.{with_field}
 use Rattle.tables.specs.Accepting.{StateField}
-use Rattle.tables.proofs.TableLaws.{Passing, passing_begins, field_here, passing-goes, passing-stops, passing-refused}
+use Rattle.tables.proofs.TableLaws.{passing_begins, field_here, passing-goes, passing-none, passing-stops, passing-refused}
 use Rattle.tables.proofs.TableLaws.{passing-accepted}
 use Rattle.tables.proofs.number_states.Goals as goal
 
@@ -39,8 +39,8 @@ body-requires c =
     (field_here c.args.s.now c.args.p c.requires.table_read c.args.work.now c.loop-i.work c.loop-i.at c.loop-i.met c.loop-i.i
     c.loop-i.invariant (omega arith)).fits
 
-pub met_by_arcs-met-requires : goal.met_by_arcs-met-requires
-met_by_arcs-met-requires c =
+pub met_by_arcs-requires : goal.met_by_arcs-requires
+met_by_arcs-requires c =
     subst StateOk (sym c.body.ensures)
     (field_here c.args.s.now c.args.p c.requires.table_read c.args.work.now c.loop-i.work c.loop-i.at c.loop-i.met c.loop-i.i
     c.loop-i.invariant (omega arith)).ok
@@ -53,18 +53,23 @@ next_field-at-requires c =
 pub loop-i-preserved : goal.loop-i-preserved
 loop-i-preserved c =
     let s = c.args.s.now in
-    let p = c.args.p in
-    let lent = c.args.work.now in
-    let work = c.loop-i.work in
-    let at = c.loop-i.at in
-    let i = c.loop-i.i in
-    let met = c.met_by_arcs-met in
-    let next = met.ensures ∙ ap (λ (l : List ℕ). met_by_arcs c.loop-i.met (state_in l).arcs) c.body.ensures in
-    let gone =
-    passing-goes s p c.requires.table_read lent work at c.loop-i.met i c.loop-i.invariant met.result (omega arith) (omega arith)
-    next in
-    subst (λ (w : List ℕ). Passing s p lent w c.next_field-at.result met.result (i + 1)) (sym c.keep_field.ensures)
-    (subst (λ (a : ℕ). Passing s p lent (with_field work i at) a met.result (i + 1)) (sym c.next_field-at.ensures) gone)
+    let met : met_by_arcs c.loop-i.met (state_in (body_at s c.loop-i.at)).arcs ≡ c.in_ok-met.met =
+    rw (sym c.body.ensures) (rw c.in_ok-met.ensures.ok_part at c.met_by_arcs.ensures) in
+    rw (c.keep_field.ensures, c.next_field-at.ensures)
+    (passing-goes s c.args.p c.requires.table_read c.args.work.now c.loop-i.work c.loop-i.at c.loop-i.met c.loop-i.i
+    c.loop-i.invariant c.in_ok-met.met (omega arith) (omega arith) (sym met))
+
+pub returns-in_err-met : goal.returns-in_err-met
+returns-in_err-met c =
+    let s = c.args.s.now in
+    let none : met_by_arcs c.loop-i.met (state_in (body_at s c.loop-i.at)).arcs ≡ 0 =
+    rw (sym c.body.ensures) (rw c.in_err-met.ensures.ok_part at c.met_by_arcs.ensures) in
+    let out = err_from_is_err_and c.from_residual.result c.from_residual.ensures.1 in
+    let at = rw c.in_err-met.ensures.ok_part at c.in_err-met.ensures.value in
+    let k : c.in_err-met.field-0.0 ≡ BadNumbering = cc at in
+    rw (c.keep_field.ensures, out.1, out.2, k)
+    (passing-none s c.args.p c.requires.table_read c.args.work.now c.loop-i.work c.loop-i.at c.loop-i.met c.loop-i.i
+    c.loop-i.invariant (omega arith) (omega arith) none)
 
 pub returns-then-met-items : goal.returns-then-met-items
 returns-then-met-items c =

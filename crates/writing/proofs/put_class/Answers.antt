@@ -1,15 +1,12 @@
 -- A field of three bytes.
+use mathlib.Core.Path.{◌≡◌}
 use native.Mathlib.Omega.{arith}
-use Rattle.model.specs.Tables.{class_field}
+use lib.ListN.{length}
+use Rattle.writing.proofs.Pieces.{class_field_bytes}
 use Rattle.writing.proofs.put_class.Goals as goal
 
-pub put_field-requires : goal.put_field-requires
-unfolding class_field
-put_field-requires c = record {
-  fits = c.requires;
-  body_len_bound = omega arith;
-}
+pub put_field-requires-clause-fits : goal.put_field-requires-clause-fits
+put_field-requires-clause-fits c = let three : length c.args.class ≡ 3 = omega arith in rw class_field_bytes at c.requires
 
 pub returns : goal.returns
-unfolding class_field
-returns c = c.put_field.ensures
+returns c = let three : length c.args.class ≡ 3 = omega arith in rw class_field_bytes c.put_field.ensures

@@ -1,24 +1,17 @@
 -- The field's head, then whether the state accepts.
-use mathlib.Core.List.{[], ◌∷◌}
+use mathlib.Core.Bool.{Bool, true, false}
+use mathlib.Core.Path.{◌≡◌, refl}
+use mir.Val.{bool_byte}
 use native.Mathlib.Omega.{arith}
-use Rattle.writing.proofs.WritingLaws.{put_append, fits_after}
+use Rattle.base.specs.Limits.{when}
+use Rattle.writing.proofs.WritingLaws.{put_append}
 use Rattle.writing.proofs.put_state.Goals as goal
 
-pub put_head-next-requires : goal.put_head-next-requires
-put_head-next-requires c = record {
-  fits = omega arith;
-  count_lt_number_limit = omega arith;
-}
-
-pub put_byte-requires : goal.put_byte-requires
-put_byte-requires c =
-    let headed = c in
-    fits_after (c.accepts_byte.result ∷ []) headed.put_head-next.ensures headed.requires.fits
+accepts_byte : (accepts : Bool) → when accepts 1 ≡ bool_byte accepts
+accepts_byte true = refl
+accepts_byte false = refl
 
 pub returns : goal.returns
 returns c =
-    let accepted = c in
-    let headed = accepted in
-    let fits = headed.requires.fits in
-    rw (← accepted.accepts_byte.ensures)
-    (put_append headed.put_head-next.ensures accepted.put_byte.ensures (omega arith))
+    let fits = c.requires.fits in
+    rw accepts_byte (put_append c.put_head-next.ensures c.put_byte.ensures (omega arith))

@@ -1,12 +1,10 @@
 -- One law of ListLaws for each answer.
 use native.Mathlib.Omega.{arith}
-use Rattle.model.proofs.CallLaws.{gives_as}
 use Rattle.book_calls.proofs.ListLaws.{copy_short, copy_whole}
 use Rattle.book_calls.proofs.listing.copy_out.Goals as goal
 
 pub returns-then-text-bytes : goal.returns-then-text-bytes
-returns-then-text-bytes c =
-    gives_as _ _ c.not_written.ensures (copy_short c.args.bytes.now c.args.text.now (omega arith))
+returns-then-text-bytes c = copy_short c.args.bytes.now c.args.text.now (omega arith)
 
 pub returns : goal.returns
 returns c =

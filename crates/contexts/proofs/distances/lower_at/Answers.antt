@@ -10,6 +10,6 @@ returns c =
     let ready = c.requires.lowering in
     let source = c.class_above-source.result in
     let fits : source < length dist =
-    label_fits (length groups) groups dist ready.labelled ready.few ready.size (get_or c.args.parents.now c.args.v 0) source
-    (ready.above.below c.args.v c.requires.inside) c.class_above-source.ensures in
-    lowered_set dist source (get_or dist c.wide16-target.result 0 + 1) fits c.if-dist-source.false
+    label_fits (length groups) groups dist ready.labelled ready.few ready.size (get_or c.args.parents.now c.args.v 0)
+    source (ready.above.below c.args.v c.requires.inside) c.class_above-source.ensures in
+    lowered_set dist source (get_or dist (get_or groups c.args.v 0) 0 + 1) fits c.if-dist-source.false

@@ -1,107 +1,95 @@
 -- The groups that are read are those copied, and the arcs are those linked.
-use mathlib.Core.Path.{◌≡◌, refl, sym, subst, subst₂}
+use mathlib.Core.Path.{◌≡◌, sym, ap, ◌∙◌, subst, subst₂}
 use mathlib.Core.List.{List}
 use Prim.Native.Nat.{ℕ, suc, ◌-◌}
 use native.Mathlib.Omega.{arith}
 use lib.ListN.{length}
+use Rattle.base.specs.Lists.{numbers_from}
 use Rattle.indexed.specs.Partitions.{Refines, ForkClosed}
-use Rattle.indexed.proofs.Chains.{heads_none}
-use Rattle.indexed.proofs.Suffixes.{parent_below}
 use Rattle.partition.specs.Forests.{roots_of}
 use Rattle.partition.proofs.ForestLaws.{flat_forest, flat_roots}
 use Rattle.worklist.specs.Forks.{Kept}
-use Rattle.contexts.specs.Sweeps.{ArcsLinked, ArcsReady, FarLinked}
+use Rattle.contexts.specs.Sweeps.{ArcsReady}
 use Rattle.contexts.specs.Joins.{PairsJoined}
-use Rattle.contexts.proofs.AheadLaws.{all_ones}
 use Rattle.contexts.proofs.ForkLaws.{kept-forks}
-use Rattle.contexts.proofs.NearLaws.{distances_none, arcs_none, arcs_ready}
+use Rattle.indexed.proofs.Chains.{heads_none}
+use Rattle.contexts.proofs.NearLaws.{arcs_none}
 use Rattle.contexts.proofs.ReadyLaws.{arcs_fall}
 use Rattle.contexts.proofs.SweepLaws.{pairs-sweep}
+use Rattle.contexts.proofs.TreeLaws.{tree-arrays, tree-above}
 use Rattle.contexts.proofs.joins.sweep.Goals as goal
 
 -- all arcs of the groups at first
 ready :
-    (j : ℕ) (parents names classes groups before dist next links heads links' : List ℕ) → length classes ≡ length groups →
-    before ≡ groups → ArcsLinked (length before) j parents names classes before dist next links heads →
-    FarLinked (length classes) classes heads links links' →
-    ArcsReady (length groups) j parents names classes groups dist next links' heads
-ready j parents names classes groups before dist next links heads links' size same linked far =
-    arcs_ready
-    (subst (λ (l : List ℕ). ArcsLinked (length l) j parents names classes l dist next links heads) same linked)
-    (λ v low. far v (omega (arith, size)))
+    (j : ℕ) (parents names classes groups before dist next links heads : List ℕ) → before ≡ groups →
+    ArcsReady (length before) j parents names classes before dist next links heads →
+    ArcsReady (length groups) j parents names classes groups dist next links heads
+ready j parents names classes groups before dist next links heads same =
+    subst (λ (l : List ℕ). ArcsReady (length l) j parents names classes l dist next links heads) same
 
-pub distances-requires-clause-lowering : goal.distances-requires-clause-lowering
-distances-requires-clause-lowering c =
-    let arrays = c.requires.arrays in
-    let n = length c.args.groups.now in
+pub distances-dist-requires-clause-above : goal.distances-dist-requires-clause-above
+distances-dist-requires-clause-above c = tree-above c.requires.size c.args.tree.arrays
+
+-- no arc is linked at first
+pub link_all-requires : goal.link_all-requires
+link_all-requires c = record { none = arcs_none (heads_none 512) (heads_none 512) (heads_none 512) }
+
+pub invariant_of-pairs-clause-own : goal.invariant_of-pairs-clause-own
+invariant_of-pairs-clause-own c =
+    c.requires.own ∙ ap (λ (l : List ℕ). numbers_from (length l) 0) (sym c.copy.ensures.after)
+
+pub invariant_of-pairs-clause-telling : goal.invariant_of-pairs-clause-telling
+invariant_of-pairs-clause-telling c = c.names_ahead-ahead.ensures c.link_all.ensures.linked
+
+pub invariant_of-pairs-clause-chains : goal.invariant_of-pairs-clause-chains
+invariant_of-pairs-clause-chains c =
+    let size : length c.link_all.new.self.links ≡ 512 = c.link_all.new.self.size in
     record {
-      few = arrays.few_states;
-      above =
-          record {
-            size = arrays.parents_size;
-            below = parent_below n c.args.parents.now c.args.names.now arrays;
-          };
-      labelled = c.requires.kept.labelled;
-      size = refl;
-      limit = distances_none 512;
+      size = omega (arith, c.copy.ensures.len, c.requires.before_size, c.requires.size, c.args.tree.arrays.few_states);
+      falling = arcs_fall c.link_all.ensures;
     }
 
-pub link_arcs-requires-clause-none : goal.link_arcs-requires-clause-none
-link_arcs-requires-clause-none c = arcs_none (heads_none 512) (heads_none 512) (heads_none 512)
-
-pub names_ahead-requires-clause-in_common : goal.names_ahead-requires-clause-in_common
-names_ahead-requires-clause-in_common c = all_ones 512
-
-pub sweep_pairs-joined-requires-clause-chains : goal.sweep_pairs-joined-requires-clause-chains
-sweep_pairs-joined-requires-clause-chains c =
-    let arcs =
-    ready (c.args.m - 1) c.args.parents.now c.args.names.now c.args.classes.now c.args.groups.now c.copy.new.to
-    c.distances.new.dist c.link_arcs.new.next c.link_arcs.new.links c.link_arcs.new.heads c.link_far.new.links
-    c.requires.classes_size c.copy.ensures c.link_arcs.ensures c.link_far.ensures in
-    record {
-      size = omega (arith, c.link_far.auto.links, c.link_arcs.auto.links, c.requires.arrays.few_states);
-      falling = arcs_fall arcs;
-    }
-
-pub sweep_pairs-joined-requires-clause-live : goal.sweep_pairs-joined-requires-clause-live
-sweep_pairs-joined-requires-clause-live c =
+pub join_all-joined-requires-clause-live : goal.join_all-joined-requires-clause-live
+join_all-joined-requires-clause-live c =
     let groups = c.args.groups.now in
     let n = length groups in
     let labels = c.requires.kept.labelled in
+    let forks = c.args.forks.now in
     record {
       forest = flat_forest n groups labels;
       kept =
-          subst (λ (l : List ℕ). Kept n c.args.parents.now c.args.names.now c.args.numbers.now l c.args.arclinks.now
-          c.args.archeads.now c.args.firsts.now c.args.seconds.now 0) (sym (flat_roots n groups labels)) c.requires.kept;
+          subst (λ (l : List ℕ). Kept n c.args.tree.parents.now c.args.tree.names.now c.args.numbers.now l forks.lists.links
+          forks.lists.heads forks.queue.firsts forks.queue.seconds 0) (sym (flat_roots n groups labels)) c.requires.kept;
     }
 
-pub sweep_pairs-joined-requires-clause-coarser : goal.sweep_pairs-joined-requires-clause-coarser
-sweep_pairs-joined-requires-clause-coarser c =
+pub join_all-joined-requires-clause-coarser : goal.join_all-joined-requires-clause-coarser
+join_all-joined-requires-clause-coarser c =
     let groups = c.args.groups.now in
     let n = length groups in
-    subst₂ (λ (a b : List ℕ). Refines n a b) (sym c.copy.ensures) (sym (flat_roots n groups c.requires.kept.labelled))
-    (λ v w hv hw one. one)
+    subst₂ (λ (a b : List ℕ). Refines n a b) (sym c.copy.ensures.after)
+    (sym (flat_roots n groups c.requires.kept.labelled)) (λ v w hv hw one. one)
 
 pub returns-clause-swept : goal.returns-clause-swept
 returns-clause-swept c =
-    let parents = c.args.parents.now in
-    let names = c.args.names.now in
+    let parents = c.args.tree.parents.now in
+    let names = c.args.tree.names.now in
     let groups = c.args.groups.now in
     let n = length groups in
     let j = c.args.m - 1 in
     let labels = c.requires.kept.labelled in
-    let joins = c.sweep_pairs-joined in
-    let links = c.link_far.new.links in
+    let arrays = tree-arrays c.requires.size c.args.tree.arrays in
+    let same = c.copy.ensures.after in
+    let joins = c.join_all-joined in
+    let arcs = c.link_all.new.self in
     let m-is : suc j ≡ c.args.m = omega (arith, c.requires.some) in
-    let arcs =
-    ready j parents names c.args.classes.now groups c.copy.new.to c.distances.new.dist c.link_arcs.new.next
-    c.link_arcs.new.links c.link_arcs.new.heads links c.requires.classes_size c.copy.ensures c.link_arcs.ensures
-    c.link_far.ensures in
     let fork : ForkClosed n parents names groups =
-    kept-forks n parents names c.args.numbers.now c.requires.arrays c.requires.own groups c.args.arclinks.now
-    c.args.archeads.now c.args.firsts.now c.args.seconds.now 0 c.requires.kept in
-    let all : PairsJoined n n j parents names groups links groups c.flatten.new.above joins.result =
-    subst (λ (l : List ℕ). PairsJoined n n j parents names groups links groups l joins.result) (sym c.flatten.ensures)
-    (subst₂ (λ (a b : List ℕ). PairsJoined n n j parents names a links b (roots_of joins.new.groups) joins.result)
-    c.copy.ensures (flat_roots n groups labels) joins.ensures.pairs) in
-    pairs-sweep c.requires.arrays labels fork arcs c.distances.ensures all m-is c.copy.ensures
+    kept-forks n parents names c.args.numbers.now arrays c.requires.own groups c.args.forks.now.lists.links c.args.forks.now.lists.heads
+    c.args.forks.now.queue.firsts c.args.forks.now.queue.seconds 0 c.requires.kept in
+    let all : PairsJoined n n j parents names groups arcs.links groups c.flatten.new.above joins.result =
+    subst (λ (l : List ℕ). PairsJoined n n j parents names groups arcs.links groups l joins.result) (sym c.flatten.ensures)
+    (subst₂ (λ (a b : List ℕ). PairsJoined n n j parents names a arcs.links b (roots_of joins.new.groups) joins.result)
+    same (flat_roots n groups labels) joins.ensures.pairs) in
+    pairs-sweep arrays labels fork
+    (ready j parents names c.args.classes.now groups c.copy.new.to c.distances-dist.result arcs.next arcs.links
+    arcs.heads same c.link_all.ensures)
+    c.distances-dist.ensures all m-is same

@@ -1,24 +1,13 @@
-use mathlib.Core.Path.{◌≡◌, refl, ap, ap₂, ◌∙◌, subst}
-use mathlib.Core.List.{List}
-use Prim.Native.Nat.{ℕ, suc, ◌-◌, ◌<◌}
-use native.Mathlib.Omega.{arith}
-use lib.ListN.{get_or}
-use Rattle.base.specs.Cells.{cell_at}
+use Rattle.std.proofs.Common.{◌≡◌, ◌<◌, ◌-◌, ℕ, suc, List, get_or, refl, subst, arith}
 use Rattle.model.specs.Classes.{Word}
 use Rattle.counting.proofs.PassSums.{PassesLeft, sums_start, sums_end, through-room, cell_room, sums_more}
 use Rattle.counting.proofs.passes.add_passes.Goals as goal
 
 pub loop-v-init : goal.loop-v-init
 loop-v-init c =
-    let clear = c.clear_cells in (
-      refl,
-      (
-        refl,
-        λ rows joined ends short.
-            sums_start rows c.args.parents.now c.args.names.now c.args.groups.now joined c.args.through.now
-            clear.new.work ends clear.ensures,
-      ),
-    )
+    λ rows joined ends short.
+    sums_start rows c.args.tree.parents.now c.args.tree.names.now c.args.groups.now joined c.args.through.now
+    c.clear_cells.new.work ends c.clear_cells.ensures
 
 -- what is left, before the state below v
 left :
@@ -28,66 +17,47 @@ left rows parents names groups through work v above all =
     let same : v ≡ suc (v - 1) = omega arith in
     subst (λ (k : ℕ). PassesLeft rows parents names groups k through work) same all
 
-pub add_at-requires-clause-more_bound : goal.add_at-requires-clause-more_bound
-add_at-requires-clause-more_bound c =
+pub overflow_add-through : goal.overflow_add-through
+overflow_add-through c =
     let p = c.requires.joined in
+    let parents = c.args.tree.parents.now in
+    let names = c.args.tree.names.now in
+    let groups = c.args.groups.now in
     let above : 0 < c.loop-v.v - 1 = omega (arith, c.loop-v-test.true) in
     let given =
-    left p.0 c.args.parents.now c.args.names.now c.args.groups.now c.loop-v.through c.loop-v.work c.loop-v.v
-    c.loop-v-test.true (c.loop-v.invariant.1.1 p.0 p.1 p.2 p.3) in
-    let room =
-    through-room p.0 c.args.parents.now c.args.names.now c.args.groups.now p.1 (c.loop-v.v - 1) c.loop-v.through
-    c.loop-v.work above given p.2.few_rows in
+    left p.0 parents names groups c.loop-v.through c.loop-v.work c.loop-v.v (omega arith) (c.loop-v.invariant p.0 p.1 p.2 p.3) in
     omega (
       arith,
-      room,
-      c.wide16-passes.ensures,
-      ap (λ (k : ℕ). get_or c.loop-v.through k 0) c.wide16-parent.ensures,
+      through-room p.0 parents names groups p.1 (c.loop-v.v - 1) c.loop-v.through c.loop-v.work above given p.2.few_rows,
     )
 
 pub add_to_cell-requires-clause-more_bound : goal.add_to_cell-requires-clause-more_bound
 add_to_cell-requires-clause-more_bound c =
     let p = c.requires.joined in
+    let parents = c.args.tree.parents.now in
+    let names = c.args.tree.names.now in
     let groups = c.args.groups.now in
     let above : 0 < c.loop-v.v - 1 = omega (arith, c.loop-v-test.true) in
     let given =
-    left p.0 c.args.parents.now c.args.names.now groups c.loop-v.through c.loop-v.work c.loop-v.v
-    c.loop-v-test.true (c.loop-v.invariant.1.1 p.0 p.1 p.2 p.3) in
-    let room =
-    cell_room p.0 c.args.parents.now c.args.names.now groups p.1 (c.loop-v.v - 1) c.loop-v.through c.loop-v.work
-    above given p.2.few_rows p.3 in
-    let from_is = c.wide16.ensures ∙ ap (λ (k : ℕ). get_or groups k 0) c.wide16-parent.ensures in
-    omega (
-      arith,
-      room,
-      c.wide16-passes.ensures,
-      ap₂ (cell_at c.loop-v.work) from_is c.wide8.ensures,
-    )
+    left p.0 parents names groups c.loop-v.through c.loop-v.work c.loop-v.v (omega arith) (c.loop-v.invariant p.0 p.1 p.2 p.3) in
+    cell_room p.0 parents names groups p.1 (c.loop-v.v - 1) c.loop-v.through c.loop-v.work above given p.2.few_rows p.3
 
 pub loop-v-preserved : goal.loop-v-preserved
 loop-v-preserved c =
-    let cells = c.add_to_cell in
-    let added = c.add_at in
-    let args = c.args in
-    let above : 0 < c.loop-v.v - 1 = omega (arith, c.loop-v-test.true) in (
-      added.auto.numbers ∙ c.loop-v.invariant.0,
-      (
-        cells.auto.work ∙ c.loop-v.invariant.1.0,
-        λ rows joined ends short.
-            sums_more rows args.parents.now args.names.now args.groups.now joined (c.loop-v.v - 1)
-            c.loop-v.through c.loop-v.work above
-            (left rows args.parents.now args.names.now args.groups.now c.loop-v.through c.loop-v.work c.loop-v.v
-            c.loop-v-test.true (c.loop-v.invariant.1.1 rows joined ends short))
-            c.wide16-parent.result c.wide16-passes.result c.wide16.result
-            c.wide8.result added.new.numbers cells.new.work c.wide16-parent.ensures
-            c.wide16-passes.ensures c.wide16.ensures c.wide8.ensures
-            added.ensures cells.ensures,
-      ),
-    )
+    let parents = c.args.tree.parents.now in
+    let names = c.args.tree.names.now in
+    let groups = c.args.groups.now in
+    let v = c.loop-v.v in
+    let parent = get_or parents (v - 1) 0 in
+    let above : 0 < v - 1 = omega (arith, c.loop-v-test.true) in
+    λ rows joined ends short.
+    sums_more rows parents names groups joined (v - 1) c.loop-v.through c.loop-v.work above
+    (left rows parents names groups c.loop-v.through c.loop-v.work v (omega arith) (c.loop-v.invariant rows joined ends short))
+    parent (get_or c.loop-v.through (v - 1) 0) (get_or groups parent 0) (get_or names (v - 1) 0) _ c.add_to_cell.new.work
+    refl refl refl refl refl c.add_to_cell.ensures
 
 pub returns : goal.returns
 returns c =
-    let args = c.args in
     λ rows joined ends short.
-    sums_end rows args.parents.now args.names.now args.groups.now joined c.loop-v.v c.loop-v.through
-    c.loop-v.work c.loop-v-test.false (c.loop-v.invariant.1.1 rows joined ends short)
+    sums_end rows c.args.tree.parents.now c.args.tree.names.now c.args.groups.now joined c.loop-v.v c.loop-v.through
+    c.loop-v.work (omega arith) (c.loop-v.invariant rows joined ends short)

@@ -5,9 +5,7 @@ use Rattle.writing.proofs.BytesLeft.{BytesLeft}
 use Rattle.counting.specs.Ready.{PassesToWrite}
 use Rattle.counting.proofs.written.write_passes.Given as goal
 
-abbrev pub invariant-loop-left : goal.invariant-loop-left
-invariant-loop-left l = (bytes : List ℕ) → PassesToWrite l.work l.row l.names bytes →
-    (rest : List ℕ) × PassesToWrite l.work l.row l.left rest × BytesLeft l.initial.out l.out l.at l.end bytes rest
-
-abbrev pub decreases-loop-left : goal.decreases-loop-left
-decreases-loop-left l = l.left
+abbrev pub invariant-loop-name : goal.invariant-loop-name
+invariant-loop-name l =
+    (bytes : List ℕ) → PassesToWrite l.work l.row l.names bytes →
+    (rest : List ℕ) × PassesToWrite l.work l.row l.name-iterator.left rest × BytesLeft l.initial.out l.out l.at l.end bytes rest

@@ -1,10 +1,10 @@
--- The first v sets are right. The measure is what is left of the length.
-use Rattle.std.proofs.Common.{◌-◌, ◌≤◌, length}
-use Rattle.functions.proofs.SeenLaws.{SeenTo}
+-- The first v sets are right.
+use Rattle.std.proofs.Common.{◌≡◌, get_or}
+use Rattle.functions.proofs.SeenLaws.{ArcsSeen}
 use Rattle.functions.proofs.seen.seen_sets.Given as goal
 
 abbrev pub invariant-loop-v : goal.invariant-loop-v
-invariant-loop-v l = (l.v ≤ length l.initial.seen) × SeenTo l.parents l.names l.v l.initial.seen l.seen
-
-abbrev pub decreases-loop-v : goal.decreases-loop-v
-decreases-loop-v l = length l.initial.seen - l.v
+invariant-loop-v l = record {
+  root : get_or l.seen 0 0 ≡ 0;
+  arcs : ArcsSeen l.tree.parents.now l.tree.names.now l.v l.seen;
+}

@@ -1,37 +1,39 @@
 -- One law for each kind.
-use mathlib.Core.Path.{subst}
-use Prim.Native.Nat.{ℕ}
-use native.Mathlib.Omega.{arith}
-use lib.Dec.{eqb}
-use lib.ListN.{length}
-use Rattle.indexed.specs.Passes.{ContextJoined}
-use Rattle.functions.specs.Results.{JoinedByF}
-use Rattle.inference.proofs.ClassLaws.{by_context_fact, by_function}
+use mathlib.Core.Path.{sym, subst}
+use Rattle.model.specs.Fields.{Class, ClassOk}
+use Rattle.inference.specs.Books.{JoinedBy}
+use Rattle.inference.proofs.ClassLaws.{context_settings, by_context_fact, by_seen, by_last}
 use Rattle.inference.proofs.classes.join_by_class.Goals as goal
 
-pub returns-in-0 : goal.returns-in-0
-returns-in-0 c =
+pub returns-in-Context : goal.returns-in-Context
+returns-in-Context c =
     let args = c.args in
+    let tree = args.tree in
     let groups = c.join_by_context.new.groups in
-    let n = length args.groups.now in
-    let with-k =
-    subst (λ (k : ℕ). ContextJoined n k c.wide8-in-0.result args.parents.now args.names.now groups)
-    c.wide8.ensures c.join_by_context.ensures in
-    let joined =
-    subst (λ (h : ℕ). ContextJoined n args.first h args.parents.now args.names.now groups)
-    c.wide8-in-0.ensures with-k in
-    λ rows tree.
-    by_context_fact args.kind args.first args.second n rows args.parents.now args.names.now args.ends.now groups
-    tree c.requires.join_ready.arrays.parents_size c.in-0.is c.requires.second_value joined
+    let judged = rw c.in-Context.ensures at c.try_from.ensures in
+    λ rows at.
+    subst (λ (class : Class). JoinedBy class rows tree.parents.now tree.names.now groups) judged.1
+    (by_context_fact _ rows tree.parents.now tree.names.now args.ends.now groups at (sym c.requires.size)
+    c.in-Context.k c.in-Context.h (context_settings _ _ (subst ClassOk (sym judged.1) judged.0)) c.join_by_context.ensures)
 
-pub returns-in_default : goal.returns-in_default
-returns-in_default c =
+pub returns-in-SeenSet : goal.returns-in-SeenSet
+returns-in-SeenSet c =
     let args = c.args in
-    let groups = c.join_by_function.new.groups in
-    let n = length args.groups.now in
-    let joined =
-    subst (λ (j : ℕ). JoinedByF (eqb args.kind 1) n j args.parents.now args.names.now args.ends.now groups)
-    c.wide8-in_default.ensures c.join_by_function.ensures in
-    λ rows tree.
-    by_function args.kind args.first args.second n rows args.parents.now args.names.now args.ends.now
-    groups tree c.requires.join_ready.arrays.parents_size (λ e. omega arith) joined
+    let tree = args.tree in
+    let groups = c.join_by_seen.new.groups in
+    let judged = rw c.in-SeenSet.ensures at c.try_from.ensures in
+    λ rows at.
+    subst (λ (class : Class). JoinedBy class rows tree.parents.now tree.names.now groups) judged.1
+    (by_seen _ rows tree.parents.now tree.names.now args.ends.now groups at (sym c.requires.size)
+    c.join_by_seen.ensures)
+
+pub returns-in-LastNames : goal.returns-in-LastNames
+returns-in-LastNames c =
+    let args = c.args in
+    let tree = args.tree in
+    let groups = c.join_by_last.new.groups in
+    let judged = rw c.in-LastNames.ensures at c.try_from.ensures in
+    λ rows at.
+    subst (λ (class : Class). JoinedBy class rows tree.parents.now tree.names.now groups) judged.1
+    (by_last _ rows tree.parents.now tree.names.now args.ends.now groups at (sym c.requires.size)
+    c.in-LastNames.j c.join_by_last.ensures)

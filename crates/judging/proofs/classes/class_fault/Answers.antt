@@ -1,25 +1,14 @@
-use lib.ListN.{length}
 use native.Mathlib.Omega.{arith}
-use borrow.Author.Tests.{eq-eqb, ne_eqb}
+use borrow.Author.Tests.{eq-eqb}
+use lib.ListN.{length}
+use Rattle.std.proofs.lemmas.Result.{err_from_is_err_and}
 use Rattle.model.specs.Fields.{class_fault}
 use Rattle.judging.proofs.classes.class_fault.Goals as goal
 
-pub returns-then-body-ne3 : goal.returns-then-body-ne3
+pub returns-in_err-try_from : goal.returns-in_err-try_from
 unfolding class_fault
-returns-then-body-ne3 c =
+returns-in_err-try_from c =
     let size = length c.args.body.now in
-    rw (class_fault, ne_eqb size 3 c.if-body-ne3.true)
-
-pub returns-then-not-settings_ok : goal.returns-then-not-settings_ok
-unfolding class_fault
-returns-then-not-settings_ok c =
-    let size = length c.args.body.now in
-    let test = c.if-not-settings_ok.true in
-    rw (class_fault, eq-eqb size 3 (omega arith), ← c.settings_ok.ensures, test)
-
-pub returns : goal.returns
-unfolding class_fault
-returns c =
-    let size = length c.args.body.now in
-    let test = c.if-not-settings_ok.false in
-    rw (class_fault, eq-eqb size 3 (omega arith), ← c.settings_ok.ensures, test)
+    let p = err_from_is_err_and c.from_residual.result c.from_residual.ensures.1 in
+    let w = c.in_err-try_from.ensures in
+    rw (p.1, p.2, w.1, class_fault, eq-eqb size 3 (omega arith), w.0)

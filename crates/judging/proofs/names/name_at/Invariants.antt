@@ -1,10 +1,7 @@
--- The i-th field begins at the offset reached.
-use Rattle.std.proofs.Common.{◌-◌, ◌≡◌, ◌≤◌}
+-- The field with the turn's number begins at the offset reached.
+use Rattle.std.proofs.Common.{◌≡◌}
 use Rattle.judging.specs.Offsets.{offset_at}
 use Rattle.judging.proofs.names.name_at.Given as goal
 
-abbrev pub invariant-loop-i : goal.invariant-loop-i
-invariant-loop-i l = (l.i ≤ l.n) × (l.at ≡ offset_at l.list 0 l.i)
-
-abbrev pub decreases-loop-i : goal.decreases-loop-i
-decreases-loop-i l = l.n - l.i
+abbrev pub invariant-loop : goal.invariant-loop
+invariant-loop l = l.at ≡ offset_at l.list 0 l.counter

@@ -4,13 +4,8 @@ use Rattle.partition.proofs.forest.flatten.Goals as goal
 
 pub loop-v-preserved : goal.loop-v-preserved
 loop-v-preserved c =
-    let inside : c.loop-v.v < length c.args.above.now = omega (arith, c.loop-v.invariant.1.filled.size) in (
-      omega arith,
-      flattening-more c.args.above.now c.requires.forest c.loop-v.v c.loop-v.above c.loop-v.invariant.1
-          c.wide16-up.result inside c.wide16-up.ensures _ refl,
-    )
+    let inside : c.loop-v.v < length c.args.above.now = omega arith in
+    flattening-more _ c.requires.forest _ _ c.loop-v.invariant _ inside refl _ refl
 
 pub returns : goal.returns
-returns c =
-    flattening_all c.args.above.now c.requires.forest c.loop-v.v c.loop-v.above c.loop-v.invariant.1
-    (omega (arith, c.loop-v.invariant.1.filled.size))
+returns c = flattening_all _ c.requires.forest c.loop-v.v _ c.loop-v.invariant (omega arith)

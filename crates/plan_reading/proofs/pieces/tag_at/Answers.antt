@@ -1,20 +1,17 @@
-use native.Mathlib.Omega.{arith}
-use lib.ListN.{get_or}
-use Rattle.plan_reading.proofs.PieceLaws.{piece_after, tag-cut, end-begins, tag-slash, tag-named}
+use Rattle.std.proofs.lemmas.Result.{err_from_is_err_and}
+use Rattle.plan_reading.proofs.PieceLaws.{tag_ends, tag_unended}
 use Rattle.plan_reading.proofs.pieces.tag_at.Goals as goal
 
-pub returns-then-plan-at : goal.returns-then-plan-at
-returns-then-plan-at c = tag-cut c.args.plan.now c.args.stack.now c.args.r c.if-plan-at.true
+pub returns-in_err-at-in-Some : goal.returns-in_err-at-in-Some
+returns-in_err-at-in-Some c =
+    let p = err_from_is_err_and c.from_residual.result c.from_residual.ensures.1 in
+    let inner = c.in-Some.ensures in
+    rw (p.1, p.2)
+    (tag_unended c.args.plan.now c.args.stack.now.opens c.args.stack.now.depth c.args.r c.in-Some.innermost inner.1 inner.0
+    c.if-r-plan.true c.if-plan-r-eq47.true _ c.in_err-at-in-Some.ensures)
 
-pub returns-then-plan-at-2 : goal.returns-then-plan-at-2
-returns-then-plan-at-2 c =
-    let s = c.args.plan.now in
-    let stack = c.args.stack.now in
-    let r = c.args.r in
-    let begins = end-begins r.depth (get_or s r.at 0) c.if-plan-at-2.true in
-    let first = tag-slash s stack r c.if-plan-at.false begins.0 begins.1 in
-    piece_after s stack _ r.at r _ _ first (omega arith) c.end_tag.result c.end_tag.ensures
-
-pub returns : goal.returns
-returns c =
-    tag-named c.args.plan.now c.args.stack.now c.args.r c.if-plan-at-2.false c.tag_name.result c.tag_name.ensures
+pub returns-in_ok-at-in-Some : goal.returns-in_ok-at-in-Some
+returns-in_ok-at-in-Some c =
+    let inner = c.in-Some.ensures in
+    tag_ends c.args.plan.now c.args.stack.now.opens c.args.stack.now.depth c.args.r c.in-Some.innermost inner.1 inner.0
+    c.if-r-plan.true c.if-plan-r-eq47.true c.requires c.in_ok-at-in-Some.at c.in_ok-at-in-Some.ensures

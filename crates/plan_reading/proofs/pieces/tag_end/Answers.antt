@@ -1,32 +1,33 @@
 use native.Mathlib.Omega.{arith}
-use Rattle.plan_reading.proofs.PieceLaws.{end-missing, end-full, end-other, empty-missing, empty-other, end_empty}
+use Rattle.std.proofs.lemmas.Result.{err_from_is_err_and}
+use Rattle.plan_reading.proofs.PieceLaws.{end_full, end_bad, empty_bad, end_empty}
 use Rattle.plan_reading.proofs.pieces.tag_end.Goals as goal
+use Rattle.plan_reading.proofs.pieces.tag_end.Goals.{else-next-plan-via-then-next-plan+else-plan-next-eq47}
+use Rattle.plan_reading.proofs.pieces.tag_end.Goals.{else-next-plan-via-else-next-plan}
 
-pub returns-then-plan-next : goal.returns-then-plan-next
-returns-then-plan-next c =
-    end-missing c.args.plan.now c.args.at c.skip_white-next.result c.skip_white-next.ensures c.if-plan-next.true
+pub returns-in_err-last : goal.returns-in_err-last
+returns-in_err-last c =
+    let p = err_from_is_err_and c.from_residual.result c.from_residual.ensures.1 in
+    rw (p.1, p.2)
+    (empty_bad c.args.plan.now c.args.at c.skip-next.result c.skip-next.ensures c.if-next-plan.true c.if-plan-next-eq47.true _
+    c.in_err-last.ensures)
 
-pub returns-then-plan-next-eq-GREATER : goal.returns-then-plan-next-eq-GREATER
-returns-then-plan-next-eq-GREATER c =
-    end-full c.args.plan.now c.args.at c.skip_white-next.result c.skip_white-next.ensures c.if-plan-next.false
-    c.if-plan-next-eq-GREATER.true
+pub returns-then-plan-next-eq47 : goal.returns-then-plan-next-eq47
+returns-then-plan-next-eq47 c =
+    end_empty c.args.plan.now c.args.at c.skip-next.result c.skip-next.ensures c.if-next-plan.true c.if-plan-next-eq47.true _
+    c.in_ok-last.ensures
 
-pub returns-then-plan-next-ne-SLASH : goal.returns-then-plan-next-ne-SLASH
-returns-then-plan-next-ne-SLASH c =
-    end-other c.args.plan.now c.args.at c.skip_white-next.result c.skip_white-next.ensures c.if-plan-next.false
-    c.if-plan-next-eq-GREATER.false c.if-plan-next-ne-SLASH.true
-
-pub returns-then-plan-last : goal.returns-then-plan-last
-returns-then-plan-last c =
-    empty-missing c.args.plan.now c.args.at c.skip_white-next.result c.skip_white-next.ensures c.if-plan-next.false
-    c.if-plan-next-ne-SLASH.false c.if-plan-last.true
-
-pub returns-then-plan-last-ne-GREATER : goal.returns-then-plan-last-ne-GREATER
-returns-then-plan-last-ne-GREATER c =
-    empty-other c.args.plan.now c.args.at c.skip_white-next.result c.skip_white-next.ensures c.if-plan-next.false
-    c.if-plan-next-ne-SLASH.false c.if-plan-last.false (λ z. omega arith)
+pub returns-in_err-last-2 : goal.returns-in_err-last-2
+returns-in_err-last-2 c =
+    let p = err_from_is_err_and c.from_residual-in_err-last-2.result c.from_residual-in_err-last-2.ensures.1 in
+    rw (p.1, p.2)
+    (end_bad c.args.plan.now c.args.at c.skip-next.result c.skip-next.ensures _
+    (λ h e.
+    elim c.else-next-plan.branch [
+      | else-next-plan-via-then-next-plan+else-plan-next-eq47 w ↦ w.if-plan-next-eq47.false e
+      | else-next-plan-via-else-next-plan w ↦ omega arith
+    ])
+    c.in_err-last-2.ensures)
 
 pub returns : goal.returns
-returns c =
-    end_empty c.args.plan.now c.args.at c.skip_white-next.result c.skip_white-next.ensures c.if-plan-next.false
-    c.if-plan-next-ne-SLASH.false c.if-plan-last.false (omega arith)
+returns c = end_full c.args.plan.now c.args.at c.skip-next.result c.skip-next.ensures _ c.in_ok-last-2.ensures

@@ -1,10 +1,6 @@
--- The bytes up to i agree with those up to j.
-use Rattle.std.proofs.Common.{◌-◌}
-use Rattle.plan_reading.proofs.ScanLaws.{Agreeing}
+-- So many bytes agree.
+use Rattle.std.proofs.Common.{◌≡◌, ℕ, ◌+◌, ◌<◌, get_or}
 use Rattle.plan_reading.proofs.scanning.agree.Given as goal
 
-abbrev pub invariant-loop-j : goal.invariant-loop-j
-invariant-loop-j l = Agreeing l.s l.from l.end l.at l.i l.j
-
-abbrev pub decreases-loop-j : goal.decreases-loop-j
-decreases-loop-j l = l.end - l.j
+abbrev pub invariant-loop-i : goal.invariant-loop-i
+invariant-loop-i l = (k : ℕ) → k < l.i → get_or l.s (l.at + k) 0 ≡ get_or l.s (l.from + k) 0

@@ -1,20 +1,11 @@
-use mathlib.Core.Path.{refl, ◌∙◌}
-use Prim.Native.Nat.{◌<◌}
-use native.Mathlib.Omega.{arith}
-use lib.ListN.{length, length-set}
+use Rattle.std.proofs.Common.{refl, ◌<◌, get_or, length, arith, rules}
 use Rattle.indexed.proofs.TreeArcs.{label_low}
 use Rattle.quotient.proofs.EndsPass.{sums_start, sums_more, sums_few, sums_end}
 use Rattle.quotient.proofs.gathering.sum_ends.Goals as goal
 
 pub loop-v-init : goal.loop-v-init
 loop-v-init c =
-    let args = c.args in (
-      omega arith,
-      (
-        refl,
-        sums_start args.ends.now args.groups.now args.sums.now c.fill.new.numbers c.requires.groups_in_bounds c.fill.ensures,
-      ),
-    )
+    sums_start c.args.ends.now c.args.groups.now c.args.sums.now c.fill.new.self c.requires.groups_in_bounds (search rules)
 
 -- the turn's group is one of them, and its sum with one more state's ends is a small number
 pub overflow_add-sums : goal.overflow_add-sums
@@ -22,12 +13,12 @@ overflow_add-sums c =
     let args = c.args in
     let ready = c.requires.ends_array in
     let size = ready.2.size in
+    let g = get_or args.groups.now c.loop-v.v 0 in
     let low = label_low ready.2 c.loop-v.v (omega arith) in
-    let g-low : c.wide16-g.result < length args.groups.now = omega (arith, low, c.wide16-g.ensures) in
+    let g-low : g < length args.groups.now = omega (arith, low) in
     omega (
       arith,
-      sums_few ready.0 args.ends.now args.groups.now c.loop-v.sums c.loop-v.v c.wide16-g.result ready.1 (omega arith) g-low
-          c.wide16-g.ensures c.loop-v.invariant.1.1,
+      sums_few ready.0 args.ends.now args.groups.now c.loop-v.sums c.loop-v.v g ready.1 (omega arith) g-low refl c.loop-v.invariant,
     )
 
 pub loop-v-preserved : goal.loop-v-preserved
@@ -35,17 +26,12 @@ loop-v-preserved c =
     let args = c.args in
     let labels = c.requires.ends_array.2 in
     let size = labels.size in
+    let g = get_or args.groups.now c.loop-v.v 0 in
     let low = label_low labels c.loop-v.v (omega arith) in
-    let g-low : c.wide16-g.result < length args.groups.now = omega (arith, low, c.wide16-g.ensures) in (
-      omega arith,
-      (
-        length-set c.loop-v.sums c.wide16-g.result _ ∙ c.loop-v.invariant.1.0,
-        sums_more c.loop-v.v args.ends.now args.groups.now c.loop-v.sums c.loop-v.invariant.1.1
-            c.wide16-g.result _ g-low c.wide16-g.ensures refl,
-      ),
-    )
+    let g-low : g < length args.groups.now = omega (arith, low) in
+    sums_more c.loop-v.v args.ends.now args.groups.now c.loop-v.sums c.loop-v.invariant g _ g-low refl refl
 
 pub returns : goal.returns
 returns c =
     λ rows array labels.
-    sums_end rows c.args.ends.now c.args.groups.now c.loop-v.sums c.loop-v.v array labels (omega arith) c.loop-v.invariant.1.1
+    sums_end rows c.args.ends.now c.args.groups.now c.loop-v.sums c.loop-v.v array labels (omega arith) c.loop-v.invariant

@@ -1,61 +1,57 @@
-use mathlib.Core.Path.{sym, ap₂, ◌∙◌}
-use mathlib.Core.List.{◌++◌}
-use Prim.Native.Nat.{ℕ, ◌≤◌}
-use native.Mathlib.Omega.{arith}
-use lib.ListN.{length, get_or}
+use Rattle.std.proofs.Common.{◌≡◌, ◌≤◌, ℕ, ◌++◌, ◌∙◌, length, get_or, sym, ap, subst, arith, rules}
+use Rattle.quotient.specs.Ready.{ArcsToWrite}
 use Rattle.writing.specs.Writing.{arc_part}
 use Rattle.writing.proofs.BytesLeft.{left-all, left-more, left-room, left-none}
-use Rattle.quotient.proofs.StatePieces.{arcs_write_more, arcs_write_done}
+use Rattle.quotient.proofs.StatePieces.{arcs_write_name, arcs_write_more, arcs_write_done}
 use Rattle.quotient.proofs.states.write_arcs.Goals as goal
 
-pub loop-left-init : goal.loop-left-init
-loop-left-init c = λ bytes m. (bytes, m, left-all c.args.out.now c.args.at bytes)
+pub loop-name-init : goal.loop-name-init
+loop-name-init c =
+    let start : c.into_iter-name-iterator.result.left ≡ get_or c.args.made.now.next c.args.g 0 = search rules in
+    λ bytes m. (
+      bytes,
+      subst (λ (s : ℕ). ArcsToWrite c.args.work.now c.args.g s c.args.made.now.met.numbers bytes) (sym start) m,
+      left-all c.args.out.now c.args.at bytes,
+    )
+
+pub cell-requires-clause-in_columns : goal.cell-requires-clause-in_columns
+cell-requires-clause-in_columns c =
+    let m = c.loop-name.invariant c.requires.by_index.0 c.requires.by_index.1 in
+    arcs_write_name c.in-Some.name c.next.new.self.left m.1 c.in-Some.ensures.steps
 
 pub number_of-target-requires : goal.number_of-target-requires
 number_of-target-requires c =
-    let m = c.loop-left.invariant c.requires.by_index.0 c.requires.by_index.1 in
-    let t =
-    arcs_write_more c.lowest-name.result c.cell.result m.1 c.loop-left-test.true c.lowest-name.ensures c.cell.ensures.value in
-    t.target_low
+    let m = c.loop-name.invariant c.requires.by_index.0 c.requires.by_index.1 in
+    let more =
+    arcs_write_more c.in-Some.name c.cell.result c.next.new.self.left m.1 c.in-Some.ensures.steps c.cell.ensures.value in
+    omega (arith, more.target_low)
 
 pub put_arc-end-requires-clause-fits : goal.put_arc-end-requires-clause-fits
 put_arc-end-requires-clause-fits c =
-    let fits = c.requires.by_index.2 in
-    let m = c.loop-left.invariant c.requires.by_index.0 c.requires.by_index.1 in
-    let t =
-    arcs_write_more c.lowest-name.result c.cell.result m.1 c.loop-left-test.true c.lowest-name.ensures c.cell.ensures.value in
-    let number = get_or c.args.numbers.now c.cell.result 0 in
-    let room = left-room m.2 (arc_part c.lowest-name.result number) t.rest t.bytes_are fits in
+    let m = c.loop-name.invariant c.requires.by_index.0 c.requires.by_index.1 in
+    let more =
+    arcs_write_more c.in-Some.name c.cell.result c.next.new.self.left m.1 c.in-Some.ensures.steps c.cell.ensures.value in
+    let number = get_or c.args.made.now.met.numbers c.cell.result 0 in
+    let room = left-room m.2 (arc_part c.in-Some.name number) more.rest more.bytes_are c.requires.by_index.2 in
     omega arith
 
--- the lowest name is in the set
-pub overflow_sub-left : goal.overflow_sub-left
-overflow_sub-left c =
-    let m = c.loop-left.invariant c.requires.by_index.0 c.requires.by_index.1 in
-    let t =
-    arcs_write_more c.lowest-name.result c.cell.result m.1 c.loop-left-test.true c.lowest-name.ensures c.cell.ensures.value in
-    omega (arith, t.in_set, c.only-left.ensures)
-
-pub loop-left-preserved : goal.loop-left-preserved
-loop-left-preserved c =
+pub loop-name-preserved : goal.loop-name-preserved
+loop-name-preserved c =
     let fits = c.requires.by_index.2 in
     let start-low : c.args.at ≤ length c.args.out.now = omega arith in
-    let name = c.narrow8 in
-    let number = c.number_of-target in
     let arc = c.put_arc-end in
     λ bytes given.
-    let m = c.loop-left.invariant bytes given in
-    let t =
-    arcs_write_more c.lowest-name.result c.cell.result m.1 c.loop-left-test.true c.lowest-name.ensures c.cell.ensures.value in (
-      t.rest,
-      t.after c.only-left.result c.only-left.ensures,
-      left-more m.2 (arc_part name.result number.result) t.rest arc.new.out arc.result
-          (t.bytes_are ∙ ap₂ (λ (a b : ℕ). arc_part a b ++ t.rest) (sym name.ensures) (sym number.ensures))
-          arc.ensures start-low,
+    let m = c.loop-name.invariant bytes given in
+    let more =
+    arcs_write_more c.in-Some.name c.cell.result c.next.new.self.left m.1 c.in-Some.ensures.steps c.cell.ensures.value in (
+      more.rest,
+      more.after,
+      left-more m.2 (arc_part c.in-Some.name c.number_of-target.result) more.rest arc.new.out arc.result
+          (more.bytes_are ∙ ap (λ (n : ℕ). arc_part c.in-Some.name n ++ more.rest) (sym c.number_of-target.ensures)) arc.ensures start-low,
     )
 
 pub returns : goal.returns
 returns c =
     λ bytes given.
-    let m = c.loop-left.invariant bytes given in
-    left-none m.2 (arcs_write_done m.1 c.loop-left-test.false)
+    let m = c.loop-name.invariant bytes given in
+    left-none m.2 (arcs_write_done m.1 c.in-None.ensures.steps)

@@ -1,13 +1,11 @@
--- The arcs of what is left of the set are still to be written. The measure is what is left of it.
-use Rattle.std.proofs.Common.{ℕ, List}
+-- The arcs of what is left of the set are still to be written.
+use Rattle.std.proofs.Common.{ℕ, List, get_or}
 use Rattle.quotient.specs.Ready.{ArcsToWrite}
 use Rattle.writing.proofs.BytesLeft.{BytesLeft}
 use Rattle.quotient.proofs.states.write_arcs.Given as goal
 
-abbrev pub invariant-loop-left : goal.invariant-loop-left
-invariant-loop-left l =
-    (bytes : List ℕ) → ArcsToWrite l.work l.row l.names l.numbers bytes →
-    (rest : List ℕ) × ArcsToWrite l.work l.row l.left l.numbers rest × BytesLeft l.initial.out l.out l.at l.end bytes rest
-
-abbrev pub decreases-loop-left : goal.decreases-loop-left
-decreases-loop-left l = l.left
+abbrev pub invariant-loop-name : goal.invariant-loop-name
+invariant-loop-name l =
+    (bytes : List ℕ) → ArcsToWrite l.work l.g (get_or l.made.next l.g 0) l.made.met.numbers bytes →
+    (rest : List ℕ) × ArcsToWrite l.work l.g l.name-iterator.left l.made.met.numbers rest
+    × BytesLeft l.initial.out l.out l.at l.end bytes rest

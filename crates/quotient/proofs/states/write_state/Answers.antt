@@ -1,9 +1,5 @@
 -- The arcs, then the head in front of them.
-use mathlib.Core.Path.{◌≡◌, ap, ◌∙◌}
-use mathlib.Core.List.{◌++◌}
-use Prim.Native.Nat.{ℕ, ◌+◌, ◌-◌}
-use native.Mathlib.Omega.{arith}
-use lib.Count.{ones-le}
+use Rattle.std.proofs.Common.{◌≡◌, ◌∙◌, ◌++◌, ℕ, ◌+◌, ◌-◌, ap, get_or, ltb, arith}
 use Rattle.writing.specs.Writing.{state_head}
 use Rattle.writing.proofs.WritingLaws.{put_before}
 use Rattle.quotient.proofs.StatePieces.{state-parts}
@@ -31,14 +27,13 @@ put_state-requires-clause-fits c =
 pub put_state-requires-clause-bytes_bound : goal.put_state-requires-clause-bytes_bound
 put_state-requires-clause-bytes_bound c =
     let parts = state-parts c.requires.by_index.1 in
-    let few = ones-le 64 c.args.names c.ranges.names.fits in
-    omega (arith, parts.counted, few, (c.write_arcs-end.ensures parts.rest parts.arcs_left).ends)
+    omega (arith, parts.few, (c.write_arcs-end.ensures parts.rest parts.arcs_left).ends)
 
 pub returns : goal.returns
 returns c =
     let fits = c.requires.by_index.2 in
     let room = (state-parts c.requires.by_index.1).sized in
-    let accepts = c.args.accepts in
+    let accepts = ltb 0 (get_or c.args.made.now.sums c.args.g 0) in
     let arcs = c.write_arcs-end in
     λ bytes given.
     let parts = state-parts given in

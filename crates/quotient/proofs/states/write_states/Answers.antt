@@ -1,8 +1,4 @@
-use mathlib.Core.Path.{sym, ap, ◌∙◌, subst}
-use mathlib.Core.List.{List}
-use Prim.Native.Nat.{ℕ, ◌+◌, ◌≤◌}
-use native.Mathlib.Omega.{arith}
-use lib.ListN.{length}
+use Rattle.std.proofs.Common.{refl, sym, ap, subst, List, ℕ, ◌+◌, ◌≤◌, length, get_or, arith}
 use Rattle.model.specs.Joinings.{tree_of}
 use Rattle.model.specs.Quotients.{met_groups, states_of}
 use Rattle.model.specs.Tables.{state_fields}
@@ -20,24 +16,11 @@ loop-i-init c =
     (ap state_fields (sym (states_all rows groups)))
     (left-all args.out.now args.at (state_fields (states_of rows (tree_of rows) groups)))
 
--- the turn's group is one of the tree's states
-pub bounds-next-g : goal.bounds-next-g
-bounds-next-g c =
-    let ready = c.requires.2 in
-    let low = met-low (met_groups (tree_of c.requires.0) c.requires.1) ready.numbered c.loop-i.i c.loop-i-test.true in
-    omega (arith, low, c.wide16-g.ensures, ready.gathered.next_size)
-
-pub bounds-sums-g : goal.bounds-sums-g
-bounds-sums-g c =
-    let ready = c.requires.2 in
-    let low = met-low (met_groups (tree_of c.requires.0) c.requires.1) ready.numbered c.loop-i.i c.loop-i-test.true in
-    omega (arith, low, c.wide16-g.ensures, ready.summed.size)
-
 pub write_state-end-requires-clause-work_bytes_in_bounds : goal.write_state-end-requires-clause-work_bytes_in_bounds
 write_state-end-requires-clause-work_bytes_in_bounds c =
     let ready = c.requires.2 in
     let low = met-low (met_groups (tree_of c.requires.0) c.requires.1) ready.numbered c.loop-i.i c.loop-i-test.true in
-    (ready.gathered.work_size, omega (arith, low, c.wide16-g.ensures, ready.gathered.few))
+    (ready.gathered.work_size, omega (arith, low, ready.gathered.few))
 
 -- what is written in the turn: the state of its group, the first field of those that are left
 pub write_state-end-requires-clause-by_index : goal.write_state-end-requires-clause-by_index
@@ -47,13 +30,13 @@ write_state-end-requires-clause-by_index c =
     let groups = c.requires.1 in
     let ready = c.requires.2 in
     let at = c.loop-i in
-    let g = c.wide16-g.result in
+    let g = (get_or c.args.made.now.met.order c.loop-i.i 0) in
     let more =
     fields_more rows groups at.i g (omega (arith, c.loop-i-test.true, ready.numbered.counted))
-    (c.wide16-g.ensures ∙ met-nth (met_groups (tree_of rows) groups) ready.numbered at.i c.loop-i-test.true) in (
+    (met-nth (met_groups (tree_of rows) groups) ready.numbered at.i c.loop-i-test.true) in (
       field_of rows groups g,
-      state-ready rows groups args.work.now args.next.now args.sums.now args.met.now args.numbers.now args.count ready at.i g
-          c.loop-i-test.true c.wide16-g.ensures,
+      state-ready rows groups args.work.now args.made.now.next args.made.now.sums args.made.now.met.order args.made.now.met.numbers args.made.now.met.count ready at.i g
+          c.loop-i-test.true refl,
       left-room (at.invariant rows groups ready) (field_of rows groups g)
           (state_fields (states_from rows groups (at.i + 1))) more c.requires.3,
     )
@@ -64,15 +47,15 @@ loop-i-preserved c =
     let fits = c.requires.3 in
     let start-low : args.at ≤ length args.out.now = omega arith in
     let at = c.loop-i in
-    let g = c.wide16-g.result in
+    let g = (get_or c.args.made.now.met.order c.loop-i.i 0) in
     let written = c.write_state-end in
     λ rows groups ready.
     let state =
-    state-ready rows groups args.work.now args.next.now args.sums.now args.met.now args.numbers.now args.count ready at.i g
-    c.loop-i-test.true c.wide16-g.ensures in
+    state-ready rows groups args.work.now args.made.now.next args.made.now.sums args.made.now.met.order args.made.now.met.numbers args.made.now.met.count ready at.i g
+    c.loop-i-test.true refl in
     let more =
     fields_more rows groups at.i g (omega (arith, c.loop-i-test.true, ready.numbered.counted))
-    (c.wide16-g.ensures ∙ met-nth (met_groups (tree_of rows) groups) ready.numbered at.i c.loop-i-test.true) in
+    (met-nth (met_groups (tree_of rows) groups) ready.numbered at.i c.loop-i-test.true) in
     left-more (at.invariant rows groups ready) (field_of rows groups g) (state_fields (states_from rows groups (at.i + 1)))
     written.new.out written.result more (written.ensures (field_of rows groups g) state) start-low
 

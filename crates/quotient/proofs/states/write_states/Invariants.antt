@@ -1,5 +1,5 @@
--- The fields from state i on are still to be written. The measure is what is left of the states.
-use Rattle.std.proofs.Common.{ℕ, List, ◌-◌}
+-- The fields from state i on are still to be written.
+use Rattle.std.proofs.Common.{ℕ, List}
 use Rattle.model.specs.Classes.{Word}
 use Rattle.model.specs.Joinings.{tree_of}
 use Rattle.model.specs.Quotients.{states_of}
@@ -11,9 +11,7 @@ use Rattle.quotient.proofs.states.write_states.Given as goal
 
 abbrev pub invariant-loop-i : goal.invariant-loop-i
 invariant-loop-i l =
-    (rows : List Word) (groups : List ℕ) → Ready rows groups l.work l.next l.sums l.met l.numbers l.count →
+    (rows : List Word) (groups : List ℕ) →
+    Ready rows groups l.work l.made.next l.made.sums l.made.met.order l.made.met.numbers l.made.met.count →
     BytesLeft l.initial.out l.out l.at l.end (state_fields (states_of rows (tree_of rows) groups))
     (state_fields (states_from rows groups l.i))
-
-abbrev pub decreases-loop-i : goal.decreases-loop-i
-decreases-loop-i l = l.count - l.i

@@ -4,10 +4,12 @@ use Rattle.worklist.specs.Lists.{pair_limit}
 use Rattle.worklist.specs.Forks.{SettledForks}
 use Rattle.worklist.proofs.forks.settle.Given as goal
 
-abbrev pub invariant-loop-done : goal.invariant-loop-done
-invariant-loop-done l =
-    SettledForks (length l.names) l.names l.numbers l.initial.groups l.groups l.initial.links l.initial.heads l.links l.heads
-    l.initial.firsts l.initial.seconds l.firsts l.seconds l.tail l.done l.end
+abbrev pub invariant-loop-v : goal.invariant-loop-v
+invariant-loop-v l =
+    SettledForks (length l.arcs.keys.now) l.arcs.keys.now l.arcs.outs.now l.initial.groups l.groups l.initial.forks.lists.links
+    l.initial.forks.lists.heads l.forks.lists.links l.forks.lists.heads l.initial.forks.queue.firsts
+    l.initial.forks.queue.seconds l.forks.queue.firsts l.forks.queue.seconds l.initial.forks.queue.tail l.done
+    l.forks.queue.tail
 
-abbrev pub decreases-loop-done : goal.decreases-loop-done
-decreases-loop-done l = pair_limit - l.done
+abbrev pub decreases-loop-v : goal.decreases-loop-v
+decreases-loop-v l = pair_limit - l.done

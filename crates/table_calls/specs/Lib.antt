@@ -1,0 +1,2 @@
+-- What the contracts of table_calls cite. Assumes nothing.
+pub mod Outcomes
