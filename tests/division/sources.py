@@ -24,11 +24,11 @@ NAMED = re.compile(r"((?<!\.)\.\s*)?\b([^\W\d]\w*(?:\s*::\s*\w+)*)((?:\s*::\s*<[
 DIVISION = re.compile(r"[/%]=?\s*(\w*(?:\s+as\b|\.(?!\.))?)")
 BYTE = re.compile(r"256(?:u16|u32|u64|usize)?")
 
-# Words before a parenthesis that call nothing, and the calls of Rattle's library that the sources make: none of these divides. What they
-# come to is in the archive, too, which is read instruction by instruction.
+# Words before a parenthesis that call nothing, and the calls of the kit's library that the sources make, no others. Which of its functions
+# such a call leads to, and what these divide by, a text does not tell: that is in the compiler's reading (reading.py).
 KEYWORDS = {"if", "while", "match", "return", "break", "let", "in", "mut", "else", "for", "matches"}
 LIBRARY_METHODS = (
-    "all checked_sub cmp copied copy_from_slice count count_ones enumerate fill fold into is_empty is_some iter iter_mut last len min ok_or rev "
+    "all checked_sub cmp copied count count_ones enumerate fill fold into is_empty is_some iter iter_mut last len min ok_or rev "
     "to_be_bytes unwrap unwrap_or unwrap_or_else wrapping_add wrapping_mul"
 ).split()
 NUMBER = r"[iu](?:8|16|32|64|size)"
@@ -161,9 +161,13 @@ class Sources:
         """The functions exported for C, by their names there, as paths."""
         return {name: f"{module.path}::{name}" for module in self.modules for name in EXPORTED.findall(module.code)}
 
+    def has_crate_of(self, path: str) -> bool:
+        """Whether a function is of one of these crates; else it is the kit's."""
+        return path.split("::")[0] in {module.crate for module in self.modules}
+
     def meant(self, function: Function, field: bool, path: str) -> List[str]:
-        """The functions that a name inside a function may mean: a path begins with a crate or in the module, and may lead to a type's method;
-        of a method, all methods with its name."""
+        """The functions that a name inside a function may mean: a path begins with a crate or in the module, and may lead to a type's
+        method; of a method, all methods with its name."""
         module = function.module
         if field:
             return [method for method in self.named(path) if self.can_call(module.crate, method)]

@@ -7,7 +7,8 @@ import unittest
 from pathlib import Path
 
 from archive import Archive, findings, objdump
-from entries import BUILDS, DIVIDING, LIBRARY, ROOT
+from entries import BUILDS, DIVIDING, LIBRARY, READ, ROOT
+from reading import Readings, read_made
 from sources import Sources, read_modules
 
 HERE = Path(__file__).resolve().parent
@@ -37,6 +38,13 @@ class Entries(unittest.TestCase):
         for name in BUILDS:
             with self.subTest(name):
                 self.assertGreater(len(PLANS.reached(name) & set(PLANS.functions)), 1)
+
+    def test_compiler_has_read_all_that_is_reached(self):
+        readings = Readings(read_made(READ))
+        for name, path in Sources(read_modules(ROOT)).entries().items():
+            with self.subTest(name):
+                functions = {re.sub("::<.*", "", function) for function in PLANS.reached(name) & set(PLANS.functions)}
+                self.assertEqual(functions - {name} - readings.reached(path).functions, set())
 
 
 class Seeds(unittest.TestCase):

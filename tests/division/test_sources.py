@@ -1,15 +1,16 @@
 """Nothing that build reaches divides, but by 256 to split a number into its bytes: over the sources. How these are read is held against
 the compiler's own reading (mir/, beside the archive), and divisions put into a copy are found."""
-import json
 import re
 import unittest
 from collections import defaultdict
-from typing import Any, Dict, Iterator, List, Set, Tuple
+from typing import Any, Dict, List, Set
 
 from entries import BUILDS, DIVIDING, READ, ROOT
-from sources import Module, Sources, divisions, findings, read_cites, read_modules
+from reading import Readings, divided_by, parts, read_made
+from sources import LIBRARY_METHODS, NAMED, Module, Sources, divisions, findings, read_cites, read_modules
 
 TREE = Sources(read_modules(ROOT), read_cites(ROOT))
+READINGS = Readings(read_made(READ))
 ENTRIES = TREE.entries()
 BUILD = ENTRIES["plans_build"]
 # a function that many calls lead to, with numbers `row` and `column`
@@ -34,6 +35,8 @@ FOUND = {
     "let seed = name_search::Index::number_of;": "name_search::Index::number_of divides by 2",
     "let seed = std::num::quotient(row, 3);": "calls std::num::quotient, which is not followed",
     "let seed = row.div_euclid(3);": "calls div_euclid, which is not followed",
+    "work.sort_unstable();": "calls sort_unstable, which is not followed",
+    "work.copy_from_slice(work);": "calls copy_from_slice, which is not followed",
     "let seed = quotient!(row, 3);": "calls quotient, which is not followed",
     "let seed = std::num::quotient::<usize>(row, 3);": "calls std::num::quotient, which is not followed",
     "let seed = &work[0..third(row)];": "calls third, which is not followed",
@@ -74,10 +77,8 @@ NOT_READ = [
     "fn third(x: usize) -> usize ensures { result ≡ {- } { -} x } { x / 3 }",
     'fn third(x: usize) -> usize ensures { result ≡ "} {" } { x / 3 }',
 ]
-# Rattle's own library: what becomes of its calls is read in the archive
+# The kit's library: it calls nothing by a name of these sources, and what is handed to it the readings follow
 BEYOND = re.compile(r"(?:core|std)::")
-# the divisions among what the compiler makes of two numbers
-DIVIDE = {"Div", "Rem", "FloatDiv", "FloatRem"}
 
 
 def written_in(name: str) -> str:
@@ -88,29 +89,11 @@ def written_in(name: str) -> str:
 
 
 def compiled() -> Dict[str, Any]:
-    """What the compiler makes of each function of the library before it optimises, with the closures in it, and of what derives write."""
+    """What the compiler makes of each function before it optimises, with the closures in it, and of what derives write."""
     made: Dict[str, Any] = defaultdict(list)
-    for file in READ.glob("*.json"):
-        for name, each in json.loads(file.read_text()):
-            made[written_in(name)].append(each["body"])
+    for name, each in READINGS.made.items():
+        made[written_in(name)].append(each["body"])
     return made
-
-
-def parts(made: Any) -> Iterator[Tuple[str, Any]]:
-    """Everything that has a kind, with that, however deep."""
-    for kind, part in made.items() if isinstance(made, dict) else ():
-        yield kind, part
-    for part in made.values() if isinstance(made, dict) else made if isinstance(made, list) else ():
-        yield from parts(part)
-
-
-def divided_by(made: Any) -> List[str]:
-    """The number that each division is by, or nothing."""
-    found = []
-    for kind, part in parts(made):
-        if kind == "Op2" and DIVIDE & set([part[0]] if isinstance(part[0], str) else part[0]):
-            found.append(str(part[2].get("Int", {}).get("value", "")))
-    return found
 
 
 def compiled_reach(functions: Dict[str, Any], root: str) -> Set[str]:
@@ -156,13 +139,22 @@ class Entries(unittest.TestCase):
         for name, path in ENTRIES.items():
             with self.subTest(name):
                 read = TREE.reached(path).functions
-                followed = compiled_reach(functions, path)
-                self.assertEqual({function for function in followed - set(read) if function not in functions or function in TREE.functions}, set())
+                reached = READINGS.reached(path)
+                self.assertEqual(reached.unfollowed, [])
+                followed = compiled_reach(functions, path) | {written_in(function) for function in reached.functions}
+                more = followed - set(read)
+                self.assertEqual({function for function in more if function not in functions or function in TREE.functions}, set())
                 for function in followed:
                     made = divided_by(functions[function])
-                    self.assertEqual(len(divisions(read[function])) if function in read else 0, len(made), function)
+                    if TREE.has_crate_of(function):
+                        self.assertEqual(len(divisions(read[function])) if function in read else 0, len(made), function)
                     if name not in DIVIDING:
                         self.assertEqual(set(made) - {"256"}, set(), function)
+
+    def test_each_method_of_the_library_that_is_listed_is_called(self):
+        functions = [function for path in ENTRIES.values() for function in TREE.reached(path).functions.values()]
+        named = [each for function in functions for each in NAMED.finditer(function.module.code, function.start, function.end)]
+        self.assertEqual(set(LIBRARY_METHODS) - {each.group(2) for each in named if each.group(1) and each.group(3)}, set())
 
 
 class Seeds(unittest.TestCase):

@@ -1,6 +1,6 @@
 -- The numbers that docs/SCOPE.md fixes, each in one place: the limits and what follows from them, the marks of fields and the stages of
--- reading them, the kinds of classes, the ends of a walk, and the refusals (section 4.1). src/limits.rt has them by the same names.
--- Assumes nothing.
+-- reading them, the kinds of classes, the ends of a walk, and the refusals (section 4.1). src/limits.rt has the limits, marks and kinds by
+-- the same names. Assumes nothing.
 use Rattle.std.specs.Prelude.{Bool, true, false, ℕ, zero, suc, ◌+◌, ◌*◌}
 
 -- at most so many names

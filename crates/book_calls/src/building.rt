@@ -7,9 +7,8 @@ ghost use Rattle.fields.specs.Places.{settings_of};
 ghost use Rattle.results.specs.Says.{not_built, building, not_counted, building_counted};
 
 use base::refusals::Refusal;
-use fields::{FileKind, read_with};
+use fields::{FileKind, Settings, read_with};
 use inference::infer;
-use judging::classes::Class;
 use judging::sizes::judge_sizes;
 use results::{Built, Counted};
 
@@ -17,20 +16,20 @@ use results::{Built, Counted};
 // front of another.
 // Stays: (a) `wanted` beside `counts`, as in `infer`: `building_counted` has the flag, and two outputs whether counts are wanted or not.
 pub fn build_with(
-    default: Class,
+    settings: Settings,
     wanted: bool,
     book: &[u8],
     work: &mut [u8],
     out: &mut [u8],
     counts: &mut [u8],
 ) -> Result<Counted, Refusal>
-    requires { Allowed (settings_of default) }
-    ensures gives { Gives (building_counted (settings_of default) wanted book.now work.old)
+    requires { Allowed (settings_of settings) }
+    ensures gives { Gives (building_counted (settings_of settings) wanted book.now work.old)
         (out.old ∷ (counts.old ∷ [])) (out.new ∷ (counts.new ∷ [])) (told not_counted result) }
     ensures accepted { IfOk result (λ counted. counted.refusal ≡ 0) }
 {
     judge_sizes(book.len(), work.len())?;
-    let place = read_with(book, FileKind::Book, default)?;
+    let place = read_with(book, FileKind::Book, settings)?;
     let inferred = infer(wanted, book, place, work, out, counts)?;
     Ok(Counted {
         refusal: 0,
@@ -43,13 +42,18 @@ pub fn build_with(
 }
 
 // The table alone: no counts are wanted, and there is no room for any.
-pub fn build(default: Class, book: &[u8], work: &mut [u8], out: &mut [u8]) -> Result<Built, Refusal>
-    requires { Allowed (settings_of default) }
-    ensures gives { Gives (building (settings_of default) book.now work.old)
+pub fn build(
+    settings: Settings,
+    book: &[u8],
+    work: &mut [u8],
+    out: &mut [u8],
+) -> Result<Built, Refusal>
+    requires { Allowed (settings_of settings) }
+    ensures gives { Gives (building (settings_of settings) book.now work.old)
         (out.old ∷ []) (out.new ∷ []) (told not_built result) }
     ensures accepted { IfOk result (λ built. built.refusal ≡ 0) }
 {
     let mut none = [0; 0];
-    let counted = build_with(default, false, book, work, out, &mut none)?;
+    let counted = build_with(settings, false, book, work, out, &mut none)?;
     Ok(Built::from(counted))
 }

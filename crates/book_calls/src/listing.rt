@@ -13,8 +13,7 @@ ghost use Rattle.results.specs.Says.{not_written, copying, listing_book};
 use crate::building;
 use base::limits::TABLE_BYTES;
 use base::refusals::Refusal;
-use fields::read_table;
-use judging::classes::Class;
+use fields::{Settings, read_table};
 use listings::list_table;
 use results::Written;
 use writing::copy_in;
@@ -48,17 +47,17 @@ fn copy_out(bytes: &[u8], text: &mut [u8]) -> Result<Written, Refusal>
 
 // Refusals 1, the fields', 10, 13; otherwise the listing stands at the front of the text.
 pub fn list(
-    default: Class,
+    settings: Settings,
     book: &[u8],
     work: &mut [u8],
     text: &mut [u8],
 ) -> Result<Written, Refusal>
-    requires { Allowed (settings_of default) }
-    ensures { Gives (listing_book (settings_of default) book.now work.old)
+    requires { Allowed (settings_of settings) }
+    ensures { Gives (listing_book (settings_of settings) book.now work.old)
         (text.old ∷ []) (text.new ∷ []) (told not_written result) }
 {
     let mut table = [0; TABLE_BYTES];
-    let built = building::build(default, book, work, &mut table)?;
+    let built = building::build(settings, book, work, &mut table)?;
     let end = built.length as usize;
     let length = list_accepted(
         &table[..end],

@@ -81,7 +81,7 @@ impl Arcs {
     }
 
     // All arcs, the near ones linked.
-    fn link_near(&mut self, by: &Marks)
+    pub fn link_near(&mut self, by: &Marks)
         requires none { ArcsLinked 1 by.now.view.j by.now.view.tree.parents.now by.now.view.tree.names.now
             by.now.classes.now by.now.view.old.now by.now.dist.now self.old.next self.old.links self.old.heads }
         ensures { ArcsLinked (length by.now.view.old.now) by.now.view.j by.now.view.tree.parents.now by.now.view.tree.names.now
@@ -93,7 +93,7 @@ impl Arcs {
     }
 
     // Links the far arcs, when all near arcs are in their chains: a far arc leads to the last near arc of its class.
-    fn link_far(&mut self, classes: &[u16])
+    pub fn link_far(&mut self, classes: &[u16])
         requires few { length classes.now ≤ state_limit }
         requires classed { (v : ℕ) → get_or self.old.links v 0 ≡ waiting → get_or classes.now v 0 < state_limit }
         ensures links { FarLinked (length classes.now) classes.now self.old.heads self.old.links self.new.links }

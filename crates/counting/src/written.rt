@@ -11,7 +11,7 @@ ghost use Rattle.counting.specs.Ready.{PassesToWrite, FieldToWrite, CountsReady}
 use base::cells::cell;
 use base::limits::COUNT_MARK;
 use base::sets::{Names, how_many};
-use quotient::Quotient;
+use quotient::states::Made;
 use writing::{put_head, put_two};
 
 // Writes the passes of the arcs out of a group, in ascending name. Returns the offset after them.
@@ -29,11 +29,13 @@ fn write_passes(work: &[u8], row: usize, names: u64, out: &mut [u8], at: usize) 
 }
 
 // Writes the field of a group's state: its ends, then the passes of its arcs. Returns the offset after it.
-fn write_field(work: &[u8], made: &Quotient, g: usize, out: &mut [u8], at: usize) -> usize
+fn write_field(work: &[u8], made: Made, g: usize, out: &mut [u8], at: usize) -> usize
     requires work_bytes_in_bounds { (work_bytes ≤ length work.now) × (g < state_limit) }
+    requires g_in_bounds { (g < length made.next.now) × (g < length made.sums.now) }
     requires by_index { (bytes : List ℕ)
-        × FieldToWrite work.now g (get_or made.now.next g 0) (get_or made.now.sums g 0) bytes × Fits out.old at bytes }
-    ensures { (bytes : List ℕ) → FieldToWrite work.now g (get_or made.now.next g 0) (get_or made.now.sums g 0) bytes →
+        × FieldToWrite work.now g (get_or made.next.now g 0) (get_or made.sums.now g 0) bytes × Fits out.old at bytes }
+    ensures { (bytes : List ℕ) →
+        FieldToWrite work.now g (get_or made.entry.next.now g 0) (get_or made.entry.sums.now g 0) bytes →
         Put out.old out.new at bytes result }
 {
     let names = made.next[g];
@@ -43,17 +45,18 @@ fn write_field(work: &[u8], made: &Quotient, g: usize, out: &mut [u8], at: usize
 }
 
 // Writes the counts file, each byte once, and leaves the rest of the output as it was. Returns how many bytes it has.
-pub fn write_counts(work: &[u8], made: &Quotient, out: &mut [u8]) -> usize
+pub fn write_counts(work: &[u8], made: Made, out: &mut [u8]) -> usize
     requires { (rows : List Word) × (parents : List ℕ) × (names : List ℕ) × (groups : List ℕ)
-        × CountsReady rows parents names groups work.now made.now.next made.now.sums made.now.met.order made.now.met.count
+        × CountsReady rows parents names groups work.now made.next.now made.sums.now made.order.now made.count
         × Fits out.old 0 (counts_file (states_of rows (tree_of rows) groups) rows) }
     ensures { (rows : List Word) → (parents : List ℕ) → (names : List ℕ) → (groups : List ℕ) →
-        CountsReady rows parents names groups work.now made.now.next made.now.sums made.now.met.order made.now.met.count →
+        CountsReady rows parents names groups work.now made.entry.next.now made.entry.sums.now made.entry.order.now
+        made.entry.count →
         Put out.old out.new 0 (counts_file (states_of rows (tree_of rows) groups) rows) result }
 {
     let mut end = 0;
-    for i in 0..made.met.count {
-        end = write_field(work, made, made.met.order[i] as usize, out, end);
+    for i in 0..made.count {
+        end = write_field(work, made, made.order[i] as usize, out, end);
     }
     end
 }

@@ -21,6 +21,7 @@ use Rattle.judging.specs.declared.classes.Class.{Class}
 use Rattle.std.specs.Prelude.{Result, Ok, Err}
 use Rattle.std.specs.Result.{IsErrAnd}
 use Rattle.fields.specs.Places.{stage_of, settings_of, file_of, Sound, FieldStep, Turned, Goes, RefusedAt, Finished, ReadAs}
+use Rattle.fields.specs.declared.Settings as given
 use Rattle.fields.specs.declared.Place.{Place}
 use Rattle.fields.specs.declared.Stage.TheVariants as stage
 use Rattle.base.specs.Limits.{cut_off}
@@ -153,9 +154,17 @@ begin-sound default s =
       some_items = λ (g : 3 ≤ 0). let z : ⊥ = omega arith in absurd z;
     }
 
-pub reading_begins : (default : Class) (kind : FileKind) (s : List ℕ) → Reading (settings_of default) kind s (begin default)
+pub reading_begins :
+    (settings : given.Settings) (kind : FileKind) (s : List ℕ) →
+    Reading (settings_of settings) kind s (begin settings.default_class)
 unfolding fields_at read_with
-reading_begins default kind s = record { sound = begin-sound default s; fuel = suc (length s); enough = omega arith; reads = refl }
+reading_begins settings kind s =
+    record {
+      sound = begin-sound settings.default_class s;
+      fuel = suc (length s);
+      enough = omega arith;
+      reads = refl;
+    }
 
 module _ (settings : Settings) (kind : FileKind) (s : List ℕ) (p : Place) (reading : Reading settings kind s p) where
   -- there is fuel for one turn at least

@@ -11,7 +11,7 @@ use Rattle.model.specs.Fields.{last_stage, read_from, read_with, field_fault, wi
 use Rattle.model.specs.Calls.{Refuses}
 use Rattle.judging.specs.Classes.{class_in}
 use Rattle.judging.specs.Offsets.{body_at, next_at, offset_at, fields_at}
-use Rattle.judging.specs.declared.classes.Class.{Class}
+use Rattle.fields.specs.declared.Settings as given
 use Rattle.fields.specs.declared.FileKind as code
 use Rattle.fields.specs.declared.FileKind.TheVariants as kind
 use Rattle.fields.specs.declared.Stage.{Stage}
@@ -106,9 +106,9 @@ abbrev pub Kept : FileKind → List ℕ → Result Place Refusal → Type 0
 Kept kind s (Ok p) = Finished kind s p
 Kept kind s (Err k) = 0 < number_of k
 
--- the settings with this class for a book that names none
-abbrev pub settings_of : Class → Settings
-settings_of c = record { default_class = class_in c }
+-- the settings that the code's stand for
+abbrev pub settings_of : given.Settings → Settings
+settings_of s = record { default_class = class_in s.default_class }
 
 -- a file read: the answer is what the definition gives with these settings
 pub record ReadAs (settings : Settings) (kind : FileKind) (s : List ℕ) (answer : Result Place Refusal) : Type 0 where

@@ -54,11 +54,19 @@ pub struct Place {
     pub items: usize,
 }
 
-// The class of docs/SCOPE.md, section 3.5, of a book that names none: context, k = 2, h = 1.
-pub const STANDARD: Class = Class {
-    kind: CONTEXT_KIND,
-    first: 2,
-    second: 1,
+// What books are read with: the class of a book that names none.
+#[derive(Clone, Copy, PartialEq, Eq, Debug)]
+pub struct Settings {
+    pub default_class: Class,
+}
+
+// The settings of docs/SCOPE.md, section 3.5: context, k = 2, h = 1.
+pub const STANDARD: Settings = Settings {
+    default_class: Class {
+        kind: CONTEXT_KIND,
+        first: 2,
+        second: 1,
+    },
 };
 
 impl FileKind {
@@ -190,8 +198,8 @@ fn field(s: &[u8], kind: FileKind, p: Place) -> Result<Place, Refusal>
 
 // A whole file of this kind: where its parts stand, or its first refusal. Nothing is required of the input, and nothing is
 // copied; the answer is that of the definition readWith, and every offset of an accepted file lies within the input.
-pub fn read_with(s: &[u8], kind: FileKind, default: Class) -> Result<Place, Refusal>
-    ensures { ReadAs (settings_of default) (kind_of kind) s.now result }
+pub fn read_with(s: &[u8], kind: FileKind, settings: Settings) -> Result<Place, Refusal>
+    ensures { ReadAs (settings_of settings) (kind_of kind) s.now result }
 {
     let mut p = Place {
         at: 0,
@@ -199,7 +207,7 @@ pub fn read_with(s: &[u8], kind: FileKind, default: Class) -> Result<Place, Refu
         names: 0,
         last: 0,
         width: 0,
-        class: default,
+        class: settings.default_class,
         start: 0,
         items: 0,
     };

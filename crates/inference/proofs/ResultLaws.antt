@@ -65,9 +65,10 @@ module _ (wanted : Bool) (f : File) (outs : List (List ℕ)) where
 
     -- and where it is too long, 13
     pub gives_too_long :
-        length (tree_of f.items) ≤ state_limit → TableTooLong (book_table f) (counts_if wanted (book_states f) f.items) outs outs' →
-        Infers wanted f outs outs' (Err refusal.OutputTooShort)
+        (k : Refusal) → k ≡ refusal.OutputTooShort → length (tree_of f.items) ≤ state_limit →
+        TableTooLong (book_table f) (counts_if wanted (book_states f) f.items) outs outs' → Infers wanted f outs outs' (Err k)
     unfolding inferring
-    gives_too_long few long =
-        subst (λ (after : List (List ℕ)). Infers wanted f outs after (Err refusal.OutputTooShort)) (sym long.outs_kept)
-        (call-short (inferring wanted f) outs (not_too_large few) long.short)
+    gives_too_long k e few long =
+        subst (λ (k : Refusal). Infers wanted f outs outs' (Err k)) (sym e)
+        (subst (λ (after : List (List ℕ)). Infers wanted f outs after (Err refusal.OutputTooShort)) (sym long.outs_kept)
+        (call-short (inferring wanted f) outs (not_too_large few) long.short))

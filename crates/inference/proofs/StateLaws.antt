@@ -111,6 +111,13 @@ made_few rows parents names groups joined =
       omega (arith, arcs_few rows (tree_of rows) groups met met (met-distinct (tree_of rows) groups tree fits)),
     )
 
+-- what is ready to be written is so where it is lent
+pub ready_lent :
+    {rows : List Word} {groups work next sums met numbers next' sums' met' numbers' : List ℕ} {count count' : ℕ} →
+    Ready rows groups work next sums met numbers count → next' ≡ next → sums' ≡ sums → met' ≡ met → numbers' ≡ numbers →
+    count' ≡ count → Ready rows groups work next' sums' met' numbers' count'
+ready_lent ready a b c d e = rw (a, b, c, d, e) ready
+
 -- the states are ready to be written; when the passes are summed in the cells, the counts are
 pub counts_ready :
     (rows : List Word) (parents names groups work work' next sums met numbers : List ℕ) (count : ℕ) →

@@ -79,10 +79,11 @@ fn write_joined(
     if (out.len() < 4 * states + 3 * arcs) | (counts.len() < size) {
         return Err(Refusal::OutputTooShort);
     }
-    let length = write_states(work, &automaton, out, 0);
+    let made = automaton.made();
+    let length = write_states(work, made, out, 0);
     if wanted {
         add_passes(tree, groups, ends, work);
-        write_counts(work, &automaton, counts);
+        write_counts(work, made, counts);
     }
     Ok(Written {
         length,

@@ -1,18 +1,17 @@
--- Names: the test of their bytes; their order, which is that of slices in std; and what refuses a name. Assumes nothing.
-use mathlib.Core.Path.{◌≡◌, refl, sym}
-use mathlib.Core.Bool.{Bool, true, false, and-false}
+-- Names: the test of their bytes; their order; and what refuses a name. Assumes nothing.
+use mathlib.Core.Path.{◌≡◌, refl, sym, ◌∙◌}
+use mathlib.Core.Logic.{◌⊎◌, ⊎_elim}
+use mathlib.Core.Bool.{Bool, true, false, and-false, or-false}
 use mathlib.Core.List.{List, [], ◌∷◌}
-use Prim.Native.Nat.{ℕ, ◌-◌, ◌≤◌, ◌<◌}
+use Prim.Native.Nat.{ℕ, zero, suc, ◌+◌, ◌-◌, ◌≤◌, ◌<◌}
+use native.Mathlib.Numerals.{add-one}
 use native.Mathlib.Omega.{arith}
-use borrow.Author.Tests.{le-leb, lt-leb}
-use lib.ListN.{length, get_or, take, drop}
-use lib.Seq.{take-length}
+use borrow.Author.Tests.{lt-ltb, le-ltb, le-leb, lt-leb, eq-eqb, ne_eqb}
+use lib.Dec.{ltb, leb-suc-suc}
+use lib.ListN.{length, get_or, take, drop, drop_of_length-le}
+use lib.Seq.{take-length, drop-cons}
+use Rattle.base.proofs.Tests.{le_or_lt}
 use Rattle.std.specs.List.{list_all}
-use Rattle.std.specs.Cmp.Lexicographic.{slice_partial_cmp}
-use Rattle.std.specs.Ordering.{nat_cmp, is_lt, partial_lt}
-use Rattle.std.specs.Prelude.{Some}
-use Rattle.std.proofs.lemmas.Cmp.{same_from_slice_cmp_tested}
-use Rattle.std.proofs.lemmas.Bool.Decides.{nat_tests}
 use Rattle.base.specs.Lists.{all, before, last_or}
 use Rattle.model.specs.Fields.{starts_name, continues_name, name_ok, above, name_fault}
 use Rattle.judging.specs.Judged.{NameJudged}
@@ -49,11 +48,43 @@ name_rest (b ∷ s) g h e =
 -- what is known of a name by each test
 pub ruleset tested = (name_empty, name_long, name_start, name_rest)
 
--- the order of slices in std is this order
-pub before_less : (a b : List ℕ) (r : Bool) → r ≡ partial_lt (slice_partial_cmp (λ x y. Some (nat_cmp x y))) a b → r ≡ before a b
+-- ---- the order of names, over what is left from an offset on
+
+-- the first difference decides
+pub before_differs : (a b : List ℕ) (i : ℕ) → i < length a → i < length b → (get_or a i 0 ≡ get_or b i 0 → ⊥) →
+    ltb (get_or a i 0) (get_or b i 0) ≡ before (drop i a) (drop i b)
 unfolding before
-before_less =
-    same_from_slice_cmp_tested nat_cmp is_lt before refl (λ _ _. refl) (λ _ _. refl) (λ x y xs ys o h. grind (arith, nat_tests))
+before_differs a b i h g d =
+    rw (drop-cons a i 0 h, drop-cons b i 0 g, before, ne_eqb (get_or a i 0) (get_or b i 0) d, or-false (ltb (get_or a i 0) (get_or b i 0)))
+
+pub before_goes : (a b : List ℕ) (i : ℕ) → i < length a → i < length b → get_or a i 0 ≡ get_or b i 0 →
+    before (drop (i + 1) a) (drop (i + 1) b) ≡ before (drop i a) (drop i b)
+unfolding before
+before_goes a b i h g e =
+    rw (add-one, drop-cons a i 0 h, drop-cons b i 0 g, le-ltb (get_or a i 0) (get_or b i 0) (omega arith), eq-eqb (get_or a i 0) (get_or b i 0) e)
+
+-- with no difference a proper beginning comes first
+pub before_ends : (a b : List ℕ) (i : ℕ) → i ≤ length a → i ≤ length b → (length a ≤ i) ⊎ (length b ≤ i) →
+    ltb (length a) (length b) ≡ before (drop i a) (drop i b)
+unfolding before
+before_ends a b i h g = ⊎_elim first second
+  where
+    none : (b : List ℕ) (i : ℕ) → ltb i (length b) ≡ before [] (drop i b)
+    none [] zero = refl
+    none [] (suc i) = le-ltb (suc i) 0 (omega arith)
+    none (y ∷ b) zero = lt-ltb 0 (suc (length b)) (omega arith)
+    none (y ∷ b) (suc i) = leb-suc-suc (suc i) (length b) ∙ none b i
+
+    first : length a ≤ i → ltb (length a) (length b) ≡ before (drop i a) (drop i b)
+    first s =
+        let all : length a ≡ i = omega arith in
+        rw (all, drop_of_length-le a s, none b i)
+
+    second : length b ≤ i → ltb (length a) (length b) ≡ before (drop i a) (drop i b)
+    second s =
+        ⊎_elim (λ (l : length a ≤ i). first l)
+        (λ (l : i < length a). rw (drop-cons a i 0 l, drop_of_length-le b s, le-ltb (length a) (length b) (omega arith)))
+        (le_or_lt (length a) i)
 
 -- the last name so far, empty where there is none, decides whether an allowed name stands above
 pub above-last : (names : List (List ℕ)) (b : List ℕ) → name_ok b ≡ true → above names b ≡ before (last_or [] names) b

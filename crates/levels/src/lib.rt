@@ -16,6 +16,7 @@ ghost use Rattle.levels.specs.Sorted.{FewArcs, SameOffsets};
 ghost use Rattle.levels.specs.Found.{LevelsFound};
 
 use base::limits::STATE_LIMIT;
+use sorting::ENDS;
 use tables::opened::Opened;
 
 // The level of each state: the fewest names from it to an accepting state, plus 1, or 0 where there is no way to one.
@@ -26,8 +27,9 @@ pub fn find_levels(s: &[u8], count: usize, work: &mut [u8]) -> [u16; STATE_LIMIT
     ensures same_offsets { SameOffsets work.old work.new }
     ensures levels_found { LevelsFound (table_states s.now) result }
 {
-    let ends = sorting::sort_arcs(s, count, work);
-    spreading::spread(Opened { s, work, count }, &ends)
+    let mut ends = [0; ENDS];
+    sorting::sort_arcs(s, count, work, &mut ends);
+    spreading::spread(Opened { s, work }, count, &ends)
 }
 
 // Marks the states that have a way to an accepting one. Where every state accepts or has an arc to one of a higher number, as in the prefix
@@ -40,7 +42,7 @@ pub fn mark_live(s: &[u8], count: usize, work: &mut [u8]) -> [u16; STATE_LIMIT]
     ensures same_offsets { SameOffsets work.old work.new }
     ensures marked { Marked (table_states s.now) result }
 {
-    if rising::all_rise(Opened { s, work, count }) {
+    if rising::all_rise(Opened { s, work }, count) {
         return [1; STATE_LIMIT];
     }
     find_levels(s, count, work)

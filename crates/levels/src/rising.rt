@@ -26,11 +26,12 @@ fn rises(state: &[u8], q: usize) -> bool
 }
 
 // Whether every state rises: then each has a way to an accepting state, since a way by such arcs ends.
-pub fn all_rise(table: Opened) -> bool
+pub fn all_rise(table: Opened, count: usize) -> bool
+    requires count_value { count ≡ length (table_states table.s.now) }
     ensures { result ≡ true → (q : ℕ) → q < length (table_states table.entry.s.now) →
         is_live (table_states table.entry.s.now) q ≡ true }
 {
-    for q in 0..table.count {
+    for q in 0..count {
         if !rises(table.state(q), q) {
             return false;
         }

@@ -53,29 +53,33 @@ impl Reached {
 }
 
 // The accepting states have level 1 and stand in the queue; all others have none.
-fn reach_accepting(table: Opened) -> Reached
+fn reach_accepting(table: Opened, count: usize, reached: &mut Reached)
+    requires count_value { count ≡ length (table_states table.s.now) }
+    requires levels { reached.old.levels ≡ replicate state_limit 0 }
+    requires queue { reached.old.queue ≡ replicate state_limit 0 }
+    requires last { reached.old.last ≡ 0 }
     ensures { Longer (AcceptsBelow (table_states table.entry.s.now) (length (table_states table.entry.s.now))) 1
-        (replicate state_limit 0) (replicate state_limit 0) 0 result.levels result.queue result.last }
+        (replicate state_limit 0) (replicate state_limit 0) 0 reached.new.levels reached.new.queue reached.new.last }
+{
+    for q in 0..count {
+        if table.accepts(q) {
+            reached.reach(q, 1);
+        }
+    }
+}
+
+// The level of each state.
+pub fn spread(table: Opened, count: usize, ends: &[u16; ENDS]) -> [u16; STATE_LIMIT]
+    requires count_value { count ≡ length (table_states table.s.now) }
+    requires sorted_arcs { SortedArcs (table_states table.s.now) table.work.now ends.now }
+    ensures { LevelsFound (table_states table.entry.s.now) result }
 {
     let mut reached = Reached {
         levels: [0; STATE_LIMIT],
         queue: [0; STATE_LIMIT],
         last: 0,
     };
-    for q in 0..table.count {
-        if table.accepts(q) {
-            reached.reach(q, 1);
-        }
-    }
-    reached
-}
-
-// The level of each state.
-pub fn spread(table: Opened, ends: &[u16; ENDS]) -> [u16; STATE_LIMIT]
-    requires { SortedArcs (table_states table.s.now) table.work.now ends.now }
-    ensures { LevelsFound (table_states table.entry.s.now) result }
-{
-    let mut reached = reach_accepting(table);
+    reach_accepting(table, count, &mut reached);
     let mut first = 0;
     // Stays: (d) the queue grows while it is gone through, so that no `for` goes over it; a method that takes the next state is no plainer,
     // since `reach` and `reach_from` would have to say that they leave `first` as it was.

@@ -20,13 +20,13 @@ const HASHES: usize = 256;
 
 // The first `count` fields of a list, which are its names: where each begins; and guesses, for a hash the number of a name that has it.
 // Nothing is promised of the guesses.
-#[derive(Drop)]
+#[derive(Clone, Copy)]
 pub struct Index<'a> {
     pub list: &'a [u8],
     pub count: u8,
-    starts: [usize; STARTS],
-    guesses: [u8; HASHES],
-    ghost indexed: { Indexed list.now count starts },
+    pub starts: [usize; STARTS],
+    pub guesses: [u8; HASHES],
+    pub ghost indexed: { Indexed list.now count starts },
 }
 
 // How a stands to b: the first difference decides, and a proper beginning comes first.

@@ -62,7 +62,7 @@ fn tag_fault(stack: &Stack, number: u8, sought: &Sought) -> Result<(), Refusal>
         return Ok(());
     }
     match stack.innermost() {
-        Some(around) if around.number == sought.chosen => Err(Refusal::UnknownChild),
+        Some(around) if around.number == sought.chosen as usize => Err(Refusal::UnknownChild),
         _ => Ok(()),
     }
 }
@@ -118,7 +118,11 @@ fn read_piece(
                 return Err(Fault { refusal, at: end });
             }
             put_entry(log, r.tags, number, stack.depth);
-            let element = Open { from, end, number };
+            let element = Open {
+                from,
+                end,
+                number: number as usize,
+            };
             let next = begin_element(plan, element, stack, r)?;
             Ok(next)
         }

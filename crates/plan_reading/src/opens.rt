@@ -9,7 +9,7 @@ use base::limits::PLAN_DEPTH;
 pub struct Open {
     pub from: usize,
     pub end: usize,
-    pub number: u8,
+    pub number: usize,
 }
 
 // The open elements, the outermost first: so many of these are open.

@@ -22,7 +22,7 @@ pub fn is_text(b: u8) -> bool
 }
 
 // Past the bytes that pass a test.
-pub(crate) fn skip<F: Fn(u8) -> bool>(s: &[u8], at: usize, passes: F) -> usize
+pub fn skip<F: Fn(u8) -> bool>(s: &[u8], at: usize, passes: F) -> usize
     ghost test: { ℕ → Bool }
     requires at_in_bounds { at ≤ length s.now }
     requires callable { F.IsAlwaysCallable passes }

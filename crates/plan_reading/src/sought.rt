@@ -7,7 +7,7 @@ ghost use Rattle.judging.specs.Offsets.{offset_at, fields_at};
 use name_search::Index;
 
 // The names, which ascend, and the number of the chosen one.
-#[derive(Drop)]
+#[derive(Clone, Copy)]
 pub struct Sought<'a> {
     pub names: Index<'a>,
     pub chosen: u8,

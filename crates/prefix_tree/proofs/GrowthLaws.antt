@@ -16,7 +16,8 @@ use Rattle.model.specs.Calls.{different_rows}
 use Rattle.base.proofs.Tests.{eq_dec}
 use Rattle.base.specs.Cells.{cell_at, with_cell}
 use Rattle.base.proofs.CellLaws.{cell_same, cell_other}
-use Rattle.prefix_tree.specs.Growth.{Store, store, Sized, Grown, IsChild, NoChild, appended, longer, TreeBuilt}
+use Rattle.prefix_tree.specs.Children.{IsChild, NoChild}
+use Rattle.prefix_tree.specs.Growth.{Store, store, Sized, Grown, appended, longer, TreeBuilt}
 use Rattle.base.proofs.Places.{nth_in, place_of}
 use Rattle.indexed.proofs.Words.{snoc_word}
 use Rattle.prefix_tree.proofs.WordLaws.{snoc_not_nil, below_or_last, snoc_old, snoc_new}

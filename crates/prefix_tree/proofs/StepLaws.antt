@@ -21,7 +21,8 @@ use Rattle.model.specs.Calls.{tree_fault, different_rows}
 use Rattle.judging.specs.Offsets.{body_at, next_at, offset_at, fields_at}
 use Rattle.judging.proofs.OffsetLaws.{fields_more, offset_suc, field_within, field_at_lem, length_fields}
 use Rattle.prefix_tree.specs.declared.Growing.{Growing}
-use Rattle.prefix_tree.specs.Growth.{Store, store, held, Sized, Grown, IsChild, NoChild, appended, longer, with_state}
+use Rattle.prefix_tree.specs.Children.{IsChild, NoChild}
+use Rattle.prefix_tree.specs.Growth.{Store, store, held, Sized, Grown, appended, longer, with_state}
 use Rattle.prefix_tree.specs.Growth.{Stepped, StepTooMany, Ended, FewRows, RowAdded, RowTooMany, RowOf, RowBelow}
 use Rattle.prefix_tree.specs.Growth.{RowsBelow, TreeBuilt, TreeOf}
 use Rattle.base.proofs.Tests.{not_told, told-false, same_tests, tells_eqb, tells_not, tells_has_row}

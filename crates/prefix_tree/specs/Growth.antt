@@ -1,6 +1,6 @@
 -- The prefix tree as it grows in arrays. In order: the arrays, the tree that they hold so far, and what each function promises: a
--- child looked up, a state appended, one step, an end counted, one row, with whether it was there, and all rows. Assumes nothing.
-use Rattle.std.specs.Prelude.{◌≡◌, Option, None, Some, Result, Ok, Err, Bool, true, false, not, cond}
+-- state appended, one step, an end counted, one row, with whether it was there, and all rows. Assumes nothing.
+use Rattle.std.specs.Prelude.{◌≡◌, Result, Ok, Err, Bool, true, false, not, cond}
 use Rattle.std.specs.Prelude.{ℕ, ◌+◌, ◌<◌, ◌≤◌, eqb, length, get_or, take, set}
 use mathlib.Core.List.{List, [], ◌∷◌, ◌++◌, Memᴰ as In}
 use Rattle.base.specs.Lists.{has_row, copies}
@@ -59,22 +59,6 @@ pub record Grown (nodes rows : List Word) (count : ℕ) (s : Store) : Type 0 whe
   pub single : (v w : ℕ) → v < count → w < count → get_or nodes v [] ≡ get_or nodes w [] → v ≡ w
   pub rows_met : (r : Word) → In r rows → In r nodes
   pub ends_at : (v : ℕ) → v < count → get_or s.ends v 0 ≡ copies (get_or nodes v []) rows
-
--- ---- a child looked up
-
-pub record IsChild (count state name : ℕ) (parents names : List ℕ) (c : ℕ) : Type 0 where
-  pub below : c < count
-  pub parent : get_or parents c 0 ≡ state
-  pub named : get_or names c 0 ≡ name
-
--- what the cell holds is not the child of that state by that name
-pub record NoChild (count state name : ℕ) (parents names work : List ℕ) : Type 0 where
-  pub none :
-      (v : ℕ) → v < count → cell_at work state name ≡ v → get_or parents v 0 ≡ state → get_or names v 0 ≡ name → ⊥
-
-abbrev pub ChildOf : ℕ → ℕ → ℕ → List ℕ → List ℕ → List ℕ → Option ℕ → Type 0
-ChildOf count state name parents names work (Some c) = IsChild count state name parents names c
-ChildOf count state name parents names work None = NoChild count state name parents names work
 
 -- ---- a state appended: the arrays with one state more, that goes on from `state` by `name`
 

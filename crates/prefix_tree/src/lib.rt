@@ -6,11 +6,33 @@
 ghost use Rattle.std.specs.Prelude.{◌≡◌, [], ◌∷◌, List, ℕ, ◌+◌, ◌<◌, ◌≤◌, length, get_or};
 ghost use Rattle.base.specs.Limits.{name_limit, book_rows, state_limit, work_bytes};
 ghost use Rattle.judging.specs.Offsets.{offset_at, fields_at};
+ghost use Rattle.prefix_tree.specs.Children.{Roomy, ChildOf};
 
 use base::cells::{cell, set_cell};
 use base::limits::{NAME_LIMIT, STATE_LIMIT};
 use base::refusals::Refusal;
 use judging::offsets::{body, next_field};
+
+// The child of a state by a name, from its cell; the first `count` places of the arrays are states.
+pub fn child(
+    parents: &[u16],
+    names: &[u8],
+    work: &[u8],
+    count: usize,
+    state: usize,
+    name: u8,
+) -> Option<usize>
+    requires state_lt_state_limit { (state < state_limit) × (name < name_limit) }
+    requires roomy { Roomy count parents.now names.now work.now }
+    ensures { ChildOf count state name parents.now names.now work.now result }
+{
+    let c = cell(work, state, name as usize);
+    if c < count && parents[c] as usize == state && names[c] == name {
+        Some(c)
+    } else {
+        None
+    }
+}
 
 // The states so far are the first `count` places; the root's name is NAME_LIMIT, which is no name.
 // Stays: (a) arrays side by side, and that name: `TreeArrays` has both, and `Tree` lends two of the arrays.
@@ -26,7 +48,7 @@ pub struct Growing {
 }
 
 impl Growing {
-    ghost use Rattle.prefix_tree.specs.Growth.{store, held, Grown, ChildOf, appended, StepOf, Ended, FewRows, RowBelow, RowOf};
+    ghost use Rattle.prefix_tree.specs.Growth.{store, held, Grown, appended, StepOf, Ended, FewRows, RowBelow, RowOf};
     ghost use Rattle.prefix_tree.specs.Growth.{RowsBelow, TreeOf};
 
     // The root alone, the tree of no rows.
@@ -57,12 +79,7 @@ impl Growing {
         requires room { work_bytes ≤ length work.now }
         ensures { ChildOf self.now.count state name self.now.parents self.now.names work.now result }
     {
-        let c = cell(work, state, name as usize);
-        if c < self.count && self.parents[c] as usize == state && self.names[c] == name {
-            Some(c)
-        } else {
-            None
-        }
+        child(&self.parents, &self.names, work, self.count, state, name)
     }
 
     // Appends a state that goes on from a state by a name, in which no row ends, and that is found in its cell.

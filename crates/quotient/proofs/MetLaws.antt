@@ -230,9 +230,10 @@ root_new g = refl
 module _ (rows : List Word) (groups work next : List ℕ) (gathered : Gathered rows groups work next) where
   -- nothing met yet, and the root's group to be met
   pub root_meeting :
-      (met numbers : List ℕ) (root : ℕ) → state_limit ≤ length met → numbers ≡ replicate state_limit state_limit →
-      root ≡ get_or groups 0 0 → MeetingOne (length (tree_of rows)) met numbers 0 root (root ∷ [])
-  root_meeting met numbers root met-fits e root_is =
+      (met numbers₀ numbers : List ℕ) (root : ℕ) → length groups ≤ length met → length groups ≤ length numbers₀ →
+      numbers ≡ replicate (length numbers₀) state_limit → root ≡ get_or groups 0 0 →
+      MeetingOne (length (tree_of rows)) met numbers 0 root (root ∷ [])
+  root_meeting met numbers₀ numbers root met-fits numbers-fits e root_is =
       let size : length groups ≡ length (tree_of rows) = gathered.labels.size in
       let some : 0 < length (tree_of rows) = tree_some rows in
       record {
@@ -240,15 +241,15 @@ module _ (rows : List Word) (groups work next : List ℕ) (gathered : Gathered r
         so_far =
             record {
               few = gathered.few;
-              met_size = omega (arith, gathered.few);
-              numbers_size = omega (arith, gathered.few, ap length e, length-replicate {A = ℕ} state_limit state_limit);
+              met_size = omega arith;
+              numbers_size = omega (arith, ap length e, length-replicate {A = ℕ} (length numbers₀) state_limit);
               counted = refl;
               listed = refl;
               low = λ g m. absurd (Memᴰ.not-nil m);
               numbered = λ g m. absurd (Memᴰ.not-nil m);
               unmet = λ g low out.
                   ap (λ (l : List ℕ). get_or l g 0) e
-                  ∙ get_or-replicate state_limit g state_limit 0 (omega (arith, gathered.few));
+                  ∙ get_or-replicate (length numbers₀) g state_limit 0 (omega arith);
             };
         target_low = omega (arith, label_low gathered.labels 0 some);
         comes_to = root_new root;

@@ -78,22 +78,26 @@ impl From<Refusal> for Built {
     ghost from_gives = { λ refusal built. built ≡ not_built (number_of refusal) };
 
     fn from(refusal: Refusal) -> Built {
-        Built {
-            refusal: refusal.into(),
-            ..Built::default()
-        }
+        Built::from(Counted::from(refusal))
     }
 }
 
-// A refused build with counts: the same, and no counts.
+// A refused build with counts: no table, no states, no joins, no rows, no counts.
+pub fn not_counted(refusal: u8) -> Counted
+    ensures { result ≡ not_counted refusal }
+{
+    Counted {
+        refusal,
+        ..Counted::default()
+    }
+}
+
+// Of a refusal.
 impl From<Refusal> for Counted {
     ghost from_gives = { λ refusal counted. counted ≡ not_counted (number_of refusal) };
 
     fn from(refusal: Refusal) -> Counted {
-        Counted {
-            refusal: refusal.into(),
-            ..Counted::default()
-        }
+        not_counted(refusal.into())
     }
 }
 
@@ -113,38 +117,59 @@ impl From<Counted> for Built {
 }
 
 // A refused rewriting: no table, no states.
+pub fn not_rewritten(refusal: u8) -> Rewritten
+    ensures { result ≡ not_rewritten refusal }
+{
+    Rewritten {
+        refusal,
+        ..Rewritten::default()
+    }
+}
+
+// Of a refusal.
 impl From<Refusal> for Rewritten {
     ghost from_gives = { λ refusal rewritten. rewritten ≡ not_rewritten (number_of refusal) };
 
     fn from(refusal: Refusal) -> Rewritten {
-        Rewritten {
-            refusal: refusal.into(),
-            ..Rewritten::default()
-        }
+        not_rewritten(refusal.into())
     }
 }
 
 // A refused walk: no outcome, no names.
+pub fn not_walked(refusal: u8) -> Walked
+    ensures { result ≡ not_walked refusal }
+{
+    Walked {
+        refusal,
+        ..Walked::default()
+    }
+}
+
+// Of a refusal.
 impl From<Refusal> for Walked {
     ghost from_gives = { λ refusal walked. walked ≡ not_walked (number_of refusal) };
 
     fn from(refusal: Refusal) -> Walked {
-        Walked {
-            refusal: refusal.into(),
-            ..Walked::default()
-        }
+        not_walked(refusal.into())
     }
 }
 
 // A refused call that writes bytes: none.
+pub fn not_written(refusal: u8) -> Written
+    ensures { result ≡ not_written refusal }
+{
+    Written {
+        refusal,
+        ..Written::default()
+    }
+}
+
+// Of a refusal.
 impl From<Refusal> for Written {
     ghost from_gives = { λ refusal written. written ≡ not_written (number_of refusal) };
 
     fn from(refusal: Refusal) -> Written {
-        Written {
-            refusal: refusal.into(),
-            ..Written::default()
-        }
+        not_written(refusal.into())
     }
 }
 

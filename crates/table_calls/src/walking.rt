@@ -21,7 +21,7 @@ use tables::walks::{Walk, walk_all};
 
 // How a walk ends: the row is admitted, or begins an admitted one, or the walk stops before its end.
 #[derive(Clone, Copy, Debug, PartialEq, Eq)]
-enum Outcome {
+pub enum Outcome {
     Admitted = 1,
     OnTheWay,
     Stops,
@@ -88,12 +88,7 @@ fn walk_over(table: &[u8], row: &[u8], work: &mut [u8], count: usize) -> Walked
     if marks[0] == 0 {
         return walked_nowhere();
     }
-    let opened = Opened {
-        s: table,
-        work,
-        count,
-    };
-    walk_marked(opened, row, &marks)
+    walk_marked(Opened { s: table, work }, row, &marks)
 }
 
 // Refusals 1, the table's, 9; otherwise the walk. The working area is not cleared yet.

@@ -10,14 +10,12 @@ use crate::field_at;
 use base::limits::STATE_LIMIT;
 use judging::offsets::body;
 
-// The table's bytes, the lent area, and how many states there are.
+// The table's bytes, and the lent area.
 #[derive(Clone, Copy)]
 pub struct Opened<'s, 'w> {
     pub s: &'s [u8],
     pub work: &'w [u8],
-    pub count: usize,
     pub ghost ready: { Ready s.now work.now },
-    pub ghost counted: { count ≡ length (table_states s.now) },
 }
 
 impl<'s> Opened<'s, '_> {

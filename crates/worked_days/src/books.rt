@@ -1,10 +1,9 @@
 // The edges of docs/SCOPE.md, section 10.1, for books, one line each: what was tried, and the first line of the listing that it comes to.
 ghost use Rattle.std.specs.Prelude.{◌≡◌, ◌≤◌, length, take};
 
-use crate::parts::{NAME, buffer, count, large_buffer, named, say};
+use crate::parts::{Draft, buffer, count, large_buffer, named, one_name, say};
 use base::limits::LISTING_BYTES;
 use plans::printing::print_book;
-use std::alloc::{AllocError, Global};
 use std::io;
 
 // A row of one snack.
@@ -38,18 +37,23 @@ fn book(rt: &impl Print, tried: &str, bytes: &[u8]) -> io::Result<()> {
     say_line(rt, tried, &text[..length])
 }
 
-// A row of the name `first` and then 39 times name 0.
-fn long_row(alloc: Global, first: u8) -> Result<Vec<u8>, AllocError> {
-    [&[3, 0, 40, first], &[0u8; 39][..]].concat(alloc)
+// Appends a row of the name `first` and then 39 times name 0.
+fn put_long_row(file: &mut Draft, first: u8)
+    ensures { file.new.len ≤ 4096 }
+{
+    file.put(&[3, 0, 40, first]);
+    file.put(&[0; 39]);
 }
 
 // Thirteen names, and a long row for each of the first twelve.
-fn twelve_rows(alloc: Global) -> Result<Vec<u8>, AllocError> {
-    let mut file = named(alloc, 13)?;
+fn twelve_rows() -> Draft
+    ensures { result.len ≤ 4096 }
+{
+    let mut file = named(13);
     for first in 0..12 {
-        file.extend_from_slice(&long_row(alloc, first)?)?;
+        put_long_row(&mut file, first);
     }
-    Ok(file)
+    file
 }
 
 // The example built with what is lent: the refusal's number.
@@ -155,11 +159,11 @@ pub fn fields(rt: &impl Print) -> io::Result<()> {
 }
 
 // Names: 7, and what just passes.
-pub fn names(rt: &(impl Print + AllocGlobal)) -> io::Result<()> {
-    let mut most = named(rt.alloc(), 64)?;
-    most.extend_from_slice(&ROW)?;
-    book(rt, "64 names", &most)?;
-    book(rt, "65 names", &named(rt.alloc(), 65)?)
+pub fn names(rt: &impl Print) -> io::Result<()> {
+    let mut most = named(64);
+    most.put(&ROW);
+    book(rt, "64 names", most.bytes())?;
+    book(rt, "65 names", named(65).bytes())
 }
 
 // A book of one snack with this class.
@@ -182,16 +186,21 @@ pub fn classes(rt: &impl Print) -> io::Result<()> {
 }
 
 // Rows: 7 and 9, and what just passes.
-pub fn rows(rt: &(impl Print + AllocGlobal)) -> io::Result<()> {
-    let alloc = rt.alloc();
-    let mut many = ROW.repeat(alloc, 256)?;
-    book(rt, "256 rows", &[&NAME[..], &many].concat(alloc)?)?;
-    many.extend_from_slice(&ROW)?;
-    book(rt, "257 rows", &[&NAME[..], &many].concat(alloc)?)?;
-    let long = long_row(alloc, 0)?;
-    book(rt, "a row of 40", &[&NAME[..], &long].concat(alloc)?)?;
-    let longer = [&NAME[..], &[3, 0, 41], &[0; 41]].concat(alloc)?;
-    book(rt, "a row of 41", &longer)?;
+pub fn rows(rt: &impl Print) -> io::Result<()> {
+    let mut many = one_name();
+    for _ in 0..256 {
+        many.put(&ROW);
+    }
+    book(rt, "256 rows", many.bytes())?;
+    many.put(&ROW);
+    book(rt, "257 rows", many.bytes())?;
+    let mut long = one_name();
+    put_long_row(&mut long, 0);
+    book(rt, "a row of 40", long.bytes())?;
+    let mut longer = one_name();
+    longer.put(&[3, 0, 41]);
+    longer.put(&[0; 41]);
+    book(rt, "a row of 41", longer.bytes())?;
     book(
         rt,
         "an entry that is no name's number",
@@ -200,11 +209,13 @@ pub fn rows(rt: &(impl Print + AllocGlobal)) -> io::Result<()> {
 }
 
 // Prefix trees: 10, and what just passes. Thirteen rows with different first names, twelve of 40 and the last of 31 or 32.
-pub fn trees(rt: &(impl Print + AllocGlobal)) -> io::Result<()> {
-    let alloc = rt.alloc();
-    let twelve = twelve_rows(alloc)?;
-    let fewer = [&twelve[..], &[3, 0, 31, 12], &[0; 30]].concat(alloc)?;
-    book(rt, "a prefix tree of 512 states", &fewer)?;
-    let more = [&twelve[..], &[3, 0, 32, 12], &[0; 31]].concat(alloc)?;
-    book(rt, "a prefix tree of 513 states", &more)
+pub fn trees(rt: &impl Print) -> io::Result<()> {
+    let mut fewer = twelve_rows();
+    fewer.put(&[3, 0, 31, 12]);
+    fewer.put(&[0; 30]);
+    book(rt, "a prefix tree of 512 states", fewer.bytes())?;
+    let mut more = twelve_rows();
+    more.put(&[3, 0, 32, 12]);
+    more.put(&[0; 31]);
+    book(rt, "a prefix tree of 513 states", more.bytes())
 }

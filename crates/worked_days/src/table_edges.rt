@@ -1,6 +1,7 @@
 // The edges of docs/SCOPE.md, section 10.1, for tables and walks, one line each: what was tried, and the refusal's number, or 0.
-use crate::parts::{NAME, buffer, count, large_buffer, named};
-use std::alloc::{AllocError, Global};
+ghost use Rattle.std.specs.Prelude.{◌≤◌};
+
+use crate::parts::{Draft, buffer, count, large_buffer, named, one_name};
 use std::io;
 
 // A class field: context, k = 1, h = 1. Then the example table of docs/SCOPE.md, section 8.
@@ -16,14 +17,14 @@ const P2: [u8; 57] =
 // A state that accepts, without arcs: the last of a table.
 const END: [u8; 4] = *b"\x04\x00\x01\x01";
 
-// So many states that do not accept, the first of them state 0, each with an arc by name 0 to the next.
-fn chain(alloc: Global, count: u16) -> Result<Vec<u8>, AllocError> {
-    let mut states = Vec::new(alloc);
+// Appends so many states that do not accept, the first of them state 0, each with an arc by name 0 to the next.
+fn put_chain(file: &mut Draft, count: u16)
+    ensures { file.new.len ≤ 4096 }
+{
     for state in 0..count {
         let [high, low] = (state + 1).to_be_bytes();
-        states.extend_from_slice(&[4, 0, 4, 0, 0, high, low])?;
+        file.put(&[4, 0, 4, 0, 0, high, low]);
     }
-    Ok(states)
 }
 
 // A table rewritten into an output that is long enough for it.
@@ -35,9 +36,8 @@ fn table(rt: &impl Print, tried: &str, bytes: &[u8]) -> io::Result<()> {
 }
 
 // A row walked over the table of P2.
-fn row(rt: &impl Print, tried: &str, names: &[u8]) -> io::Result<()> {
-    let mut work = large_buffer();
-    let walked = plans::plans_walk(&P2, names, &mut work);
+fn row(rt: &impl Print, tried: &str, names: &[u8], work: &mut [u8]) -> io::Result<()> {
+    let walked = plans::plans_walk(&P2, names, work);
     count(rt, tried, "", walked.refusal as u64)
 }
 
@@ -125,25 +125,27 @@ fn numbering(rt: &impl Print) -> io::Result<()> {
 }
 
 // A table of a chain of states and one more, which accepts.
-fn states(rt: &(impl Print + AllocGlobal), tried: &str, more: u16) -> io::Result<()> {
-    let alloc = rt.alloc();
-    let before = chain(alloc, more)?;
-    let file = [&NAME[..], &CLASS, &before, &END].concat(alloc)?;
-    table(rt, tried, &file)
+fn states(rt: &impl Print, tried: &str, more: u16) -> io::Result<()> {
+    let mut file = one_name();
+    file.put(&CLASS);
+    put_chain(&mut file, more);
+    file.put(&END);
+    table(rt, tried, file.bytes())
 }
 
-// A table of one state with so many names.
-fn names(rt: &(impl Print + AllocGlobal), tried: &str, count: u8) -> io::Result<()> {
-    let alloc = rt.alloc();
-    let names = named(alloc, count)?;
-    let file = [&names[..], &CLASS, &END].concat(alloc)?;
-    table(rt, tried, &file)
+// A table of so many names, and of these fields after them.
+fn names(rt: &impl Print, tried: &str, count: u8, fields: &[&[u8]]) -> io::Result<()> {
+    let mut file = named(count);
+    for field in fields {
+        file.put(field);
+    }
+    table(rt, tried, file.bytes())
 }
 
 // The limits on names and states: 7, and what just passes.
-fn limits(rt: &(impl Print + AllocGlobal)) -> io::Result<()> {
-    names(rt, "64 names", 64)?;
-    names(rt, "65 names", 65)?;
+fn limits(rt: &impl Print) -> io::Result<()> {
+    names(rt, "64 names", 64, &[&CLASS, &END])?;
+    names(rt, "65 names", 65, &[])?;
     states(rt, "42 states, through which only a row of 41 leads", 41)?;
     states(rt, "512 states", 511)?;
     states(rt, "513 states", 512)
@@ -151,13 +153,19 @@ fn limits(rt: &(impl Print + AllocGlobal)) -> io::Result<()> {
 
 // Rows: 9, and what just passes.
 fn rows(rt: &impl Print) -> io::Result<()> {
-    row(rt, "a walk of 40 snacks", &[3u8; 40])?;
-    row(rt, "a walk of 41 snacks", &[3u8; 41])?;
-    row(rt, "a walk with an entry that is no name's number", &[3, 4])
+    let mut work = large_buffer();
+    row(rt, "a walk of 40 snacks", &[3u8; 40], &mut work)?;
+    row(rt, "a walk of 41 snacks", &[3u8; 41], &mut work)?;
+    row(
+        rt,
+        "a walk with an entry that is no name's number",
+        &[3, 4],
+        &mut work,
+    )
 }
 
 // A good table, then the edges.
-pub fn all(rt: &(impl Print + AllocGlobal)) -> io::Result<()> {
+pub fn all(rt: &impl Print) -> io::Result<()> {
     table(rt, "the example", &GOOD)?;
     sizes(rt)?;
     fields(rt)?;

@@ -34,10 +34,10 @@ unfolding distinct_of
 returns-in_err-table c =
     let args = c.args in
     let built = c.in_ok-distinct.ensures.built _ refl in
-    let p = err_from_is_err_and c.from_residual-in_err-table.result c.from_residual-in_err-table.ensures.1 in
+    let q = err_from_is_err_and c.from_residual-in_err-table.result c.from_residual-in_err-table.ensures.1 in
     let long = c.in_err-table.ensures in
-    rw (p.1, p.2, long.0)
-    (gives_too_long args.wanted (file_of args.book.now args.place) (args.out.now ∷ (args.counts.now ∷ [])) _
+    rw (q.1, q.2)
+    (gives_too_long args.wanted (file_of args.book.now args.place) (args.out.now ∷ (args.counts.now ∷ [])) _ _ long.0
     (rw built.size at built.few) long.1)
 
 pub overflow_sub-result : goal.overflow_sub-result

@@ -39,7 +39,7 @@ returns-in_err-judge_sizes-clause-gives c =
     let args = c.args in
     let p = err_from_is_err_and c.from_residual.result c.from_residual.ensures.1 in
     rw (p.1, p.2)
-    (build_sizes_refused (settings_of args.default) args.wanted args.book.now args.work.now _ _ c.in_err-judge_sizes.ensures)
+    (build_sizes_refused (settings_of args.settings) args.wanted args.book.now args.work.now _ _ c.in_err-judge_sizes.ensures)
 
 pub returns-in_err-place-clause-gives : goal.returns-in_err-place-clause-gives
 unfolding sizes_fault
@@ -47,7 +47,7 @@ returns-in_err-place-clause-gives c =
     let args = c.args in
     let p = err_from_is_err_and c.from_residual-in_err-place.result c.from_residual-in_err-place.ensures.1 in
     rw (p.1, p.2)
-    (build_fields_refused (settings_of args.default) args.wanted args.book.now args.work.now _ _
+    (build_fields_refused (settings_of args.settings) args.wanted args.book.now args.work.now _ _
     (sym c.in_ok-judge_sizes.ensures) c.in_err-place.ensures)
 
 pub returns-in_err-inferred-clause-gives : goal.returns-in_err-inferred-clause-gives
@@ -56,12 +56,12 @@ returns-in_err-inferred-clause-gives c =
     let args = c.args in
     let p = err_from_is_err_and c.from_residual-in_err-inferred.result c.from_residual-in_err-inferred.ensures.1 in
     rw (p.1, p.2)
-    (build_from (settings_of args.default) args.wanted args.book.now args.work.now _ c.in_ok-place.place c.in_ok-place.ensures _
+    (build_from (settings_of args.settings) args.wanted args.book.now args.work.now _ c.in_ok-place.place c.in_ok-place.ensures _
     (Err c.in_err-inferred.field-0.0) (sym c.in_ok-judge_sizes.ensures) c.in_err-inferred.ensures)
 
 pub returns-clause-gives : goal.returns-clause-gives
 unfolding sizes_fault
 returns-clause-gives c =
     let args = c.args in
-    build_from (settings_of args.default) args.wanted args.book.now args.work.now _ c.in_ok-place.place c.in_ok-place.ensures _
+    build_from (settings_of args.settings) args.wanted args.book.now args.work.now _ c.in_ok-place.place c.in_ok-place.ensures _
     (Ok c.in_ok-inferred.inferred) (sym c.in_ok-judge_sizes.ensures) c.in_ok-inferred.ensures

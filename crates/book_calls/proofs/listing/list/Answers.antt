@@ -25,7 +25,7 @@ returns-in_err-built c =
     let args = c.args in
     let p = err_from_is_err_and c.from_residual.result c.from_residual.ensures.1 in
     rw (p.1, p.2)
-    (listing-refused (settings_of args.default) c.requires args.book.now args.work.now zeros c.build.new.out
+    (listing-refused (settings_of args.settings) c.requires args.book.now args.work.now zeros c.build.new.out
     _ c.in_err-built.ensures.gives args.text.now long (number_some c.in_err-built.field-0.0))
 
 pub slice_bounds-table-end : goal.slice_bounds-table-end
@@ -33,7 +33,7 @@ slice_bounds-table-end c =
     let args = c.args in
     let built = c.build in
     let front =
-    (built-front (settings_of args.default) args.book.now args.work.now zeros built.new.out c.in_ok-built.built
+    (built-front (settings_of args.settings) args.book.now args.work.now zeros built.new.out c.in_ok-built.built
     c.in_ok-built.ensures.gives c.in_ok-built.ensures.accepted).at_front in
     front.within
 
@@ -42,7 +42,7 @@ slice_bounds-list_accepted-end c =
     let args = c.args in
     let built = c.build in
     let front =
-    (built-front (settings_of args.default) args.book.now args.work.now zeros built.new.out c.in_ok-built.built
+    (built-front (settings_of args.settings) args.book.now args.work.now zeros built.new.out c.in_ok-built.built
     c.in_ok-built.ensures.gives c.in_ok-built.ensures.accepted).at_front in
     sym (length-take-le c.in_ok-built.built.length built.new.out front.within)
 
@@ -51,7 +51,7 @@ list_accepted-length-requires c =
     let args = c.args in
     let built = c.build in
     let by =
-    built-listed (settings_of args.default) c.requires args.book.now args.work.now zeros built.new.out c.in_ok-built.built
+    built-listed (settings_of args.settings) c.requires args.book.now args.work.now zeros built.new.out c.in_ok-built.built
     c.in_ok-built.ensures.gives c.in_ok-built.ensures.accepted in record {
       table_value = by.no_refusal;
       joins_lt_number_limit = (by.few_joins, by.few_distinct);
@@ -63,7 +63,7 @@ copy_out-requires c =
     let args = c.args in
     let built = c.build in
     let by =
-    built-listed (settings_of args.default) c.requires args.book.now args.work.now zeros built.new.out c.in_ok-built.built
+    built-listed (settings_of args.settings) c.requires args.book.now args.work.now zeros built.new.out c.in_ok-built.built
     c.in_ok-built.ensures.gives c.in_ok-built.ensures.accepted in
     let area = c.list_accepted-length.new.text in
     let listed = puts_front _ _ area _ c.list_accepted-length.result by.is c.list_accepted-length.ensures in
@@ -74,9 +74,9 @@ returns c =
     let args = c.args in
     let built = c.build in
     let by =
-    built-listed (settings_of args.default) c.requires args.book.now args.work.now zeros built.new.out c.in_ok-built.built
+    built-listed (settings_of args.settings) c.requires args.book.now args.work.now zeros built.new.out c.in_ok-built.built
     c.in_ok-built.ensures.gives c.in_ok-built.ensures.accepted in
     let area = c.list_accepted-length.new.text in
     let listed = puts_front _ _ area _ c.list_accepted-length.result by.is c.list_accepted-length.ensures in
-    listing-copied (settings_of args.default) args.book.now args.work.now args.text.now c.copy_out.new.text
+    listing-copied (settings_of args.settings) args.book.now args.work.now args.text.now c.copy_out.new.text
     (take c.list_accepted-length.result area) _ by.no_fault listed.bytes_are c.copy_out.ensures

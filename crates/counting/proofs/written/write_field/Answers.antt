@@ -9,14 +9,14 @@ use Rattle.counting.proofs.written.write_field.Goals as goal
 pub put_head-body-requires-clause-fits : goal.put_head-body-requires-clause-fits
 put_head-body-requires-clause-fits c =
     let p = c.requires.by_index in
-    let parts = field_parts p.1 c.how_many.result (get_or c.args.made.now.sums c.args.g 0) c.how_many.ensures refl in
+    let parts = field_parts p.1 c.how_many.result (get_or c.args.made.sums.now c.args.g 0) c.how_many.ensures refl in
     let fits = p.2 in
     omega (arith, parts.sized)
 
 pub put_two-first-requires-clause-fits : goal.put_two-first-requires-clause-fits
 put_two-first-requires-clause-fits c =
     let p = c.requires.by_index in
-    let parts = field_parts p.1 c.how_many.result (get_or c.args.made.now.sums c.args.g 0) c.how_many.ensures refl in
+    let parts = field_parts p.1 c.how_many.result (get_or c.args.made.sums.now c.args.g 0) c.how_many.ensures refl in
     let fits = p.2 in
     let head = c.put_head-body in
     omega (arith, parts.sized, head.ensures.ends, head.auto.out)
@@ -24,7 +24,7 @@ put_two-first-requires-clause-fits c =
 pub write_passes-requires-clause-by_index : goal.write_passes-requires-clause-by_index
 write_passes-requires-clause-by_index c =
     let p = c.requires.by_index in
-    let parts = field_parts p.1 c.how_many.result (get_or c.args.made.now.sums c.args.g 0) c.how_many.ensures refl in
+    let parts = field_parts p.1 c.how_many.result (get_or c.args.made.sums.now c.args.g 0) c.how_many.ensures refl in
     let fits = p.2 in
     let head = c.put_head-body in
     let two = c.put_two-first in (
@@ -40,9 +40,9 @@ returns c =
     let head = c.put_head-body in
     let q = c.requires.by_index in
     let fits = q.2 in
-    let room = (field_parts q.1 c.how_many.result (get_or c.args.made.now.sums c.args.g 0) c.how_many.ensures refl).sized in
+    let room = (field_parts q.1 c.how_many.result (get_or c.args.made.sums.now c.args.g 0) c.how_many.ensures refl).sized in
     λ bytes given.
-    let p = field_parts given c.how_many.result (get_or c.args.made.now.sums c.args.g 0) c.how_many.ensures refl in
+    let p = field_parts given c.how_many.result (get_or c.args.made.sums.now c.args.g 0) c.how_many.ensures refl in
     rw p.bytes_are
     (put_append head.ensures
     (put_append two.ensures (passes.ensures p.rest p.passes) (omega (arith, head.ensures.ends, head.auto.out)))

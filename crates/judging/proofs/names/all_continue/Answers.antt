@@ -1,7 +1,9 @@
-use mathlib.Core.Path.{◌∙◌}
-use Rattle.std.proofs.Common.{rules, tests}
-use Rattle.std.proofs.lemmas.Iterator.{YieldsList-from_slice}
-use Rattle.std.proofs.lemmas.Iterator.Search.{all_from_yields_List}
+use mathlib.Core.Path.{◌≡◌, ◌∙◌, ap}
+use Prim.Native.Nat.{ℕ}
+use native.Mathlib.Omega.{arith}
+use lib.ListN.{length, take}
+use lib.Seq.{take-length}
+use Rattle.std.specs.List.{list_all}
 use Rattle.model.specs.Fields.{continues_name}
 use Rattle.judging.proofs.NameLaws.{all_is}
 use Rattle.judging.proofs.names.all_continue.Goals as goal
@@ -9,5 +11,6 @@ use Rattle.judging.proofs.names.all_continue.Goals as goal
 pub returns : goal.returns
 returns c =
     let bytes = c.args.bytes.now in
-    all_from_yields_List continues_name _ _ _ c.all.ensures.ran (YieldsList-from_slice bytes cc) (λ x b q k. search (rules, tests))
-    ∙ all_is continues_name bytes
+    let ended : c.loop-b.b-index ≡ length bytes = omega arith in
+    c.loop-b.invariant ∙ ap (λ (n : ℕ). list_all continues_name (take n bytes)) ended
+    ∙ ap (list_all continues_name) (take-length bytes) ∙ all_is continues_name bytes

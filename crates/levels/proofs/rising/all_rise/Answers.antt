@@ -6,4 +6,4 @@ use Rattle.levels.proofs.rising.all_rise.Goals as goal
 pub returns : goal.returns
 returns c = λ e q low.
     all-rising c.args.table.s.now c.args.table.work.now c.args.table.ready
-    (λ p h. c.loop-q.invariant p (omega (arith, h, c.args.table.counted))) q low
+    (λ p h. c.loop-q.invariant p (omega (arith, h, c.requires.count_value))) q low

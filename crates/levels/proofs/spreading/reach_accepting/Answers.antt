@@ -9,4 +9,5 @@ use Rattle.levels.proofs.spreading.reach_accepting.Goals as goal
 
 pub loop-q-init : goal.loop-q-init
 loop-q-init c =
-    accepting_none (table_states c.args.table.s.now) (replicate state_limit 0) (length-replicate {A = ℕ} state_limit 0)
+    rw (c.requires.levels, c.requires.queue, c.requires.last)
+    (accepting_none (table_states c.args.table.s.now) (replicate state_limit 0) (length-replicate {A = ℕ} state_limit 0))

@@ -9,14 +9,14 @@ use Rattle.levels.proofs.SpreadLaws.{LevelsSoFar, levels_begin, state-here, leve
 use Rattle.levels.proofs.spreading.spread.Goals as goal
 
 pub loop-first-init : goal.loop-first-init
-loop-first-init c = levels_begin (table_states c.args.table.s.now) c.reach_accepting-reached.ensures
+loop-first-init c = levels_begin (table_states c.args.table.s.now) c.reach_accepting.ensures
 
 pub reach_from-requires-clause-to_bound : goal.reach_from-requires-clause-to_bound
 reach_from-requires-clause-to_bound c =
     let t = get_or c.loop-first.reached.queue c.loop-first.first 0 in
     let inside = state-here c.loop-first.invariant c.loop-first-test.true t refl in
     let next : t + 1 ≡ suc t = omega arith in
-    omega (arith, ap (λ (k : ℕ). get_or c.args.ends.now k 0) next, c.requires.few t inside)
+    omega (arith, ap (λ (k : ℕ). get_or c.args.ends.now k 0) next, c.requires.sorted_arcs.few t inside)
 
 pub reach_from-requires-clause-by_index : goal.reach_from-requires-clause-by_index
 reach_from-requires-clause-by_index c = λ j low high.
@@ -24,7 +24,7 @@ reach_from-requires-clause-by_index c = λ j low high.
     let inside = state-here c.loop-first.invariant c.loop-first-test.true t refl in
     let next : t + 1 ≡ suc t = omega arith in
     let source =
-    c.requires.here t j inside low (omega (arith, high, ap (λ (k : ℕ). get_or c.args.ends.now k 0) next)) in
+    c.requires.sorted_arcs.here t j inside low (omega (arith, high, ap (λ (k : ℕ). get_or c.args.ends.now k 0) next)) in
     omega (arith, source.0, c.args.table.ready.few_states)
 
 pub loop-first-preserved : goal.loop-first-preserved
@@ -38,7 +38,7 @@ loop-first-preserved c =
     (λ (k : ℕ).
     LevelsSoFar (table_states c.args.table.s.now) grown.new.self.levels grown.new.self.queue k grown.new.self.last)
     one_more
-    (levels-go loop.invariant c.loop-first-test.true t refl c.requires
+    (levels-go loop.invariant c.loop-first-test.true t refl c.requires.sorted_arcs
     (ready_ascends _ _ c.args.table.ready) refl (ap (λ (k : ℕ). get_or c.args.ends.now k 0) next) (omega arith) grown.ensures)
 
 pub returns : goal.returns

@@ -7,10 +7,10 @@ use Rattle.quotient.proofs.states.write_arcs.Goals as goal
 
 pub loop-name-init : goal.loop-name-init
 loop-name-init c =
-    let start : c.into_iter-name-iterator.result.left ≡ get_or c.args.made.now.next c.args.g 0 = search rules in
+    let start : c.into_iter-name-iterator.result.left ≡ get_or c.args.made.next.now c.args.g 0 = search rules in
     λ bytes m. (
       bytes,
-      subst (λ (s : ℕ). ArcsToWrite c.args.work.now c.args.g s c.args.made.now.met.numbers bytes) (sym start) m,
+      subst (λ (s : ℕ). ArcsToWrite c.args.work.now c.args.g s c.args.made.numbers.now bytes) (sym start) m,
       left-all c.args.out.now c.args.at bytes,
     )
 
@@ -31,7 +31,7 @@ put_arc-end-requires-clause-fits c =
     let m = c.loop-name.invariant c.requires.by_index.0 c.requires.by_index.1 in
     let more =
     arcs_write_more c.in-Some.name c.cell.result c.next.new.self.left m.1 c.in-Some.ensures.steps c.cell.ensures.value in
-    let number = get_or c.args.made.now.met.numbers c.cell.result 0 in
+    let number = get_or c.args.made.numbers.now c.cell.result 0 in
     let room = left-room m.2 (arc_part c.in-Some.name number) more.rest more.bytes_are c.requires.by_index.2 in
     omega arith
 
@@ -47,7 +47,8 @@ loop-name-preserved c =
       more.rest,
       more.after,
       left-more m.2 (arc_part c.in-Some.name c.number_of-target.result) more.rest arc.new.out arc.result
-          (more.bytes_are ∙ ap (λ (n : ℕ). arc_part c.in-Some.name n ++ more.rest) (sym c.number_of-target.ensures)) arc.ensures start-low,
+          (more.bytes_are ∙ ap (λ (n : ℕ). arc_part c.in-Some.name n ++ more.rest) (sym c.number_of-target.ensures.value))
+          arc.ensures start-low,
     )
 
 pub returns : goal.returns

@@ -33,7 +33,7 @@ pub returns : goal.returns
 returns c =
     let fits = c.requires.by_index.2 in
     let room = (state-parts c.requires.by_index.1).sized in
-    let accepts = ltb 0 (get_or c.args.made.now.sums c.args.g 0) in
+    let accepts = ltb 0 (get_or c.args.made.sums.now c.args.g 0) in
     let arcs = c.write_arcs-end in
     λ bytes given.
     let parts = state-parts given in

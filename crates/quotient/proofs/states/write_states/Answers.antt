@@ -22,6 +22,12 @@ write_state-end-requires-clause-work_bytes_in_bounds c =
     let low = met-low (met_groups (tree_of c.requires.0) c.requires.1) ready.numbered c.loop-i.i c.loop-i-test.true in
     (ready.gathered.work_size, omega (arith, low, ready.gathered.few))
 
+pub write_state-end-requires-clause-g_in_bounds : goal.write_state-end-requires-clause-g_in_bounds
+write_state-end-requires-clause-g_in_bounds c =
+    let ready = c.requires.2 in
+    let low = met-low (met_groups (tree_of c.requires.0) c.requires.1) ready.numbered c.loop-i.i c.loop-i-test.true in
+    (omega (arith, low, ready.gathered.next_size), omega (arith, low, ready.summed.size))
+
 -- what is written in the turn: the state of its group, the first field of those that are left
 pub write_state-end-requires-clause-by_index : goal.write_state-end-requires-clause-by_index
 write_state-end-requires-clause-by_index c =
@@ -30,13 +36,13 @@ write_state-end-requires-clause-by_index c =
     let groups = c.requires.1 in
     let ready = c.requires.2 in
     let at = c.loop-i in
-    let g = (get_or c.args.made.now.met.order c.loop-i.i 0) in
+    let g = (get_or c.args.made.order.now c.loop-i.i 0) in
     let more =
     fields_more rows groups at.i g (omega (arith, c.loop-i-test.true, ready.numbered.counted))
     (met-nth (met_groups (tree_of rows) groups) ready.numbered at.i c.loop-i-test.true) in (
       field_of rows groups g,
-      state-ready rows groups args.work.now args.made.now.next args.made.now.sums args.made.now.met.order args.made.now.met.numbers args.made.now.met.count ready at.i g
-          c.loop-i-test.true refl,
+      state-ready rows groups args.work.now args.made.next.now args.made.sums.now args.made.order.now args.made.numbers.now
+          args.made.count ready at.i g c.loop-i-test.true refl,
       left-room (at.invariant rows groups ready) (field_of rows groups g)
           (state_fields (states_from rows groups (at.i + 1))) more c.requires.3,
     )
@@ -47,12 +53,12 @@ loop-i-preserved c =
     let fits = c.requires.3 in
     let start-low : args.at ≤ length args.out.now = omega arith in
     let at = c.loop-i in
-    let g = (get_or c.args.made.now.met.order c.loop-i.i 0) in
+    let g = (get_or c.args.made.order.now c.loop-i.i 0) in
     let written = c.write_state-end in
     λ rows groups ready.
     let state =
-    state-ready rows groups args.work.now args.made.now.next args.made.now.sums args.made.now.met.order args.made.now.met.numbers args.made.now.met.count ready at.i g
-    c.loop-i-test.true refl in
+    state-ready rows groups args.work.now args.made.next.now args.made.sums.now args.made.order.now args.made.numbers.now
+    args.made.count ready at.i g c.loop-i-test.true refl in
     let more =
     fields_more rows groups at.i g (omega (arith, c.loop-i-test.true, ready.numbered.counted))
     (met-nth (met_groups (tree_of rows) groups) ready.numbered at.i c.loop-i-test.true) in

@@ -12,6 +12,6 @@ use Rattle.quotient.proofs.states.write_states.Given as goal
 abbrev pub invariant-loop-i : goal.invariant-loop-i
 invariant-loop-i l =
     (rows : List Word) (groups : List ℕ) →
-    Ready rows groups l.work l.made.next l.made.sums l.made.met.order l.made.met.numbers l.made.met.count →
+    Ready rows groups l.work l.made.next.now l.made.sums.now l.made.order.now l.made.numbers.now l.made.count →
     BytesLeft l.initial.out l.out l.at l.end (state_fields (states_of rows (tree_of rows) groups))
     (state_fields (states_from rows groups l.i))

@@ -4,14 +4,14 @@ use Rattle.model.specs.Joinings.{tree_of}
 use Rattle.model.proofs.Trees.{tree_of-tree}
 use Rattle.model.proofs.FirstMet.{states-length}
 use Rattle.indexed.proofs.TreeArcs.{labels_fit}
-use Rattle.quotient.proofs.Quotient.prepare.Goals as goal
+use Rattle.quotient.proofs.prepare.Goals as goal
 
 pub returns : goal.returns
 returns c =
     let groups = c.args.groups.now in
     λ rows joined ends.
     let gathered = c.gather.ensures rows joined in
-    let states = c.meet_all-self.ensures rows gathered in
+    let states = c.number.ensures rows gathered in
     record {
       ready =
           record {

@@ -1,6 +1,5 @@
 -- The first i groups met are looked at, and their arcs counted. The measure is what is left of the groups.
-use Rattle.std.proofs.Common.{◌+◌, ◌*◌, ◌-◌, ◌≡◌, ◌≤◌, ℕ, List}
-use Rattle.base.specs.Limits.{state_limit}
+use Rattle.std.proofs.Common.{length, ◌+◌, ◌*◌, ◌-◌, ◌≡◌, ◌≤◌, ℕ, List}
 use Rattle.model.specs.Classes.{Word}
 use Rattle.model.specs.Joinings.{tree_of}
 use Rattle.model.specs.Quotients.{states_of}
@@ -8,7 +7,7 @@ use Rattle.model.specs.Tables.{arc_count}
 use Rattle.quotient.specs.Gathered.{Gathered}
 use Rattle.quotient.proofs.MetLaws.{Numbering}
 use Rattle.quotient.proofs.StatePieces.{states_from}
-use Rattle.quotient.proofs.numbering.Met.meet_all.Given as goal
+use Rattle.quotient.proofs.numbering.number.Given as goal
 
 -- the first i groups met are looked at, and their arcs counted
 pub record Counting (rows : List Word) (groups met numbers : List ℕ) (count arcs i : ℕ) : Type 0 where
@@ -17,12 +16,12 @@ pub record Counting (rows : List Word) (groups met numbers : List ℕ) (count ar
 
 abbrev pub invariant-loop-i : goal.invariant-loop-i
 invariant-loop-i l = record {
-  room : l.self.count ≤ state_limit;
+  room : l.count ≤ length l.groups;
   few : l.arcs ≤ 64 * l.i;
   so_far :
       (rows : List Word) → Gathered rows l.groups l.work l.next →
-      Counting rows l.groups l.self.order l.self.numbers l.self.count l.arcs l.i;
+      Counting rows l.groups l.order l.numbers l.count l.arcs l.i;
 }
 
 abbrev pub decreases-loop-i : goal.decreases-loop-i
-decreases-loop-i l = state_limit - l.i
+decreases-loop-i l = length l.groups - l.i
